@@ -1,0 +1,114 @@
+//! The fields of a document.
+ghost use Rattle.std.specs.Prelude.{◌≡◌, length, Some, None, if◌then◌else◌};
+ghost use Rattle.std.specs.List.{list_all};
+ghost use Rattle.std.specs.Char.{is_ascii_uppercase};
+ghost use Rattle.sk_base.specs.Names.{is_name, is_name_byte, is_prefix};
+ghost use Rattle.sk_base.specs.Fields.{are_fields};
+
+use crate::{Items, Term, Text};
+use std::marker::Model;
+
+/// A field of a schema.
+#[derive(Debug, Drop)]
+pub struct Field {
+    pub name: Text,
+    pub kind: FieldKind,
+}
+
+/// What a field takes, and how it is indexed.
+#[derive(Debug, Drop)]
+pub enum FieldKind {
+    /// Words, with the prefix of their terms and the step that each adds to its wdf.
+    Text(Term, u32),
+}
+
+/// Fields that were checked. Contracts see it as the list of its fields.
+#[derive(Debug, Drop)]
+pub struct Schema {
+    fields: Items<Field>,
+}
+
+impl Model for Schema {
+    ghost use Rattle.std.specs.Prelude.{List};
+    ghost use Rattle.sk_base.specs.declared.schema.Field.{Field};
+
+    ghost Value = { List Field };
+
+    ghost view = { λ s. s.fields };
+}
+
+impl Schema {
+    /// The schema of these fields, or none where a rule on fields is broken.
+    pub fn check(fields: Vec<Field>) -> Option<Schema>
+        requires one { length fields.items ≡ 1 }
+        ensures { result ≡ (if are_fields fields.items then Some fields.items else None) }
+    {
+        if are_sound(fields.as_slice()) {
+            Some(Schema {
+                fields: Items::from_vec(fields),
+            })
+        } else {
+            None
+        }
+    }
+
+    pub fn fields(&self) -> &[Field]
+        ensures { result.now ≡ self.now }
+    {
+        self.fields.as_slice()
+    }
+}
+
+impl Field {
+    ghost use Rattle.sk_base.specs.Fields.{is_field};
+
+    fn is_sound(&self) -> bool
+        ensures { result ≡ is_field self.now }
+    {
+        let FieldKind::Text(prefix, step) = &self.kind;
+        is_name(self.name.as_str().as_bytes())
+            && is_prefix(prefix.as_str().as_bytes())
+            && *step >= 1
+            && *step <= 256
+    }
+}
+
+fn is_name(name: &[u8]) -> bool
+    ensures { result ≡ is_name name.now }
+{
+    match name {
+        [] => false,
+        [first, rest @ ..] => first.is_ascii_lowercase()
+            && rest.len() <= 31
+            && are_name_bytes(rest),
+    }
+}
+
+fn are_name_bytes(bytes: &[u8]) -> bool
+    ensures { result ≡ list_all is_name_byte bytes.now }
+{
+    bytes.iter().all(|b| b.is_ascii_lowercase() || b.is_ascii_digit() || *b == b'_')
+}
+
+fn is_prefix(prefix: &[u8]) -> bool
+    ensures { result ≡ is_prefix prefix.now }
+{
+    match prefix {
+        [] => true,
+        [b'X', rest @ ..] => !rest.is_empty() && rest.len() <= 15 && are_capitals(rest),
+        [letter] => letter.is_ascii_uppercase() && *letter != b'Z',
+        _ => false,
+    }
+}
+
+fn are_capitals(bytes: &[u8]) -> bool
+    ensures { result ≡ list_all is_ascii_uppercase bytes.now }
+{
+    bytes.iter().all(|b| b.is_ascii_uppercase())
+}
+
+fn are_sound(fields: &[Field]) -> bool
+    ensures { result ≡ are_fields fields.now }
+{
+    fields.iter().all(|field| field.is_sound())
+}

@@ -1,0 +1,10 @@
+pub mod Documents
+pub mod Edits
+pub mod Queries
+pub mod Scores
+pub mod Matches
+pub mod Page
+pub mod Bounds
+pub mod Counts
+pub mod Allowance
+pub mod Reports
