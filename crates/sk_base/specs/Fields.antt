@@ -1,5 +1,5 @@
 -- The rules on the fields of a schema.
-use Rattle.std.specs.Prelude.{Bool, ◌&&◌, nat_le, List}
+use Rattle.std.specs.Prelude.{ℕ, Bool, ◌&&◌, nat_le, List, Option, bytes_eq, position}
 use Rattle.std.specs.List.{list_all}
 use Rattle.sk_base.specs.declared.schema.Field.{Field}
 use Rattle.sk_base.specs.declared.schema.FieldKind.{FieldKind}
@@ -16,3 +16,7 @@ is_field field = is_name field.name && is_kind field.kind
 -- Each field keeps the rules. (Rules between fields come with the second field.)
 abbrev pub are_fields : List Field → Bool
 are_fields fields = list_all is_field fields
+
+-- The place of the first field with this name, from 0.
+abbrev pub place_of : List ℕ → List Field → Option ℕ
+place_of name fields = position (λ field. bytes_eq field.name name) fields

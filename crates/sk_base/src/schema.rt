@@ -3,7 +3,7 @@ ghost use Rattle.std.specs.Prelude.{◌≡◌, length, Some, None, if◌then◌e
 ghost use Rattle.std.specs.List.{list_all};
 ghost use Rattle.std.specs.Char.{is_ascii_uppercase};
 ghost use Rattle.sk_base.specs.Names.{is_name, is_name_byte, is_prefix};
-ghost use Rattle.sk_base.specs.Fields.{are_fields};
+ghost use Rattle.sk_base.specs.Fields.{are_fields, place_of};
 
 use crate::{Items, Term, Text};
 use std::marker::Model;
@@ -56,6 +56,16 @@ impl Schema {
         ensures { result.now ≡ self.now }
     {
         self.fields.as_slice()
+    }
+
+    /// The place of the field with this name, from 0.
+    pub fn find(&self, name: &str) -> Option<usize>
+        ensures { result ≡ place_of name.now self.now }
+    {
+        self.fields
+            .as_slice()
+            .iter()
+            .position(|field| field.name.as_str() == name)
     }
 }
 

@@ -1,13 +1,9 @@
-// A library with one function.
+//! The session and the run over lines.
 #![tactic(auto)]
 
-ghost use Rattle.std.specs.Prelude.{◌≡◌};
-ghost use Rattle.sk_engine.specs.Echo.{echo_of};
+mod reader;
+mod refusal;
+mod response;
 
-// The `ensures` clause is the contract: what `echo` returns is `echo_of` of its argument, a definition
-// in `specs/Echo.antt`, which a caller's clause can cite too.
-pub fn echo(x: usize) -> usize
-    ensures { result ≡ echo_of x }
-{
-    x
-}
+pub use refusal::Refusal;
+pub use response::Response;
