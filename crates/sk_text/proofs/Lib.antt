@@ -1,0 +1,4 @@
+-- Lemmas.
+mod TermLemmas
+pub mod LayoutLemmas
+mod CuttingLemmas

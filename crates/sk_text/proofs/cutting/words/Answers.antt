@@ -1,0 +1,28 @@
+use Rattle.std.proofs.Common.{◌≡◌, ◌++◌, sym, ap, ◌∙◌, subst, List, chars}
+use Rattle.sk_text.specs.declared.word.Word.{Word}
+use Rattle.sk_text.specs.Characters.{belongs}
+use Rattle.sk_text.specs.Words.{ended, words}
+use Rattle.sk_text.specs.Layout.{AreWords}
+use Rattle.sk_text.proofs.CuttingLemmas.{step_in, step_out, cut_end, words_end}
+use Rattle.sk_text.proofs.cutting.words.Goals as goal
+use Rattle.sk_text.proofs.cutting.words.Goals.{then-belongs+in_ok-push, else-belongs+in_ok-number}
+
+pub chars-preserved : goal.chars-preserved
+chars-preserved c =
+    let inside = ap (λ bs. belongs c.chars.after c.in-Some.c (chars bs)) (sym c.as_str.ensures) ∙ sym c.belongs.ensures in
+    elim c.if-belongs.branch [
+      | then-belongs+in_ok-push w ↦
+          rw (w.made-is, w.number-is, w.from-is, w.word-is, w.in_ok-push.ensures.bytes, w.written.ensures, c.is_word-after.ensures, c.len_utf8.ensures.value)
+          (step_in _ _ _ _ _ _ _ _ _ _ c.chars.invariant c.in-Some.ensures.steps.0 (inside ∙ w.if-belongs.true))
+      | else-belongs+in_ok-number w ↦
+          rw (w.made-is, w.number-is, w.from-is, w.word-is, w.in_ok-number.ensures.made, w.in_ok-number.ensures.number, w.as_str-else-belongs.ensures.value, w.clear.ensures.bytes, c.is_word-after.ensures, c.len_utf8.ensures.value)
+          (step_out _ _ _ _ _ _ _ _ _ _ c.chars.invariant c.in-Some.ensures.steps.0 (inside ∙ w.if-belongs.false))
+    ]
+
+pub returns-clause-value : goal.returns-clause-value
+returns-clause-value c =
+    rw (c.in_ok-end.ensures.made, c.as_str-2.ensures.value) (cut_end _ _ _ _ _ _ _ _ c.chars.invariant c.in_default.ensures.steps.0.0)
+
+pub returns-clause-maximal : goal.returns-clause-maximal
+returns-clause-maximal c =
+    rw (c.in_ok-end.ensures.made, c.as_str-2.ensures.value) (words_end _ _ _ _ _ _ _ _ c.chars.invariant c.in_default.ensures.steps.0.0)
