@@ -1,13 +1,11 @@
 -- How far a text is cut.
-use Rattle.std.proofs.Common.{◌≡◌, ℕ, ◌+◌, ◌≤◌, Bool, true, false, cond, List, [], ◌∷◌, ◌++◌, length, chars, encode_utf8, IsUtf8, refl, sym, ap, ◌∙◌, arith, append_assoc, length-append}
+use Rattle.std.proofs.Common.{◌≡◌, ℕ, ◌+◌, ◌≤◌, Bool, true, false, List, [], ◌∷◌, ◌++◌, length, chars, encode_utf8, IsUtf8, sym, ap, ◌∙◌, arith, append_assoc, length-append}
 use Rattle.std.proofs.lemmas.Bool.Decides.{nat_tests}
 use Rattle.std.proofs.lemmas.Str.{chars-nil, chars_past_char, IsUtf8-past_char, length-encode, len_utf8_bounds}
 use Rattle.std.specs.Char.{len_utf8}
 use Rattle.sk_text.specs.declared.word.Word.{Word}
 use Rattle.sk_text.specs.Characters.{is_word_char, belongs, written}
 use Rattle.sk_text.specs.Words.{ended, words_from, words}
-use Rattle.sk_text.specs.Layout.{AreWords}
-use Rattle.sk_text.proofs.LayoutLemmas.{words-AreWords}
 
 -- the words made so far, and those from here on, are those of the text
 pub record IsCut (text rest : List ℕ) (made : List Word) (number : ℕ) (after : Bool) (from at : ℕ) (word : List ℕ) : Type 0 where
@@ -62,8 +60,3 @@ pub cut_end : (text bs : List ℕ) (made : List Word) (number : ℕ) (after : Bo
     → IsCut text bs made number after from at word → length bs ≡ 0 → made ++ ended number from at word ≡ words text
 cut_end text [] made number after from at word r e = ap (λ cs. made ++ words_from number after from at word cs) (sym chars-nil) ∙ r.cut
 cut_end text (b ∷ bs) made number after from at word r e = absurd (omega arith)
-
--- and what is made there are the words of the text
-pub words_end : (text bs : List ℕ) (made : List Word) (number : ℕ) (after : Bool) (from at : ℕ) (word : List ℕ)
-    → IsCut text bs made number after from at word → length bs ≡ 0 → AreWords text (made ++ ended number from at word)
-words_end text bs made number after from at word r e = rw (cut_end text bs made number after from at word r e) (words-AreWords text)

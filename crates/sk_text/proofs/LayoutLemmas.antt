@@ -1,11 +1,11 @@
 -- The words that are computed are those of the layout.
-use Rattle.std.proofs.Common.{◌≡◌, ◌≢◌, ℕ, ◌+◌, ◌<◌, ◌≤◌, Bool, true, false, cond, nat_eq, ◌==◌, List, [], ◌∷◌, ◌++◌, length, map, chars, encode_utf8, encode_utf8_all, refl, sym, ap, ◌∙◌, subst, arith, append_assoc, add-zero, length-append}
+use Rattle.std.proofs.Common.{◌≡◌, ◌≢◌, ℕ, ◌+◌, ◌<◌, Bool, true, false, cond, List, [], ◌∷◌, ◌++◌, length, map, chars, encode_utf8, encode_utf8_all, refl, sym, ap, ◌∙◌, subst, arith, append_assoc, add-zero, length-append}
 use Rattle.std.proofs.lemmas.Bool.Decides.{nat_tests}
 use Rattle.std.proofs.lemmas.List.{append-nil, map-append}
 use Rattle.std.proofs.lemmas.Str.{encodes-append, length-encode, len_utf8_bounds}
 use Rattle.std.specs.Char.{len_utf8}
 use Rattle.sk_text.specs.declared.word.Word.{Word}
-use Rattle.sk_text.specs.Characters.{is_word_char, begins_word, ends_word, belongs, written}
+use Rattle.sk_text.specs.Characters.{is_word_char, ends_word, belongs, written}
 use Rattle.sk_text.specs.Terms.{term_of}
 use Rattle.sk_text.specs.Words.{ended, words_from, words}
 use Rattle.sk_text.specs.Layout.{EachBelongs, IsInside, IsOutside, IsNext, AreLaid, AreWords}
@@ -38,7 +38,7 @@ encodes-snoc xs c =
     ∙ ap (λ bs. encode_utf8_all (map written xs) ++ bs) (append-nil (encode_utf8 (written c)))
 
 -- a run that is not empty takes bytes
-length-run : (xs : List ℕ) (c : ℕ) (cs : List ℕ) → length (encode_utf8_all xs) < length (encode_utf8_all (xs ++ c ∷ cs))
+pub length-run : (xs : List ℕ) (c : ℕ) (cs : List ℕ) → length (encode_utf8_all xs) < length (encode_utf8_all (xs ++ c ∷ cs))
 length-run xs c cs =
     let whole = ap length (encodes-append xs (c ∷ cs)) ∙ length-append (encode_utf8_all xs) (encode_utf8_all (c ∷ cs)) in
     let parts = length-append (encode_utf8 c) (encode_utf8_all cs) in

@@ -1,5 +1,5 @@
 -- The words of a text, as facts about the whole text.
-use Rattle.std.specs.Prelude.{◌≡◌, ◌≢◌, ℕ, ◌+◌, Bool, true, false, List, [], ◌∷◌, ◌++◌, length, map, chars, encode_utf8_all}
+use Rattle.std.specs.Prelude.{◌≡◌, ◌≢◌, ◌<◌, ◌≤◌, ℕ, ◌+◌, Bool, true, false, List, [], ◌∷◌, ◌++◌, length, map, chars, encode_utf8_all}
 use Rattle.sk_text.specs.declared.word.Word.{Word}
 use Rattle.sk_text.specs.Characters.{belongs, ends_word, written}
 use Rattle.sk_text.specs.Terms.{term_of}
@@ -40,3 +40,9 @@ AreLaid n before left (w ∷ ws) =
 -- ws are the words of the text
 abbrev pub AreWords : List ℕ → List Word → Type 0
 AreWords text ws = AreLaid 1 [] (chars text) ws
+
+-- w takes some bytes of a text of this many, and its number is no greater than the byte before which it ends
+pub record IsWithin (size : ℕ) (w : Word) : Type 0 where
+  pub some : w.from < w.to
+  pub whole : w.to ≤ size
+  pub count : w.number ≤ w.to

@@ -1,8 +1,8 @@
 //! Cuts a text into its words.
 
-ghost use Rattle.std.specs.Prelude.{◌≡◌, ◌+◌, ◌<◌, ◌≤◌, ◌^◌, ◌++◌, length, IfOk};
+ghost use Rattle.std.specs.Prelude.{◌≡◌, ◌+◌, ◌<◌, ◌≤◌, ◌^◌, ◌++◌, length, All, IfOk};
 ghost use Rattle.sk_text.specs.Words.{ended, words};
-ghost use Rattle.sk_text.specs.Layout.{AreWords};
+ghost use Rattle.sk_text.specs.Layout.{AreWords, IsWithin};
 
 use crate::characters::{belongs, is_word, written};
 use crate::folding::fold;
@@ -14,6 +14,8 @@ pub fn words(alloc: Global, text: &str) -> Result<Words, AllocError>
     requires { length text.now ≤ 1048576 }
     ensures value { IfOk result (λ ws. ws ≡ words text.now) }
     ensures maximal { IfOk result (λ ws. AreWords text.now ws) }
+    ensures within { IfOk result (λ ws. All (IsWithin (length text.now)) ws) }
+    ensures count { IfOk result (λ ws. length ws ≤ length text.now) }
 {
     let mut made = Words::new(alloc);
     let mut word = String::new(alloc);

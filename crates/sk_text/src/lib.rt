@@ -11,3 +11,6 @@ pub use characters::is_word;
 pub use cutting::words;
 pub use folding::Folded;
 pub use word::{Word, Words};
+
+#[cfg(test)]
+mod tests;

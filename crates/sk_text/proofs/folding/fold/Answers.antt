@@ -1,5 +1,4 @@
-use Rattle.std.proofs.Common.{◌≡◌, sym, ◌∙◌, string_bytes}
-use Rattle.sk_text.specs.Terms.{folded_bytes}
+use Rattle.std.proofs.Common.{sym, ◌∙◌}
 use Rattle.sk_text.proofs.TermLemmas.{three_steps, is_empty-folded, term_of-empty, term_of-full}
 use Rattle.sk_text.proofs.folding.fold.Goals as goal
 
