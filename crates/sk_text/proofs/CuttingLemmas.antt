@@ -21,10 +21,6 @@ step_place text bs rest c at p e =
     let first = length-encode c in
     omega (arith, whole, first, p)
 
--- there is room for one character
-pub room : (text bs rest : List ℕ) (c at : ℕ) → at + length bs ≡ length text → bs ≡ encode_utf8 c ++ rest → at + len_utf8 c ≤ length text
-room text bs rest c at p e = let q = step_place text bs rest c at p e in omega (arith, q)
-
 -- at most one word ends at a place
 length-ended : (number from at : ℕ) (word : List ℕ) → length (ended number from at word) ≤ 1
 length-ended number from at word = grind (arith, nat_tests)

@@ -9,7 +9,9 @@ use crate::folding::fold;
 use crate::word::{Word, Words};
 use std::alloc::{AllocError, Global};
 
-/// The words of `text`, in order. It reads the text once.
+/// The words of `text`, in order, each with its term. It reads the text once, and fails only where memory runs out.
+///
+/// `AreWords` in `specs/Layout.antt` says what the words of a text are, `words` in `specs/Words.antt` computes them.
 pub fn words(alloc: Global, text: &str) -> Result<Words, AllocError>
     requires { length text.now ≤ 1048576 }
     ensures value { IfOk result (λ ws. ws ≡ words text.now) }

@@ -6,11 +6,14 @@ use crate::folding::Folded;
 use std::alloc::{AllocError, Global};
 use std::marker::Model;
 
-/// A word of a text, which stands there from the byte `from` on and ends before the byte `to`.
+/// A word of a text.
 #[derive(Debug, Drop)]
 pub struct Word {
+    /// What the word is compared by.
     pub term: Folded,
+    /// The byte of the text at which the word begins.
     pub from: usize,
+    /// The byte before which it ends.
     pub to: usize,
     /// The place among the words of the text, from 1.
     pub number: u32,
