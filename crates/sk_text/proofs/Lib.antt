@@ -1,0 +1,5 @@
+-- Lemmas.
+mod TermLemmas
+pub mod LayoutLemmas
+pub mod WordLaws
+mod CuttingLemmas

@@ -1,0 +1,69 @@
+//! Cuts a text into its words.
+
+ghost use Rattle.std.specs.Prelude.{◌≡◌, ◌+◌, ◌<◌, ◌≤◌, ◌^◌, ◌++◌, length, All, IfOk};
+ghost use Rattle.sk_text.specs.Words.{ended, words};
+ghost use Rattle.sk_text.specs.Layout.{AreWords, IsWithin};
+
+use crate::characters::{belongs, is_word, written};
+use crate::folding::fold;
+use crate::word::{Word, Words};
+use std::alloc::{AllocError, Global};
+
+/// The words of `text`, in order, each with its term. It reads the text once, and fails only where memory runs out.
+///
+/// `AreWords` in `specs/Layout.antt` says what the words of a text are, `words` in `specs/Words.antt` computes them.
+pub fn words(alloc: Global, text: &str) -> Result<Words, AllocError>
+    requires { length text.now ≤ 1048576 }
+    ensures value { IfOk result (λ ws. ws ≡ words text.now) }
+    ensures maximal { IfOk result (λ ws. AreWords text.now ws) }
+    ensures within { IfOk result (λ ws. All (IsWithin (length text.now)) ws) }
+    ensures count { IfOk result (λ ws. length ws ≤ length text.now) }
+{
+    let mut made = Words::new(alloc);
+    let mut word = String::new(alloc);
+    let mut number = 1u32;
+    let mut after = false;
+    let mut from = 0usize;
+    let mut at = 0usize;
+    let mut rest = text.chars();
+    'chars: while let Some(c) = rest.next() {
+        let next = at + c.len_utf8();
+        if belongs(after, c, rest.as_str()) {
+            word.push(written(c))?;
+        } else {
+            number = end(alloc, &mut made, number, from, at, word.as_str())?;
+            word.clear();
+            from = next;
+        }
+        after = is_word(c);
+        at = next;
+    }
+    end(alloc, &mut made, number, from, at, word.as_str())?;
+    Ok(made)
+}
+
+/// Adds the word that ends at the byte `at`, if one began before, and answers the next number.
+fn end(
+    alloc: Global,
+    made: &mut Words,
+    number: u32,
+    from: usize,
+    at: usize,
+    word: &str,
+) -> Result<u32, AllocError>
+    requires { number + 1 < 2 ^ 32 }
+    ensures made { IfOk result (λ _. made.new ≡ made.old ++ ended number from at word.now) }
+    ensures number { IfOk result (λ n. n ≡ number + length (ended number from at word.now)) }
+{
+    if from == at {
+        return Ok(number);
+    }
+    let term = fold(alloc, word)?;
+    made.push(Word {
+        term,
+        from,
+        to: at,
+        number,
+    })?;
+    Ok(number + 1)
+}

@@ -1,0 +1,16 @@
+//! The words of a text: where each stands, and the term that it is found by.
+
+#![tactic(auto)]
+
+mod characters;
+mod cutting;
+mod folding;
+mod word;
+
+pub use characters::is_word;
+pub use cutting::words;
+pub use folding::Folded;
+pub use word::{Word, Words};
+
+#[cfg(test)]
+mod tests;
