@@ -1,0 +1,4 @@
+pub mod Postings
+pub mod Kept
+pub mod Places
+pub mod Cursor

@@ -1,0 +1,12 @@
+//! The posting list of a term, and a cursor over it whose readings are counted.
+#![tactic(auto)]
+
+mod cursor;
+mod list;
+mod posting;
+#[cfg(test)]
+mod tests;
+
+pub use cursor::Cursor;
+pub use list::List;
+pub use posting::Posting;
