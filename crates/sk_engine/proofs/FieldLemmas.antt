@@ -25,8 +25,8 @@ letters_are_name_bytes : (cs : List ℕ) → list_all is_ascii_lowercase cs ≡ 
 letters_are_name_bytes [] e = refl
 letters_are_name_bytes (c ∷ cs) e =
     both_true
-        (ap (λ b. b || is_ascii_digit c || c == 95) (first_true (is_ascii_lowercase c) (list_all is_ascii_lowercase cs) e))
-        (letters_are_name_bytes cs (second_true (is_ascii_lowercase c) (list_all is_ascii_lowercase cs) e))
+    (ap (λ b. b || is_ascii_digit c || c == 95) (first_true (is_ascii_lowercase c) (list_all is_ascii_lowercase cs) e))
+    (letters_are_name_bytes cs (second_true (is_ascii_lowercase c) (list_all is_ascii_lowercase cs) e))
 
 short_tail : (c : ℕ) (cs : List ℕ) → nat_le (length (c ∷ cs)) 32 ≡ true → nat_le (length cs) 31 ≡ true
 short_tail c cs e = grind (arith, nat_tests)
@@ -37,8 +37,8 @@ is_name-field_name (c ∷ cs) e =
     let letters : list_all is_ascii_lowercase (c ∷ cs) ≡ true = second_true (nat_lt 0 (length (c ∷ cs)) && nat_le (length (c ∷ cs)) 32) (list_all is_ascii_lowercase (c ∷ cs)) e in
     let short : nat_le (length (c ∷ cs)) 32 ≡ true = second_true (nat_lt 0 (length (c ∷ cs))) (nat_le (length (c ∷ cs)) 32) (first_true (nat_lt 0 (length (c ∷ cs)) && nat_le (length (c ∷ cs)) 32) (list_all is_ascii_lowercase (c ∷ cs)) e) in
     both_true
-        (both_true (first_true (is_ascii_lowercase c) (list_all is_ascii_lowercase cs) letters) (short_tail c cs short))
-        (letters_are_name_bytes cs (second_true (is_ascii_lowercase c) (list_all is_ascii_lowercase cs) letters))
+    (both_true (first_true (is_ascii_lowercase c) (list_all is_ascii_lowercase cs) letters) (short_tail c cs short))
+    (letters_are_name_bytes cs (second_true (is_ascii_lowercase c) (list_all is_ascii_lowercase cs) letters))
 
 text_field_sound : (name : List ℕ) (field : Field) → text_field name ≡ Some field → is_field field ≡ true
 text_field_sound name field e =
@@ -49,6 +49,7 @@ text_field_sound name field e =
   where
     some_is : (x y : Field) → Some x ≡ Some y → x ≡ y
     some_is x y e = cc
+
     is_kept : (name : List ℕ) (field : Field) → is_name name ≡ true → Some (record { name = name; kind = FieldKind.Text [] 1 }) ≡ Some field → is_field field ≡ true
     is_kept name field named is = ap is_field (sym (some_is (record { name = name; kind = FieldKind.Text [] 1 }) field is)) ∙ both_true named refl
 
@@ -63,7 +64,7 @@ either_sound false o field sound e = cc
 pub field_of_sound : (d : Data) (field : Field) → field_of d ≡ Some field → is_field field ≡ true
 field_of_sound d field e =
     either_sound ((member_count d == 2) && is_text (codes "text") (text_at (codes "kind") d)) (option_and_then text_field (text_at (codes "name") d)) field
-        (λ f is. named_field_sound (text_at (codes "name") d) f is) e
+    (λ f is. named_field_sound (text_at (codes "name") d) f is) e
 
 -- what a check of the one field gives
 pub checked : (item : Data) (d : Data) (fields : List Field) (field : Field) (result : Option (List Field))

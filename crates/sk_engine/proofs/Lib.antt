@@ -1,2 +1,6 @@
 mod ValueLemmas
 mod FieldLemmas
+mod AddingLemmas
+mod HoldsLemmas
+mod WalkLemmas
+mod ReportLemmas

@@ -55,6 +55,7 @@ one_item vs r e first = map_copied r ∙ ap (option_map view) first ∙ only vs 
     map_copied : (r : Option (Bor Value)) → option_map (λ v. view v.now) r ≡ option_map view (option_copied r)
     map_copied None = refl
     map_copied (Some v) = refl
+
     only : (vs : List Value) → length vs ≡ 1 → option_map view (slice_get vs 0) ≡ only_item (array (items_view vs))
     only [] e = absurd (omega arith)
     only (v ∷ []) e = refl

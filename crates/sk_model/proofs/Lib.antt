@@ -1,2 +1,3 @@
 pub mod OrderLaws
 mod Examples
+pub mod WordLaws

@@ -1,5 +1,5 @@
 -- What a document is, and which document a record makes.
-use Rattle.std.specs.Prelude.{ℕ, Bool, ◌&&◌, ◌==◌, nat_lt, nat_le, List, [], ◌∷◌, ◌++◌, length, filter}
+use Rattle.std.specs.Prelude.{ℕ, ◌+◌, Bool, ◌&&◌, ◌==◌, nat_lt, nat_le, List, [], ◌∷◌, ◌++◌, length, filter}
 use Rattle.std.specs.List.{slice_split}
 use Rattle.sk_base.specs.declared.record.Record.{Record}
 use Rattle.sk_base.specs.declared.record.Entry.{Entry}
@@ -33,3 +33,15 @@ words_of_values (entry ∷ entries) = words_of_value entry.value ++ words_of_val
 -- The document that a record makes.
 abbrev pub document_of : Record → Document
 document_of record_given = record { words = words_of_values record_given.values }
+
+abbrev pub bytes_of_value : FieldValue → ℕ
+bytes_of_value (FieldValue.Text text) = length text
+
+-- How many bytes the texts of a record have in all.
+abbrev pub bytes_of_values : List Entry → ℕ
+bytes_of_values [] = 0
+bytes_of_values (entry ∷ entries) = bytes_of_value entry.value + bytes_of_values entries
+
+-- How many bytes the texts of a document may have in all.
+abbrev pub most_bytes : ℕ
+most_bytes = 1048576

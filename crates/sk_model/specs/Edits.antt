@@ -1,10 +1,10 @@
 -- The live documents after any list of edits.
-use Rattle.std.specs.Prelude.{ℕ, ◌+◌, nat_lt, List, [], ◌∷◌, ◌++◌, if◌then◌else◌}
+use Rattle.std.specs.Prelude.{ℕ, ◌+◌, ◌≤◌, nat_lt, List, [], ◌∷◌, ◌++◌, if◌then◌else◌}
 use Rattle.sk_base.specs.declared.record.Edit.{Edit}
 use Rattle.sk_base.specs.declared.record.Edit.TheVariants as Edit
 use Rattle.sk_base.specs.declared.record.Reply.{Reply}
 use Rattle.sk_base.specs.declared.record.Reply.TheVariants as Reply
-use Rattle.sk_model.specs.Documents.{Document, document_of}
+use Rattle.sk_model.specs.Documents.{Document, document_of, bytes_of_values, most_bytes}
 
 -- The live documents with their ids, by rising id, and the highest id that was ever used.
 pub record Live : Type 0 where
@@ -36,3 +36,7 @@ reply_to live (Edit.Add added) = if nat_lt live.highest last_id then Reply.Id (l
 abbrev pub live_after : Live → List Edit → Live
 live_after live [] = live
 live_after live (edit ∷ edits) = live_after (edited live edit) edits
+
+-- The texts of an edit have no more bytes in all than a document may have.
+abbrev pub FitsEdit : Edit → Type 0
+FitsEdit (Edit.Add added) = bytes_of_values added.values ≤ most_bytes

@@ -12,5 +12,5 @@ returns-then-len-ne1 c =
 pub returns : goal.returns
 returns c =
     one_item c.in_ok-items.items.now.items c.first.result (sym c.in_ok-items.items.now.ok.0 ∙ sym c.len.ensures ∙ c.if-len-ne1.false)
-        (c.first.ensures.value ∙ ap (λ vs. slice_get vs 0) c.deref.ensures.value)
+    (c.first.ensures.value ∙ ap (λ vs. slice_get vs 0) c.deref.ensures.value)
     ∙ sym (ap only_item (array_is _ _ c.in_ok-items.ensures))

@@ -6,4 +6,4 @@ use Rattle.sk_engine.proofs.reader.schema_of.Goals as goal
 pub returns : goal.returns
 returns c =
     checked (view c.in-Some.item.now) (view c.args.value.now) _ c.in-Some-2.field _ (sym c.in-Some.ensures) (sym c.in_ok-field.ensures ∙ c.in-Some-2.is)
-        (c.in_ok-push.ensures.items ∙ ap (λ fields. fields ++ c.in-Some-2.field ∷ []) c.new-fields.ensures.items) c.check.ensures
+    (c.in_ok-push.ensures.items ∙ ap (λ fields. fields ++ c.in-Some-2.field ∷ []) c.new-fields.ensures.items) c.check.ensures
