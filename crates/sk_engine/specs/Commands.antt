@@ -16,6 +16,7 @@ use Rattle.sk_base.specs.declared.find.Scheme.TheVariants as Scheme
 use Rattle.sk_base.specs.declared.schema.Field.{Field}
 use Rattle.sk_base.specs.declared.schema.FieldKind.TheVariants as FieldKind
 use Rattle.sk_base.specs.Fields.{place_of}
+use Rattle.sk_model.specs.Documents.{most_bytes}
 use Rattle.sk_engine.specs.Values.{only_member, only_item, member_count}
 
 -- Letters a to z alone.
@@ -30,9 +31,12 @@ is_field_name name = nat_lt 0 (length name) && nat_le (length name) 32 && are_le
 abbrev pub is_asked_word : List ℕ → Bool
 is_asked_word word = nat_lt 0 (length word) && nat_le (length word) 64 && are_letters word
 
--- A text of a document: letters and spaces (32).
+abbrev pub are_letters_and_spaces : List ℕ → Bool
+are_letters_and_spaces bytes = list_all (λ c. is_ascii_lowercase c || c == 32) bytes
+
+-- A text of a document: letters and spaces (32), and no more bytes than a document may have.
 abbrev pub is_plain_text : List ℕ → Bool
-is_plain_text text = list_all (λ c. is_ascii_lowercase c || c == 32) text
+is_plain_text text = are_letters_and_spaces text && nat_le (length text) most_bytes
 
 -- The text at a member of an object.
 abbrev pub text_at : List ℕ → Data → Option (List ℕ)

@@ -46,6 +46,10 @@ impl Index {
         &self.schema
     }
 
+    pub fn allocator(&self) -> Global {
+        self.alloc
+    }
+
     /// Where memory runs out the index is given up.
     pub fn apply(self, edit: Edit) -> Result<(Index, Reply), AllocError>
         requires { FitsEdit edit }

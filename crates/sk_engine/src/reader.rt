@@ -4,7 +4,7 @@ ghost use Rattle.std.specs.Option.{option_map, option_copied};
 ghost use Rattle.serde_json.specs.Data.{Data};
 ghost use Rattle.serde_json.specs.View.{view, members_view};
 ghost use Rattle.sk_engine.specs.Values.{line_value, only_member, only_item, member_count};
-ghost use Rattle.sk_engine.specs.Commands.{is_field_name, is_asked_word, is_plain_text, text_at, is_text, field_of, fields_of, text_field, added_text, added_at, addition_of, first_page, find_of, command_named, command_of, are_letters};
+ghost use Rattle.sk_engine.specs.Commands.{is_field_name, is_asked_word, is_plain_text, text_at, is_text, field_of, fields_of, text_field, added_text, added_at, addition_of, first_page, find_of, command_named, command_of, are_letters, are_letters_and_spaces};
 
 use serde_json::{Map, Value};
 use sk_base::{
@@ -12,6 +12,9 @@ use sk_base::{
     Scheme, Text,
 };
 use std::alloc::{AllocError, AllocFailed, Global};
+
+/// How many bytes the texts of a document may have in all.
+const MAX_TEXT: usize = 1_048_576;
 
 /// Why a line gives no command.
 #[derive(Clone, Copy, Debug, PartialEq, Eq)]
@@ -37,7 +40,8 @@ impl From<AllocError> for LineFault {
 
 /// The command of a line, under the schema that was accepted before, if any.
 pub fn command(alloc: Global, line: &[u8], schema: Option<&Schema>) -> Result<Command, LineFault>
-    ensures { ReadsAs (option_copied schema.entry) (line_value line.now) result }
+    ensures reads { ReadsAs (option_copied schema.entry) (line_value line.now) result }
+    ensures comes { IfOk result (MayCome (option_copied schema.entry)) }
 {
     let value = line_value(alloc, line)?;
     match command_of(alloc, schema, &value)? {
@@ -46,7 +50,7 @@ pub fn command(alloc: Global, line: &[u8], schema: Option<&Schema>) -> Result<Co
     }
 }
 
-ghost use Rattle.sk_engine.specs.Faults.{ReadsAs};
+ghost use Rattle.sk_engine.specs.Faults.{ReadsAs, MayCome};
 
 fn line_value(alloc: Global, line: &[u8]) -> Result<Value, LineFault>
     ensures ok { IfOk result (λ v. line_value line.now ≡ Some (view v)) }
@@ -257,7 +261,13 @@ fn are_letters(bytes: &[u8]) -> bool
 fn is_plain_text(text: &[u8]) -> bool
     ensures { result ≡ is_plain_text text.now }
 {
-    text.iter().all(|b| b.is_ascii_lowercase() || *b == b' ')
+    are_letters_and_spaces(text) && text.len() <= MAX_TEXT
+}
+
+fn are_letters_and_spaces(bytes: &[u8]) -> bool
+    ensures { result ≡ are_letters_and_spaces bytes.now }
+{
+    bytes.iter().all(|b| b.is_ascii_lowercase() || *b == b' ')
 }
 
 /// The name and the value, where an object has exactly one member.

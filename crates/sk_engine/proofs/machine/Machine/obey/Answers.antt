@@ -1,0 +1,10 @@
+use Rattle.sk_engine.proofs.MachineLemmas.{obeyed_as}
+use Rattle.sk_engine.proofs.machine.Machine.obey.Goals as goal
+
+pub returns-in_ok-machine-in-Some-Edit-clause-obeyed : goal.returns-in_ok-machine-in-Some-Edit-clause-obeyed
+returns-in_ok-machine-in-Some-Edit-clause-obeyed g c =
+    obeyed_as _ _ _ _ _ _ c.in-Some-Edit.is-0 c.in-Some-Edit.is-1 c.in_ok-machine-in-Some-Edit.ensures.obeyed
+
+pub returns-in_ok-machine-in-Some-Find-clause-obeyed : goal.returns-in_ok-machine-in-Some-Find-clause-obeyed
+returns-in_ok-machine-in-Some-Find-clause-obeyed g c =
+    obeyed_as _ _ _ _ _ _ c.in-Some-Find.is-0 c.in-Some-Find.is-1 c.in_ok-machine-in-Some-Find.ensures.obeyed

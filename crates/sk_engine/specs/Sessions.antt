@@ -1,0 +1,32 @@
+-- What a session holds, and what it answers.
+use Rattle.std.specs.Prelude.{ℕ, List}
+use Rattle.sk_base.specs.declared.find.Find.{Find}
+use Rattle.sk_base.specs.declared.schema.Field.{Field}
+use Rattle.sk_model.specs.Edits.{Live}
+use Rattle.sk_model.specs.Reports.{Reports}
+use Rattle.sk_engine.specs.Holds.{Holds, schema_of}
+use Rattle.sk_engine.specs.declared.session.Session.{Session}
+use Rattle.sk_engine.specs.declared.response.Response.{Response}
+use Rattle.sk_engine.specs.declared.response.Response.TheVariants as Response
+use Rattle.sk_engine.specs.declared.session.Answer.{Answer}
+use Rattle.sk_engine.specs.declared.session.Answer.TheVariants.{Found}
+
+-- The session holds these live documents.
+abbrev pub SessionHolds : Session → Live → Type 0
+SessionHolds session live = Holds session.index live
+
+-- The fields of a session's schema.
+abbrev pub fields_of : Session → List Field
+fields_of session = schema_of session.index
+
+-- A find is answered by a report that it may have over the live documents.
+abbrev pub IsAnswer : Find → Live → Answer → Type 0
+IsAnswer find live (Found report) = Reports find live report
+
+-- The steps that an answer tells of.
+abbrev pub steps_in : Answer → ℕ
+steps_in (Found report) = report.steps
+
+-- How an answer is printed, the rank of its first hit being `first`.
+abbrev pub response_of : ℕ → Answer → Response
+response_of first (Found report) = Response.Found first report

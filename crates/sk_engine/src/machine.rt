@@ -1,0 +1,170 @@
+//! The state of a run: a session, once a schema was accepted.
+ghost use Rattle.std.specs.Prelude.{◌≡◌, ◌≤◌, ◌+◌, IfOk, length, Some, None};
+ghost use Rattle.std.specs.Option.{option_copied};
+ghost use Rattle.sk_io.specs.declared.line.TheConstants.{MAX_LINE};
+ghost use Rattle.sk_model.specs.Edits.{FitsEdit};
+ghost use Rattle.sk_engine.specs.Asked.{IsAsked};
+ghost use Rattle.sk_engine.specs.Responses.{steps_of, response_to};
+ghost use Rattle.sk_engine.specs.Meaning.{is_blank};
+ghost use Rattle.sk_engine.specs.Output.{start};
+ghost use Rattle.sk_engine.specs.Sessions.{steps_in, response_of};
+ghost use Rattle.sk_engine.specs.Machines.{IsAt, schema_in, Obeyed, Answered};
+ghost use Rattle.sk_engine.specs.Faults.{MayCome};
+ghost use Rattle.sk_base.specs.declared.command.Command.TheVariants as Command;
+
+use crate::reader::{LineFault, command};
+use crate::{Answer, Refusal, Response, Session};
+use sk_base::{Command, Edit, Find, Reply, Schema};
+use sk_steps::Steps;
+use std::alloc::{AllocError, Global};
+use std::sync::ledger::Ledger;
+
+/// The session of a run, once a schema was accepted.
+#[derive(Debug, Drop)]
+pub struct Machine {
+    session: Option<Session>,
+}
+
+impl Machine {
+    /// A machine that waits for a schema.
+    pub fn new() -> Machine
+        ensures { IsAt result start }
+    {
+        Machine { session: None }
+    }
+
+    /// Answers a line that is not too long. Where memory runs out the machine is given up.
+    pub fn answer<L: Ledger>(
+        self,
+        alloc: Global,
+        line: &[u8],
+        steps: &mut Steps<L>,
+    ) -> Result<(Machine, Response), AllocError>
+        requires { length line.now ≤ MAX_LINE }
+        ensures answered { IfOk result (λ p. Answered self line.now p.1 p.0) }
+        ensures cost { IfOk result (λ p. steps.new ≡ steps.old + steps_of p.1) }
+    {
+        if is_blank(line) {
+            return Ok((self, Response::Skipped));
+        }
+        match command(alloc, line, self.schema()) {
+            Ok(command) => {
+                let (machine, response) = self.obey(alloc, command, steps)?;
+                Ok((machine, response))
+            }
+            Err(LineFault::NotJson) => Ok((self, Response::Refused(Refusal::NotJson))),
+            Err(LineFault::BadShape) => Ok((self, Response::Refused(Refusal::BadShape))),
+            Err(LineFault::NoMemory) => Err(AllocError),
+        }
+    }
+
+    fn schema(&self) -> Option<&Schema>
+        ensures { option_copied result ≡ schema_in self.now }
+    {
+        match &self.session {
+            Some(session) => Some(session.schema()),
+            None => None,
+        }
+    }
+
+    fn obey<L: Ledger>(
+        self,
+        alloc: Global,
+        command: Command,
+        steps: &mut Steps<L>,
+    ) -> Result<(Machine, Response), AllocError>
+        requires { MayCome (schema_in self) command }
+        ensures obeyed { IfOk result (λ p. Obeyed self.session command p.1 p.0) }
+        ensures cost { IfOk result (λ p. steps.new ≡ steps.old + steps_of p.1) }
+    {
+        match (self.session, command) {
+            (None, Command::Schema(schema)) => {
+                let (machine, response) = accept(alloc, schema)?;
+                Ok((machine, response))
+            }
+            (Some(session), Command::Edit(edit)) => {
+                let (machine, response) = change(session, edit)?;
+                Ok((machine, response))
+            }
+            (Some(session), Command::Find(find)) => {
+                let (machine, response) = look(session, &find, steps)?;
+                Ok((machine, response))
+            }
+            _ => unreachable!(),
+        }
+    }
+}
+
+/// The first session, under its schema.
+fn accept(alloc: Global, schema: Schema) -> Result<(Machine, Response), AllocError>
+    ensures obeyed { IfOk result (λ p. Obeyed None (Command.Schema schema) p.1 p.0) }
+    ensures cost { IfOk result (λ p. steps_of p.1 ≡ 0) }
+{
+    let fields = schema.fields().len();
+    let session = Session::new(alloc, schema)?;
+    Ok((
+        Machine {
+            session: Some(session),
+        },
+        Response::Schema(fields),
+    ))
+}
+
+fn change(session: Session, edit: Edit) -> Result<(Machine, Response), AllocError>
+    requires { FitsEdit edit }
+    ensures obeyed { IfOk result (λ p. Obeyed (Some session) (Command.Edit edit) p.1 p.0) }
+    ensures cost { IfOk result (λ p. steps_of p.1 ≡ 0) }
+{
+    let (session, reply) = session.apply(edit)?;
+    Ok((
+        Machine {
+            session: Some(session),
+        },
+        response_to(reply),
+    ))
+}
+
+fn response_to(reply: Reply) -> Response
+    ensures response { result ≡ response_to reply }
+    ensures cost { steps_of result ≡ 0 }
+{
+    match reply {
+        Reply::Id(id) => Response::Id(id),
+        Reply::NoIdLeft => Response::Refused(Refusal::NoIdLeft),
+    }
+}
+
+fn look<L: Ledger>(
+    session: Session,
+    find: &Find,
+    steps: &mut Steps<L>,
+) -> Result<(Machine, Response), AllocError>
+    requires { IsAsked find.now }
+    ensures obeyed { IfOk result (λ p. Obeyed (Some session) (Command.Find find.now) p.1 p.0) }
+    ensures cost { IfOk result (λ p. steps.new ≡ steps.old + steps_of p.1) }
+{
+    let answer = session.find(find, steps)?;
+    let response = found(find.first, answer);
+    Ok((
+        Machine {
+            session: Some(session),
+        },
+        response,
+    ))
+}
+
+fn found(first: u32, answer: Answer) -> Response
+    ensures response { result ≡ response_of first answer }
+    ensures cost { steps_of result ≡ steps_in answer }
+{
+    match answer {
+        Answer::Found(report) => Response::Found(first, report),
+    }
+}
+
+fn is_blank(line: &[u8]) -> bool
+    ensures { result ≡ is_blank line.now }
+{
+    line.iter()
+        .all(|b| *b == b'\t' || *b == b'\r' || *b == b' ')
+}

@@ -1,0 +1,63 @@
+//! A session: the documents under one schema.
+ghost use Rattle.std.specs.Prelude.{◌≡◌, ◌+◌, IfOk};
+ghost use Rattle.sk_model.specs.Edits.{Live, nothing_live, edited, reply_to, FitsEdit};
+ghost use Rattle.sk_engine.specs.Asked.{IsAsked};
+ghost use Rattle.sk_engine.specs.Sessions.{SessionHolds, fields_of, IsAnswer, steps_in};
+
+use crate::Index;
+use crate::search::search;
+use sk_base::{Edit, Find, Reply, Report, Schema};
+use sk_steps::Steps;
+use std::alloc::{AllocError, Global};
+use std::sync::ledger::Ledger;
+
+/// The documents under one schema, and what is found in them.
+#[derive(Debug, Drop)]
+pub struct Session {
+    index: Index,
+}
+
+/// What a find is answered.
+#[derive(Debug, Drop)]
+pub enum Answer {
+    Found(Report),
+}
+
+impl Session {
+    /// A session without documents.
+    pub fn new(alloc: Global, schema: Schema) -> Result<Session, AllocError>
+        ensures schema { IfOk result (λ session. fields_of session ≡ schema) }
+        ensures holds { IfOk result (λ session. SessionHolds session nothing_live) }
+    {
+        Ok(Session {
+            index: Index::new(alloc, schema),
+        })
+    }
+
+    pub fn schema(&self) -> &Schema
+        ensures { result.now ≡ fields_of self.now }
+    {
+        self.index.schema()
+    }
+
+    /// Changes the documents. Where memory runs out the session is given up.
+    pub fn apply(self, edit: Edit) -> Result<(Session, Reply), AllocError>
+        requires { FitsEdit edit }
+        ensures live { IfOk result (λ p. (live : Live) → SessionHolds self live → SessionHolds p.0 (edited live edit)) }
+        ensures reply { IfOk result (λ p. (live : Live) → SessionHolds self live → p.1 ≡ reply_to live edit) }
+        ensures schema { IfOk result (λ p. fields_of p.0 ≡ fields_of self) }
+    {
+        let (index, reply) = self.index.apply(edit)?;
+        Ok((Session { index }, reply))
+    }
+
+    /// The asked page of the documents that the query matches.
+    pub fn find<L: Ledger>(&self, find: &Find, steps: &mut Steps<L>) -> Result<Answer, AllocError>
+        requires { IsAsked find.now }
+        ensures answer { IfOk result (λ answer. (live : Live) → SessionHolds self.now live → IsAnswer find.now live answer) }
+        ensures cost { IfOk result (λ answer. steps.new ≡ steps.old + steps_in answer) }
+    {
+        let report = search(self.index.allocator(), &self.index, find, steps)?;
+        Ok(Answer::Found(report))
+    }
+}

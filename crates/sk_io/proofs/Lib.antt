@@ -1,0 +1,4 @@
+mod Pieces
+mod LineEnds
+mod Behind
+mod Stream

@@ -1,0 +1,95 @@
+-- What each answer of a reader of lines means.
+use Rattle.std.specs.Prelude.{◌≡◌, ℕ, ◌+◌, ◌<◌, ◌≤◌, ◌⊎◌, List, [], ◌++◌, length, Option, None, Some, Result, IsErrOf}
+use Rattle.sk_io.specs.declared.line.LineStop.{LineStop}
+use Rattle.sk_io.specs.declared.line.LineStop.TheVariants.{Failed, TooMuch}
+use Rattle.sk_io.specs.declared.line.Line.{Line}
+use Rattle.sk_io.specs.declared.line.Line.TheVariants.{Whole, TooLong}
+use Rattle.sk_io.specs.declared.line.TheConstants.{MAX_LINE}
+use Rattle.sk_io.specs.Causes.{Rose}
+use Rattle.sk_io.specs.LineText.{NoLineEnd, IsLine}
+use Rattle.sk_io.specs.Reading.{Reader, reach, StreamIs, Outcome, ended, whole, too_long, stopped}
+
+-- as many bytes were taken off the room as off what the source had left
+abbrev pub Charged : Reader → Option (List ℕ) → Reader → Option (List ℕ) → Type 0
+Charged old left new left' =
+    (rest rest' : List ℕ) → left ≡ Some rest → left' ≡ Some rest' → new.room + length rest ≡ old.room + length rest'
+
+-- no line is left
+pub record Ends (old : Reader) (left : Option (List ℕ)) (new : Reader) (left' : Option (List ℕ)) : Type 0 where
+  pub goes : new.stopped ≡ None
+  pub more_room : 0 < new.room
+  pub reaches : reach new ≤ reach old
+  pub empty : (s : List ℕ) → StreamIs old left s → (s ≡ []) × StreamIs new left' []
+  pub charged : Charged old left new left'
+
+-- `line` is the first line of s, and the stream goes on behind it
+pub record LineOf (line : List ℕ) (new : Reader) (left' : Option (List ℕ)) (s : List ℕ) : Type 0 where
+  pub after : List ℕ
+  pub is_line : IsLine line s after
+  pub goes_on : StreamIs new left' after
+
+-- the first line was given
+pub record Gives (old : Reader) (left : Option (List ℕ)) (new : Reader) (left' : Option (List ℕ)) (line : List ℕ) : Type 0 where
+  pub goes : new.stopped ≡ None
+  pub short : length line ≤ MAX_LINE
+  pub falls : reach new < reach old
+  pub first : (s : List ℕ) → StreamIs old left s → LineOf line new left' s
+  pub charged : Charged old left new left'
+
+-- the first line of s is longer than a line may be, and the stream goes on behind it
+pub record LongLineOf (new : Reader) (left' : Option (List ℕ)) (s : List ℕ) : Type 0 where
+  pub line : List ℕ
+  pub long : MAX_LINE < length line
+  pub first : LineOf line new left' s
+
+-- the first line, which is too long, was passed over
+pub record PassesOver (old : Reader) (left : Option (List ℕ)) (new : Reader) (left' : Option (List ℕ)) : Type 0 where
+  pub goes : new.stopped ≡ None
+  pub falls : reach new < reach old
+  pub first : (s : List ℕ) → StreamIs old left s → LongLineOf new left' s
+  pub charged : Charged old left new left'
+
+-- s begins with bytes of a line that was not answered, and the source has the others left
+pub record OpenLineOf (left' : Option (List ℕ)) (s : List ℕ) : Type 0 where
+  pub open_line : List ℕ
+  pub rest : List ℕ
+  pub no_end : NoLineEnd open_line
+  pub is : s ≡ open_line ++ rest
+  pub told : left' ≡ Some rest
+
+-- the reader stopped, in the middle of a line or before one
+pub record Stops (old : Reader) (left : Option (List ℕ)) (new : Reader) (left' : Option (List ℕ)) (why : LineStop) : Type 0 where
+  pub stopped_for : new.stopped ≡ Some why
+  pub full : why ≡ TooMuch → new.room ≡ 0
+  pub reaches : reach new ≤ reach old
+  pub open_line : (s : List ℕ) → StreamIs old left s → OpenLineOf left' s
+  pub charged : Charged old left new left'
+
+-- the stop that was answered before is answered again, and nothing is touched
+pub record StopsAgain (old : Reader) (left : Option (List ℕ)) (new : Reader) (left' : Option (List ℕ)) (answer : Outcome) (why : LineStop) : Type 0 where
+  pub again : answer ≡ stopped why
+  pub same : new ≡ old
+  pub untouched : left' ≡ left
+
+-- what a reader that has not stopped did, by its answer
+abbrev pub ReadsOn : Reader → Option (List ℕ) → Reader → Option (List ℕ) → Outcome → Type 0
+ReadsOn old left new left' ended = Ends old left new left'
+ReadsOn old left new left' (whole line) = Gives old left new left' line
+ReadsOn old left new left' too_long = PassesOver old left new left'
+ReadsOn old left new left' (stopped why) = Stops old left new left' why
+
+-- what a call of `next` did, by its answer
+pub record Reads (old : Reader) (left : Option (List ℕ)) (new : Reader) (left' : Option (List ℕ)) (answer : Outcome) : Type 0 where
+  pub again : (why : LineStop) → old.stopped ≡ Some why → StopsAgain old left new left' answer why
+  pub goes_on : old.stopped ≡ None → ReadsOn old left new left' answer
+
+-- the count of faults does not fall, and the stop `Failed` comes only where it rose, or again
+pub record StopHasCause {T : Type 0} (stop : Option LineStop) (before now : ℕ) (result : Result T LineStop) : Type 0 where
+  pub later : before ≤ now
+  pub failed : IsErrOf result Failed → Rose before now ⊎ (stop ≡ Some Failed)
+
+-- a whole line is at most MAX_LINE bytes
+abbrev pub IsShort : Option Line → Type 0
+IsShort None = Unit {0}
+IsShort (Some (Whole line)) = length line.now ≤ MAX_LINE
+IsShort (Some TooLong) = Unit {0}

@@ -1,0 +1,65 @@
+-- What a source and a sink in memory are.
+use Rattle.std.specs.Prelude.{ℕ, ◌+◌, ◌-◌, ◌^◌, min, Bool, true, false, ◌&&◌, ◌==◌, nat_lt, List, ◌++◌, length, drop}
+use Rattle.std.specs.List.{list_any}
+
+-- one more, up to the greatest that a counter holds
+abbrev pub counted : ℕ → ℕ
+counted n = min (n + 1) (2 ^ 64 - 1)
+
+-- a source in memory
+pub record Feed : Type 0 where
+  pub left : List ℕ
+  pub piece : ℕ
+  pub failing : List ℕ
+  pub calls : ℕ
+  pub faults : ℕ
+
+-- whether the next call is one of those that fail
+abbrev pub feed_fails : Feed → Bool
+feed_fails f = list_any (λ n. n == counted f.calls) f.failing
+
+-- how many bytes a call gives that does not fail, to a buffer of `room` bytes
+abbrev pub portion : Feed → ℕ → ℕ
+portion f room = min (min room f.piece) (length f.left)
+
+-- the source after a call that gave n bytes
+abbrev pub fed : Feed → ℕ → Feed
+fed f n = record f { left = drop n f.left; calls = counted f.calls }
+
+-- the source after a call that failed
+abbrev pub starved : Feed → Feed
+starved f = record f { calls = counted f.calls; faults = counted f.faults }
+
+-- a sink in memory
+pub record Tray : Type 0 where
+  pub held : List ℕ
+  pub piece : ℕ
+  pub room : ℕ
+  pub failing : List ℕ
+  pub calls : ℕ
+  pub faults : ℕ
+  pub settled : Bool
+
+-- whether the next call is one of those that fail
+abbrev pub tray_fails : Tray → Bool
+tray_fails t = list_any (λ n. n == counted t.calls) t.failing
+
+-- whether no byte of the piece has room, though it has some
+abbrev pub is_over : Tray → List ℕ → Bool
+is_over t piece = nat_lt 0 (length piece) && (length t.held == t.room)
+
+-- how many bytes of the piece a call takes that does not fail
+abbrev pub share : Tray → List ℕ → ℕ
+share t piece = min (min (length piece) t.piece) (t.room - length t.held)
+
+-- the sink after a call that took these bytes
+abbrev pub served : Tray → List ℕ → Tray
+served t bytes = record t { held = t.held ++ bytes; calls = counted t.calls; settled = false }
+
+-- the sink after a call that failed
+abbrev pub spilt : Tray → Tray
+spilt t = record t { calls = counted t.calls; faults = counted t.faults; settled = false }
+
+-- the sink after a finish that did not fail
+abbrev pub closed : Tray → Tray
+closed t = record t { calls = counted t.calls; settled = true }

@@ -1,0 +1,40 @@
+-- What a reader of lines holds, and what a call of it answers.
+use Rattle.std.specs.Prelude.{◌≡◌, ℕ, ◌+◌, List, ◌++◌, length, drop, Option, None, Some, Result, Ok, Err}
+use Rattle.sk_io.specs.declared.line.LineStop.{LineStop}
+use Rattle.sk_io.specs.declared.line.Line.{Line}
+use Rattle.sk_io.specs.declared.line.Line.TheVariants.{Whole, TooLong}
+
+-- what a reader of lines holds
+pub record Reader : Type 0 where
+  pub held : List ℕ  -- the bytes that were taken and not yet dropped
+  pub given : ℕ  -- how many of them, at the front, belong to the line given last
+  pub room : ℕ  -- how many bytes may still be taken
+  pub stopped : Option LineStop  -- the stop that was answered
+
+-- the bytes that were taken and not yet given
+abbrev pub pending : Reader → List ℕ
+pending r = drop r.given r.held
+
+-- how many bytes a reader can still give
+abbrev pub reach : Reader → ℕ
+reach r = length (pending r) + r.room
+
+-- the bytes still to come: those that are pending, and those that the source has left
+pub record StreamIs (r : Reader) (left : Option (List ℕ)) (s : List ℕ) : Type 0 where
+  pub rest : List ℕ
+  pub told : left ≡ Some rest
+  pub is : s ≡ pending r ++ rest
+
+-- what a call of `next` answered
+pub data Outcome : Type 0 where
+  ended : Outcome
+  whole : List ℕ → Outcome
+  too_long : Outcome
+  stopped : LineStop → Outcome
+
+-- what a result of `next` says
+abbrev pub outcome : Result (Option Line) LineStop → Outcome
+outcome (Ok None) = ended
+outcome (Ok (Some (Whole line))) = whole line.now
+outcome (Ok (Some TooLong)) = too_long
+outcome (Err why) = stopped why

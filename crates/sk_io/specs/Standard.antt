@@ -1,0 +1,16 @@
+-- What a source and a sink over std tell.
+use Rattle.std.specs.Prelude.{ℕ, Bool}
+use Rattle.sk_io.specs.declared.standard.StdSource.{StdSource}
+use Rattle.sk_io.specs.declared.standard.StdSink.{StdSink}
+
+-- how often a source has failed
+abbrev pub source_faults : {T : Type 0} → StdSource T → ℕ
+source_faults s = s.failed
+
+-- how often a sink has failed
+abbrev pub sink_faults : {T : Type 0} → StdSink T → ℕ
+sink_faults s = s.failed
+
+-- whether a sink's last call was a flush that did not fail
+abbrev pub sink_settled : {T : Type 0} → StdSink T → Bool
+sink_settled s = s.done

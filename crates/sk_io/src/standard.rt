@@ -1,0 +1,134 @@
+//! Sources and sinks over the readers and writers of std.
+ghost use Rattle.std.specs.Prelude.{◌≡◌, ◌<◌, ℕ, Bool, false, List, None, Option, IfOk, length};
+ghost use Rattle.std.specs.Io.{ReadsAtMost, WritesAtMost};
+ghost use Rattle.sk_io.specs.Standard.{source_faults, sink_faults, sink_settled};
+
+use crate::{Failed, Sink, Source};
+use std::io::{ErrorKind, Read, Write};
+
+/// How often a call that was interrupted is tried before it counts as a fault.
+const TRIES: u32 = 64;
+
+/// A source over a reader of std. It tells only its faults.
+#[derive(Debug, Drop)]
+pub struct StdSource<T: Drop> {
+    reader: T,
+    failed: u64,
+}
+
+impl<T: Read + Drop> StdSource<T> {
+    /// A source that has not failed.
+    pub fn new(reader: T) -> StdSource<T>
+        ensures faults { source_faults result ≡ 0 }
+    {
+        StdSource { reader, failed: 0 }
+    }
+}
+
+// One read, tried again where it was interrupted.
+fn read_some<T: Read>(reader: &mut T, buf: &mut [u8]) -> Result<usize, Failed>
+    ensures { ReadsAtMost result buf.new }
+{
+    for _ in 0..TRIES {
+        match reader.read(buf) {
+            Ok(n) => return Ok(n),
+            Err(error) => {
+                if error.kind() != ErrorKind::Interrupted {
+                    return Err(Failed);
+                }
+            }
+        }
+    }
+    Err(Failed)
+}
+
+impl<T: Read + Drop> Source for StdSource<T> {
+    ghost left = { λ _. None };
+
+    ghost faults = { source_faults };
+
+    fn take(&mut self, buf: &mut [u8]) -> Result<usize, Failed> {
+        let result = read_some(&mut self.reader, buf);
+        if result.is_err() {
+            self.failed = self.failed.saturating_add(1);
+        }
+        result
+    }
+}
+
+/// A sink over a writer of std. It tells only its faults and whether it is settled.
+#[derive(Debug, Drop)]
+pub struct StdSink<T: Drop> {
+    writer: T,
+    failed: u64,
+    done: bool,
+}
+
+impl<T: Write + Drop> StdSink<T> {
+    /// A sink that has not failed.
+    pub fn new(writer: T) -> StdSink<T>
+        ensures faults { sink_faults result ≡ 0 }
+        ensures settled { sink_settled result ≡ false }
+    {
+        StdSink {
+            writer,
+            failed: 0,
+            done: false,
+        }
+    }
+}
+
+// One write, tried again where it was interrupted.
+fn write_some<T: Write>(writer: &mut T, piece: &[u8]) -> Result<usize, Failed>
+    ensures bound { WritesAtMost result piece.now }
+    ensures some { IfOk result (λ n. 0 < length piece.now → 0 < n) }
+{
+    for _ in 0..TRIES {
+        match writer.write(piece) {
+            Ok(n) => {
+                if n == 0 && !piece.is_empty() {
+                    return Err(Failed);
+                }
+                return Ok(n);
+            }
+            Err(error) => {
+                if error.kind() != ErrorKind::Interrupted {
+                    return Err(Failed);
+                }
+            }
+        }
+    }
+    Err(Failed)
+}
+
+impl<T: Write + Drop> Sink for StdSink<T> {
+    ghost held = { λ _. None };
+
+    ghost faults = { sink_faults };
+
+    ghost settled = { sink_settled };
+
+    fn put(&mut self, piece: &[u8]) -> Result<usize, Failed> {
+        self.done = false;
+        let result = write_some(&mut self.writer, piece);
+        if result.is_err() {
+            self.failed = self.failed.saturating_add(1);
+        }
+        result
+    }
+
+    /// Flushes the writer.
+    fn finish(&mut self) -> Result<(), Failed> {
+        match self.writer.flush() {
+            Ok(()) => {
+                self.done = true;
+                Ok(())
+            }
+            Err(_) => {
+                self.done = false;
+                self.failed = self.failed.saturating_add(1);
+                Err(Failed)
+            }
+        }
+    }
+}
