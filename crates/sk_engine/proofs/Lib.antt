@@ -6,3 +6,4 @@ mod HoldsLemmas
 mod WalkLemmas
 mod ReportLemmas
 mod MachineLemmas
+mod RunLemmas

@@ -6,10 +6,14 @@ mod machine;
 mod reader;
 mod refusal;
 mod response;
+mod runs;
 mod search;
 mod session;
+mod status;
 
 pub use index::Index;
 pub use refusal::Refusal;
 pub use response::Response;
+pub use runs::run;
 pub use session::{Answer, Session};
+pub use status::Status;

@@ -2,6 +2,7 @@
 ghost use Rattle.std.specs.Prelude.{◌≡◌, ◌≤◌, ◌+◌, IfOk, length, Some, None};
 ghost use Rattle.std.specs.Option.{option_copied};
 ghost use Rattle.sk_io.specs.declared.line.TheConstants.{MAX_LINE};
+ghost use Rattle.sk_io.specs.Answers.{IsShort};
 ghost use Rattle.sk_model.specs.Edits.{FitsEdit};
 ghost use Rattle.sk_engine.specs.Asked.{IsAsked};
 ghost use Rattle.sk_engine.specs.Responses.{steps_of, response_to};
@@ -10,11 +11,13 @@ ghost use Rattle.sk_engine.specs.Output.{start};
 ghost use Rattle.sk_engine.specs.Sessions.{steps_in, response_of};
 ghost use Rattle.sk_engine.specs.Machines.{IsAt, schema_in, Obeyed, Answered};
 ghost use Rattle.sk_engine.specs.Faults.{MayCome};
+ghost use Rattle.sk_engine.specs.Lines.{AnsweredLine};
 ghost use Rattle.sk_base.specs.declared.command.Command.TheVariants as Command;
 
 use crate::reader::{LineFault, command};
 use crate::{Answer, Refusal, Response, Session};
 use sk_base::{Command, Edit, Find, Reply, Schema};
+use sk_io::Line;
 use sk_steps::Steps;
 use std::alloc::{AllocError, Global};
 use std::sync::ledger::Ledger;
@@ -31,6 +34,26 @@ impl Machine {
         ensures { IsAt result start }
     {
         Machine { session: None }
+    }
+
+    /// Answers a line of a source. Where memory runs out the machine is given up.
+    pub fn answer_line<L: Ledger>(
+        self,
+        alloc: Global,
+        line: Line<'_>,
+        steps: &mut Steps<L>,
+    ) -> Result<(Machine, Response), AllocError>
+        requires { IsShort (Some line) }
+        ensures answered { IfOk result (λ p. AnsweredLine self line.entry p.1 p.0) }
+        ensures cost { IfOk result (λ p. steps.new ≡ steps.old + steps_of p.1) }
+    {
+        match line {
+            Line::Whole(text) => {
+                let (machine, response) = self.answer(alloc, text, steps)?;
+                Ok((machine, response))
+            }
+            Line::TooLong => Ok((self, Response::Refused(Refusal::TooLong))),
+        }
     }
 
     /// Answers a line that is not too long. Where memory runs out the machine is given up.

@@ -25,15 +25,18 @@ impl Response {
     ghost use Rattle.sk_engine.specs.Responses.{text_of, is_refusal};
 
     /// The lines that are printed, each with its end.
-    pub fn text(&self, alloc: Global) -> Result<String, AllocError>
-        ensures { IfOk result (λ s. string_bytes s ≡ text_of self.now) }
+    pub fn into_text(self, alloc: Global) -> Result<String, AllocError>
+        ensures { IfOk result (λ s. string_bytes s ≡ text_of self) }
     {
         match self {
             Response::Skipped => Ok(String::new(alloc)),
-            Response::Refused(refusal) => refusal_line(alloc, *refusal),
+            Response::Refused(refusal) => refusal_line(alloc, refusal),
             Response::Schema(fields) => format!(in alloc; "ok schema {fields}\n"),
             Response::Id(id) => format!(in alloc; "ok id {id}\n"),
-            Response::Found(first, report) => found_lines(alloc, *first, report),
+            Response::Found(first, report) => {
+                let text = found_lines(alloc, first, &report)?;
+                Ok(text)
+            }
         }
     }
 

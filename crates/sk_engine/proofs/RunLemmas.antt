@@ -1,0 +1,324 @@
+-- How far a run over lines has come.
+use Rattle.std.proofs.Common.{◌≡◌, ◌<◌, ◌≤◌, ◌+◌, ◌^◌, ℕ, Bool, true, false, cond, ◌||◌, if◌then◌else◌, ◌⊎◌, inl, inr, List, [], ◌∷◌, ◌++◌, length, drop, Option, Some, None, Result, Ok, Err, sum_by, flat_map, refl, sym, ap, ◌∙◌, subst, arith, append_assoc, append-nil}
+use Rattle.std.specs.List.{list_any}
+use Rattle.std.specs.Io.KnownBytes.{Appends, Keeps}
+use Rattle.std.proofs.lemmas.List.Sums.{sum_by-append}
+use Rattle.std.proofs.lemmas.List.Folds.{list_any-append}
+use Rattle.std.proofs.lemmas.Grind.{flat_map-append}
+use Rattle.sk_io.specs.declared.line.Line.{Line}
+use Rattle.sk_io.specs.declared.line.Line.TheVariants.{Whole, TooLong}
+use Rattle.sk_io.specs.declared.line.LineStop.{LineStop}
+use Rattle.sk_io.specs.declared.line.LineStop.TheVariants as LineStop
+use Rattle.sk_io.specs.Causes.{Rose}
+use Rattle.sk_io.specs.Fronts.{AppendsFront, AppendsPrefix}
+use Rattle.sk_io.specs.LineText.{NoLineEnd, IsLine}
+use Rattle.sk_io.specs.Reading.{Reader, pending, reach, StreamIs, Outcome, ended, whole, too_long, stopped, outcome}
+use Rattle.sk_io.specs.Answers.{Charged, Ends, LineOf, Gives, LongLineOf, PassesOver, OpenLineOf, Stops, ReadsOn}
+use Rattle.sk_engine.specs.declared.machine.Machine.{Machine}
+use Rattle.sk_engine.specs.declared.response.Response.{Response}
+use Rattle.sk_engine.specs.declared.status.Status.{Status}
+use Rattle.sk_engine.specs.declared.status.Status.TheVariants as Status
+use Rattle.sk_engine.specs.Responses.{text_of, texts_of, is_refusal, steps_of}
+use Rattle.sk_engine.specs.Output.{State, start, Answers, Runs, stop, line}
+use Rattle.sk_engine.specs.Machines.{IsAt, Meets, Answered}
+use Rattle.sk_engine.specs.Lines.{AnsweredLine}
+use Rattle.sk_engine.specs.Ends.{finished_status, Finishes, CutsShort, BreaksOff, TakesAll}
+use Rattle.sk_engine.specs.Ended.{Outside, Told, Ended, Closed}
+
+-- the first lines of the bytes were answered, and the others are to come
+pub record Reached (bytes : List ℕ) (answers : List Response) (reader : Reader) (left : Option (List ℕ)) (machine : Machine) : Type 0 where
+  pub state : State
+  pub stream : List ℕ
+  pub goes_on : (more : List Response) (last : State) (rest : List ℕ) → Runs state stream more last rest → Runs start bytes (answers ++ more) last rest
+  pub is : StreamIs reader left stream
+  pub taken : reader.room + length bytes ≡ 2 ^ 40 + length is.rest
+  pub at : IsAt machine state
+
+-- the answers so far were put, and counted
+pub record SoFar (bytes held : List ℕ) (reader : Reader) (left held_now : Option (List ℕ)) (machine : Machine) (refused : Bool) (begun now : ℕ) : Type 0 where
+  pub answers : List Response
+  pub reached : Reached bytes answers reader left machine
+  pub text : held_now ≡ Some (held ++ texts_of answers)
+  pub refusals : refused ≡ list_any is_refusal answers
+  pub cost : now ≡ begun + sum_by steps_of answers
+
+-- at first no line was answered
+pub begins : (bytes held : List ℕ) (reader : Reader) (left held_now : Option (List ℕ)) (machine : Machine) (begun : ℕ)
+    → reader ≡ record { held = []; given = 0; room = 2 ^ 40; stopped = None } → left ≡ Some bytes → held_now ≡ Some held → IsAt machine start
+    → SoFar bytes held reader left held_now machine false begun begun
+begins bytes held reader left held_now machine begun new told holds at = record {
+  answers = [];
+  reached = record {
+    state = start;
+    stream = bytes;
+    goes_on = λ more last rest runs. runs;
+    is = record { rest = bytes; told = told; is = ap (λ (r : Reader). pending r ++ bytes) (sym new) };
+    taken = ap (λ (r : Reader). r.room + length bytes) new;
+    at = at;
+  };
+  text = holds ∙ ap Some (sym (append-nil held));
+  refusals = refl;
+  cost = omega arith;
+}
+
+-- the answer of one line more
+one_more : (bytes : List ℕ) (answers : List Response) (reader reader' : Reader) (left left' : Option (List ℕ)) (machine machine' : Machine) (response : Response) (text : List ℕ)
+    → (so : Reached bytes answers reader left machine) → (first : LineOf text reader' left' so.stream) → Charged reader left reader' left' → Answered machine text response machine'
+    → Reached bytes (answers ++ response ∷ []) reader' left' machine'
+one_more bytes answers reader reader' left left' machine machine' response text so first charged answered =
+    let met : Meets (Answers so.state text response) machine' = answered so.state so.at in
+    let paid : reader'.room + length so.is.rest ≡ reader.room + length first.goes_on.rest = charged so.is.rest first.goes_on.rest so.is.told first.goes_on.told in
+    record {
+      state = met.next;
+      stream = first.after;
+      goes_on = λ more last rest runs.
+          subst (λ all. Runs start bytes all last rest) (sym (append_assoc answers (response ∷ []) more)) (so.goes_on (response ∷ more) last rest (line first.is_line met.allowed runs));
+      is = first.goes_on;
+      taken = omega (arith, paid, so.taken);
+      at = met.at;
+    }
+
+pub reach_more : (bytes : List ℕ) (answers : List Response) (reader reader' : Reader) (left left' : Option (List ℕ)) (machine machine' : Machine) (response : Response) (l : Line)
+    → Reached bytes answers reader left machine → ReadsOn reader left reader' left' (outcome (Ok (Some l))) → AnsweredLine machine l response machine'
+    → Reached bytes (answers ++ response ∷ []) reader' left' machine'
+reach_more bytes answers reader reader' left left' machine machine' response (Whole text) so reads answered =
+    one_more bytes answers reader reader' left left' machine machine' response text.now so (reads.first so.stream so.is) reads.charged answered
+reach_more bytes answers reader reader' left left' machine machine' response TooLong so reads answered =
+    let long : LongLineOf reader' left' so.stream = reads.first so.stream so.is in
+    one_more bytes answers reader reader' left left' machine machine' response long.line so long.first reads.charged (answered long.line long.long)
+
+-- what follows the front of a text is what the source has left
+record EndsIn (left : Option (List ℕ)) (s : List ℕ) : Type 0 where
+  front : List ℕ
+  rest : List ℕ
+  is : s ≡ front ++ rest
+  told : left ≡ Some rest
+
+behind_line : (text : List ℕ) (reader : Reader) (left : Option (List ℕ)) (s : List ℕ) → LineOf text reader left s → EndsIn left s
+behind_line text reader left s first = by_end first.is_line.is
+  where
+    after_is : first.after ≡ pending reader ++ first.goes_on.rest
+    after_is = first.goes_on.is
+
+    by_end : ((s ≡ text ++ 10 ∷ first.after) ⊎ ((s ≡ text) × (0 < length text) × (first.after ≡ []))) → EndsIn left s
+    by_end (inl e) = record {
+      front = text ++ 10 ∷ pending reader;
+      rest = first.goes_on.rest;
+      is = e ∙ ap (λ (w : List ℕ). text ++ 10 ∷ w) after_is ∙ sym (append_assoc text (10 ∷ pending reader) first.goes_on.rest);
+      told = first.goes_on.told;
+    }
+    by_end (inr e) = record {
+      front = text ++ pending reader;
+      rest = first.goes_on.rest;
+      is = e.0 ∙ sym (append-nil text) ∙ ap (λ (w : List ℕ). text ++ w) (sym e.2 ∙ after_is) ∙ sym (append_assoc text (pending reader) first.goes_on.rest);
+      told = first.goes_on.told;
+    }
+
+read_on : (reader reader' : Reader) (left left' : Option (List ℕ)) (l : Line) (s : List ℕ) → StreamIs reader left s → ReadsOn reader left reader' left' (outcome (Ok (Some l))) → EndsIn left' s
+read_on reader reader' left left' (Whole text) s is reads = behind_line text.now reader' left' s (reads.first s is)
+read_on reader reader' left left' TooLong s is reads =
+    let long : LongLineOf reader' left' s = reads.first s is in
+    behind_line long.line reader' left' s long.first
+
+-- the line that was read is not answered
+pub lost : (bytes held : List ℕ) (reader reader' : Reader) (left left' held_now : Option (List ℕ)) (machine : Machine) (refused : Bool) (begun now : ℕ) (l : Line)
+    → SoFar bytes held reader left held_now machine refused begun now → ReadsOn reader left reader' left' (outcome (Ok (Some l))) → BreaksOff bytes held left' held_now
+lost bytes held reader reader' left left' held_now machine refused begun now l so reads =
+    let ends : EndsIn left' so.reached.stream = read_on reader reader' left left' l so.reached.stream so.reached.is reads in
+    record {
+      answers = so.answers;
+      last = so.reached.state;
+      pending = ends.front;
+      rest = ends.rest;
+      shown = texts_of so.answers;
+      hidden = [];
+      runs =
+          subst (λ all. Runs start bytes all so.reached.state (ends.front ++ ends.rest)) (append-nil so.answers)
+          (so.reached.goes_on [] so.reached.state (ends.front ++ ends.rest) (subst (λ s. Runs so.reached.state so.reached.stream [] so.reached.state s) ends.is stop));
+      left = ends.told;
+      parts = sym (append-nil (texts_of so.answers));
+      text = so.text;
+    }
+
+-- nothing was read
+pub never_begun : (bytes held : List ℕ) (left held_now : Option (List ℕ)) → left ≡ Some bytes → held_now ≡ Some held → BreaksOff bytes held left held_now
+never_begun bytes held left held_now told holds = record {
+  answers = [];
+  last = start;
+  pending = [];
+  rest = bytes;
+  shown = [];
+  hidden = [];
+  runs = stop;
+  left = told;
+  parts = refl;
+  text = holds ∙ ap Some (sym (append-nil held));
+}
+
+texts-push : (answers : List Response) (response : Response) → texts_of (answers ++ response ∷ []) ≡ texts_of answers ++ text_of response
+texts-push answers response = flat_map-append text_of answers (response ∷ []) ∙ ap (λ (w : List ℕ). texts_of answers ++ w) (append-nil (text_of response))
+
+-- the sink failed within the answer of a line
+pub unwritten : (bytes held : List ℕ) (reader reader' : Reader) (left left' held_now held' : Option (List ℕ)) (machine machine' : Machine) (refused : Bool) (begun now : ℕ) (l : Line) (response : Response) (text : List ℕ)
+    → SoFar bytes held reader left held_now machine refused begun now → ReadsOn reader left reader' left' (outcome (Ok (Some l))) → AnsweredLine machine l response machine'
+    → text ≡ text_of response → AppendsPrefix held_now held' text → BreaksOff bytes held left' held'
+unwritten bytes held reader reader' left left' held_now held' machine machine' refused begun now l response text so reads answered is prefix =
+    let more : Reached bytes (so.answers ++ response ∷ []) reader' left' machine' = reach_more bytes so.answers reader reader' left left' machine machine' response l so.reached reads answered in
+    let front : AppendsFront (held ++ texts_of so.answers) held' text = subst (λ o. AppendsPrefix o held' text) so.text prefix in
+    record {
+      answers = so.answers ++ response ∷ [];
+      last = more.state;
+      pending = pending reader';
+      rest = more.is.rest;
+      shown = texts_of so.answers ++ front.shown;
+      hidden = front.rest;
+      runs =
+          subst (λ all. Runs start bytes all more.state (pending reader' ++ more.is.rest)) (append-nil (so.answers ++ response ∷ []))
+          (more.goes_on [] more.state (pending reader' ++ more.is.rest) (subst (λ s. Runs more.state more.stream [] more.state s) more.is.is stop));
+      left = more.is.told;
+      parts = texts-push so.answers response ∙ ap (λ (w : List ℕ). texts_of so.answers ++ w) (sym is ∙ front.whole) ∙ sym (append_assoc (texts_of so.answers) front.shown front.rest);
+      text = front.now_held ∙ ap Some (append_assoc held (texts_of so.answers) front.shown);
+    }
+
+appended : (before after : Option (List ℕ)) (held text : List ℕ) → before ≡ Some held → Appends before after text → after ≡ Some (held ++ text)
+appended before after held text is grows = told after (subst (λ o. Appends o after text) is grows)
+  where
+    told : (after : Option (List ℕ)) → Appends (Some held) after text → after ≡ Some (held ++ text)
+    told None h = absurd h
+    told (Some xs) h = ap Some h
+
+kept : (before after : Option (List ℕ)) (held : List ℕ) → before ≡ Some held → Keeps before after → after ≡ Some held
+kept before after held is keeps = told after (subst (λ o. Keeps o after) is keeps)
+  where
+    told : (after : Option (List ℕ)) → Keeps (Some held) after → after ≡ Some held
+    told None h = absurd h
+    told (Some xs) h = ap Some h
+
+-- a line was read, answered and its answer put
+pub more_put : (bytes held : List ℕ) (reader reader' : Reader) (left left' held_now held' : Option (List ℕ)) (machine machine' : Machine) (refused refused' : Bool) (begun now now' : ℕ) (l : Line) (response : Response) (text : List ℕ)
+    → SoFar bytes held reader left held_now machine refused begun now → ReadsOn reader left reader' left' (outcome (Ok (Some l))) → AnsweredLine machine l response machine'
+    → text ≡ text_of response → Appends held_now held' text → refused' ≡ (refused || is_refusal response) → now' ≡ now + steps_of response
+    → SoFar bytes held reader' left' held' machine' refused' begun now'
+more_put bytes held reader reader' left left' held_now held' machine machine' refused refused' begun now now' l response text so reads answered is put refusal paid = record {
+  answers = so.answers ++ response ∷ [];
+  reached = reach_more bytes so.answers reader reader' left left' machine machine' response l so.reached reads answered;
+  text =
+      appended held_now held' (held ++ texts_of so.answers) text so.text put
+      ∙ ap Some (append_assoc held (texts_of so.answers) text ∙ ap (λ (w : List ℕ). held ++ w) (ap (λ (w : List ℕ). texts_of so.answers ++ w) is ∙ sym (texts-push so.answers response)));
+  refusals = refusal ∙ ap (λ b. b || is_refusal response) so.refusals ∙ sym (list_any-append is_refusal so.answers (response ∷ []) ∙ ap (λ b. list_any is_refusal so.answers || b) (or-false (is_refusal response)));
+  cost = omega (arith, paid, so.cost, sum_by-append steps_of so.answers (response ∷ []));
+}
+  where
+    or-false : (b : Bool) → (b || false) ≡ b
+    or-false true = refl
+    or-false false = refl
+
+-- the source stopped
+pub cut : (bytes held : List ℕ) (reader reader' : Reader) (left left' held_now : Option (List ℕ)) (machine : Machine) (refused : Bool) (begun now : ℕ) (why : LineStop)
+    → SoFar bytes held reader left held_now machine refused begun now → Stops reader left reader' left' why → CutsShort bytes held left' held_now
+cut bytes held reader reader' left left' held_now machine refused begun now why so stops =
+    let tail : OpenLineOf left' so.reached.stream = stops.open_line so.reached.stream so.reached.is in
+    record {
+      answers = so.answers;
+      last = so.reached.state;
+      open_line = tail.open_line;
+      rest = tail.rest;
+      runs =
+          subst (λ all. Runs start bytes all so.reached.state (tail.open_line ++ tail.rest)) (append-nil so.answers)
+          (so.reached.goes_on [] so.reached.state (tail.open_line ++ tail.rest) (subst (λ s. Runs so.reached.state so.reached.stream [] so.reached.state s) tail.is stop));
+      no_end = tail.no_end;
+      left = tail.told;
+      text = so.text;
+    }
+
+-- the source stopped at the limit
+pub full : (bytes held : List ℕ) (reader reader' : Reader) (left left' held_now : Option (List ℕ)) (machine : Machine) (refused : Bool) (begun now : ℕ)
+    → SoFar bytes held reader left held_now machine refused begun now → Stops reader left reader' left' LineStop.TooMuch → TakesAll (2 ^ 40) bytes left'
+full bytes held reader reader' left left' held_now machine refused begun now so stops =
+    let tail : OpenLineOf left' so.reached.stream = stops.open_line so.reached.stream so.reached.is in
+    let paid : reader'.room + length so.reached.is.rest ≡ reader.room + length tail.rest = stops.charged so.reached.is.rest tail.rest so.reached.is.told tail.told in
+    let none : reader'.room ≡ 0 = stops.full refl in
+    record { rest = tail.rest; left = tail.told; taken = omega (arith, paid, none, so.reached.taken) }
+
+-- all lines were answered, by the status of the end
+pub finished : (bytes held : List ℕ) (reader reader' : Reader) (left left' held_now held' : Option (List ℕ)) (machine : Machine) (refused : Bool) (begun now : ℕ) (status : Status)
+    → SoFar bytes held reader left held_now machine refused begun now → Ends reader left reader' left' → Keeps held_now held' → status ≡ (if refused then Status.Refused else Status.Done)
+    → Finishes bytes held status held' begun now
+finished bytes held reader reader' left left' held_now held' machine refused begun now status so ends keeps is =
+    let none : so.reached.stream ≡ [] = (ends.empty so.reached.stream so.reached.is).0 in
+    record {
+      answers = so.answers;
+      last = so.reached.state;
+      runs =
+          subst (λ all. Runs start bytes all so.reached.state []) (append-nil so.answers)
+          (so.reached.goes_on [] so.reached.state [] (subst (λ s. Runs so.reached.state so.reached.stream [] so.reached.state s) none stop));
+      text = kept held_now held' (held ++ texts_of so.answers) so.text keeps;
+      status_is = is ∙ ap (λ b. if b then Status.Refused else Status.Done) so.refusals;
+      steps = so.cost;
+    }
+
+-- all lines were answered, and the sink failed at its end
+pub unfinished : (bytes held : List ℕ) (reader reader' : Reader) (left left' held_now held' : Option (List ℕ)) (machine : Machine) (refused : Bool) (begun now : ℕ)
+    → SoFar bytes held reader left held_now machine refused begun now → Ends reader left reader' left' → Keeps held_now held' → BreaksOff bytes held left' held'
+unfinished bytes held reader reader' left left' held_now held' machine refused begun now so ends keeps =
+    let empty = ends.empty so.reached.stream so.reached.is in
+    let none : StreamIs reader' left' [] = empty.1 in
+    record {
+      answers = so.answers;
+      last = so.reached.state;
+      pending = pending reader';
+      rest = none.rest;
+      shown = texts_of so.answers;
+      hidden = [];
+      runs =
+          subst (λ all. Runs start bytes all so.reached.state (pending reader' ++ none.rest)) (append-nil so.answers)
+          (so.reached.goes_on [] so.reached.state (pending reader' ++ none.rest) (subst (λ s. Runs so.reached.state so.reached.stream [] so.reached.state s) (empty.0 ∙ none.is) stop));
+      left = none.told;
+      parts = sym (append-nil (texts_of so.answers));
+      text = kept held_now held' (held ++ texts_of so.answers) so.text keeps;
+    }
+
+-- a count that rose in a call rose since the start
+pub rose_since : (start now later : ℕ) → start ≤ now → Rose now later → Rose start later
+rose_since start now later before (inl rose) = inl (omega (arith, rose))
+rose_since start now later before (inr full) = inr full
+
+-- a reader that had not stopped failed now
+pub failed_now : (before now : ℕ) (stop_before : Option LineStop) → stop_before ≡ None → Rose before now ⊎ (stop_before ≡ Some LineStop.Failed) → Rose before now
+failed_now before now stop_before none (inl rose) = rose
+failed_now before now stop_before none (inr again) = absurd (never (sym none ∙ again))
+  where
+    never : None ≡ Some LineStop.Failed → ⊥
+    never e = cc
+
+-- after a line a reader has not stopped
+pub still_goes : (reader reader' : Reader) (left left' : Option (List ℕ)) (l : Line) → ReadsOn reader left reader' left' (outcome (Ok (Some l))) → reader'.stopped ≡ None
+still_goes reader reader' left left' (Whole text) reads = reads.goes
+still_goes reader reader' left left' TooLong reads = reads.goes
+
+-- the end by what closing the sink answered
+pub closed_end : (refused : Bool) (status : Status) (before after : Outside) (faults_now : ℕ)
+    → before.write_faults ≤ faults_now → Closed refused status faults_now after.write_faults after.settled
+    → ((s : Status) → s ≡ (if refused then Status.Refused else Status.Done) → Told before (λ bytes held. Finishes bytes held s after.held before.steps after.steps))
+    → Told before (λ bytes held. BreaksOff bytes held after.left after.held)
+    → Ended status before after
+closed_end refused Status.Done before after faults_now later closed all broken =
+    record { settled = closed.1; told = all Status.Done (sym (ap (λ b. if b then Status.Refused else Status.Done) closed.0)) }
+closed_end refused Status.Refused before after faults_now later closed all broken =
+    record { settled = closed.1; told = all Status.Refused (sym (ap (λ b. if b then Status.Refused else Status.Done) closed.0)) }
+closed_end refused Status.Usage before after faults_now later closed all broken = absurd closed
+closed_end refused Status.ReadFault before after faults_now later closed all broken = absurd closed
+closed_end refused Status.WriteFault before after faults_now later closed all broken =
+    record { cause = rose_since before.write_faults faults_now after.write_faults later closed; told = broken }
+closed_end refused Status.Memory before after faults_now later closed all broken = absurd closed
+closed_end refused Status.TooMuch before after faults_now later closed all broken = absurd closed
+
+-- what the status of too much says
+pub too_much : (status : Status) (before after : Outside) → Ended status before after → status ≡ Status.TooMuch → Told before (λ bytes held. TakesAll (2 ^ 40) bytes after.left)
+too_much Status.Done before after end is = cc
+too_much Status.Refused before after end is = cc
+too_much Status.Usage before after end is = cc
+too_much Status.ReadFault before after end is = cc
+too_much Status.WriteFault before after end is = cc
+too_much Status.Memory before after end is = cc
+too_much Status.TooMuch before after end is = end.taken

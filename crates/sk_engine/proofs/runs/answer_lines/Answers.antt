@@ -1,0 +1,77 @@
+use Rattle.std.proofs.Common.{arith, ◌≤◌, ◌≡◌, ◌||◌, Bool, true, false, Err, ap, sym, refl, ◌∙◌}
+use Rattle.sk_io.specs.declared.line.LineStop.TheVariants as LineStop
+use Rattle.sk_engine.proofs.RunLemmas.{begins, never_begun, finished, unfinished, cut, full, lost, unwritten, more_put, rose_since, failed_now, still_goes, closed_end}
+use Rattle.sk_engine.proofs.runs.answer_lines.Goals as goal
+
+pub returns-in_default : goal.returns-in_default
+returns-in_default g c = λ bytes held told holds. never_begun bytes held _ _ told holds
+
+pub lines-init : goal.lines-init
+lines-init g c = record {
+  goes = ap (λ r. r.stopped) c.in-Ok.ensures;
+  read_later = omega arith;
+  write_later = omega arith;
+  told = λ bytes held told holds. begins bytes held _ _ _ _ _ c.in-Ok.ensures told holds c.new-machine.ensures;
+}
+
+pub returns-in-Ok-None : goal.returns-in-Ok-None
+returns-in-Ok-None g c =
+    let reads = rw (c.in-Ok-None.is, c.in-Ok-None.field-0-is) at c.next.follows.holds-at-none in
+    let so = c.lines.invariant in
+    closed_end _ _ _ _ _ so.write_later c.close.ensures.closed
+    (λ status is bytes held told holds. finished bytes held _ _ _ _ _ _ _ _ _ _ status (so.told bytes held told holds) (reads.goes_on so.goes) c.close.ensures.held is)
+    (λ bytes held told holds. unfinished bytes held _ _ _ _ _ _ _ _ _ _ (so.told bytes held told holds) (reads.goes_on so.goes) c.close.ensures.held)
+
+pub returns-in-Err-Failed : goal.returns-in-Err-Failed
+returns-in-Err-Failed g c =
+    let reads = rw (c.in-Err-Failed.is, c.in-Err-Failed.field-0-is) at c.next.follows.holds-at-none in
+    let so = c.lines.invariant in
+    record {
+      cause = rose_since _ _ _ so.read_later (failed_now _ _ _ so.goes (c.in-Err-Failed.ensures.cause.failed (ap Err c.in-Err-Failed.field-0-is)));
+      told = λ bytes held told holds. cut bytes held _ _ _ _ _ _ _ _ _ LineStop.Failed (so.told bytes held told holds) (reads.goes_on so.goes);
+    }
+
+pub returns-in-Err-TooMuch : goal.returns-in-Err-TooMuch
+returns-in-Err-TooMuch g c =
+    let reads = rw (c.in-Err-TooMuch.is, c.in-Err-TooMuch.field-0-is) at c.next.follows.holds-at-none in
+    let so = c.lines.invariant in
+    record {
+      told = λ bytes held told holds. cut bytes held _ _ _ _ _ _ _ _ _ LineStop.TooMuch (so.told bytes held told holds) (reads.goes_on so.goes);
+      taken = λ bytes held told holds. full bytes held _ _ _ _ _ _ _ _ _ (so.told bytes held told holds) (reads.goes_on so.goes);
+    }
+
+pub returns-in_default-answer_line : goal.returns-in_default-answer_line
+returns-in_default-answer_line g c =
+    let reads = rw (c.in-Ok-Some.is, c.in-Ok-Some.field-0-is) at c.next.follows.holds-at-none in
+    let so = c.lines.invariant in
+    λ bytes held told holds. lost bytes held _ _ _ _ _ _ _ _ _ c.in-Ok-Some.line (so.told bytes held told holds) (reads.goes_on so.goes)
+
+pub returns-in_default-into_text : goal.returns-in_default-into_text
+returns-in_default-into_text g c =
+    let reads = rw (c.in-Ok-Some.is, c.in-Ok-Some.field-0-is) at c.next.follows.holds-at-none in
+    let so = c.lines.invariant in
+    λ bytes held told holds. lost bytes held _ _ _ _ _ _ _ _ _ c.in-Ok-Some.line (so.told bytes held told holds) (reads.goes_on so.goes)
+
+pub returns-in_default-put_all : goal.returns-in_default-put_all
+returns-in_default-put_all g c =
+    let reads = rw (c.in-Ok-Some.is, c.in-Ok-Some.field-0-is) at c.next.follows.holds-at-none in
+    let so = c.lines.invariant in
+    record {
+      cause = rose_since _ _ _ so.write_later (c.in_default-put_all.ensures.cause.failed refl);
+      told = λ bytes held told holds.
+          unwritten bytes held _ _ _ _ _ _ _ _ _ _ _ c.in-Ok-Some.line c.in-Ok-answer_line.response _ (so.told bytes held told holds) (reads.goes_on so.goes) c.in-Ok-answer_line.ensures.answered
+          (c.as_bytes.ensures.value ∙ c.in-Ok-into_text.ensures) c.in_default-put_all.ensures.err;
+    }
+
+pub lines-preserved : goal.lines-preserved
+lines-preserved g c =
+    let reads = rw (c.in-Ok-Some.is, c.in-Ok-Some.field-0-is) at c.next.follows.holds-at-none in
+    let so = c.lines.invariant in
+    record {
+      goes = still_goes _ _ _ _ c.in-Ok-Some.line (reads.goes_on so.goes);
+      read_later = omega (arith, so.read_later, c.in-Ok-Some.ensures.cause.later);
+      write_later = omega (arith, so.write_later, c.in-Ok-put_all.ensures.cause.later);
+      told = λ bytes held told holds.
+          more_put bytes held _ _ _ _ _ _ _ _ c.lines.refused _ _ _ _ c.in-Ok-Some.line c.in-Ok-answer_line.response _ (so.told bytes held told holds) (reads.goes_on so.goes) c.in-Ok-answer_line.ensures.answered
+          (c.as_bytes.ensures.value ∙ c.in-Ok-into_text.ensures) c.in-Ok-put_all.ensures.ok (ap (λ b. c.lines.refused || b) c.is_refusal-refused.ensures) c.in-Ok-answer_line.ensures.cost;
+    }

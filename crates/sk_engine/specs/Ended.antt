@@ -1,0 +1,59 @@
+-- The ends of a run over lines, by status.
+use Rattle.std.specs.Prelude.{◌≡◌, ℕ, ◌^◌, Bool, true, false, List, Option, Some}
+use Rattle.sk_io.specs.Causes.{Rose}
+use Rattle.sk_engine.specs.declared.status.Status.{Status}
+use Rattle.sk_engine.specs.declared.status.Status.TheVariants.{Done, Refused, Usage, ReadFault, WriteFault, Memory, TooMuch}
+use Rattle.sk_engine.specs.Ends.{Finishes, CutsShort, BreaksOff, TakesAll}
+
+-- what a run sees of its source, its sink and its counter
+pub record Outside : Type 0 where
+  pub left : Option (List ℕ)
+  pub read_faults : ℕ
+  pub held : Option (List ℕ)
+  pub write_faults : ℕ
+  pub settled : Bool
+  pub steps : ℕ
+
+-- where the source and the sink tell their bytes
+abbrev pub Told : Outside → (List ℕ → List ℕ → Type 0) → Type 0
+Told before P = (bytes held : List ℕ) → before.left ≡ Some bytes → before.held ≡ Some held → P bytes held
+
+-- the input was read to its end
+pub record EndsFinished (status : Status) (before after : Outside) : Type 0 where
+  pub settled : after.settled ≡ true
+  pub told : Told before (λ bytes held. Finishes bytes held status after.held before.steps after.steps)
+
+-- the source failed
+pub record EndsUnread (before after : Outside) : Type 0 where
+  pub cause : Rose before.read_faults after.read_faults
+  pub told : Told before (λ bytes held. CutsShort bytes held after.left after.held)
+
+-- the sink failed
+pub record EndsUnwritten (before after : Outside) : Type 0 where
+  pub cause : Rose before.write_faults after.write_faults
+  pub told : Told before (λ bytes held. BreaksOff bytes held after.left after.held)
+
+-- too many bytes were taken
+pub record EndsFull (before after : Outside) : Type 0 where
+  pub told : Told before (λ bytes held. CutsShort bytes held after.left after.held)
+  pub taken : Told before (λ bytes held. TakesAll (2 ^ 40) bytes after.left)
+
+-- what each status says
+abbrev pub Ended : Status → Outside → Outside → Type 0
+Ended Done before after = EndsFinished Done before after
+Ended Refused before after = EndsFinished Refused before after
+Ended Usage before after = ⊥
+Ended ReadFault before after = EndsUnread before after
+Ended WriteFault before after = EndsUnwritten before after
+Ended Memory before after = Told before (λ bytes held. BreaksOff bytes held after.left after.held)
+Ended TooMuch before after = EndsFull before after
+
+-- what closing the sink answers
+abbrev pub Closed : Bool → Status → ℕ → ℕ → Bool → Type 0
+Closed refused Done faults_before faults_after settled = (refused ≡ false) × (settled ≡ true)
+Closed refused Refused faults_before faults_after settled = (refused ≡ true) × (settled ≡ true)
+Closed refused Usage faults_before faults_after settled = ⊥
+Closed refused ReadFault faults_before faults_after settled = ⊥
+Closed refused WriteFault faults_before faults_after settled = Rose faults_before faults_after
+Closed refused Memory faults_before faults_after settled = ⊥
+Closed refused TooMuch faults_before faults_after settled = ⊥

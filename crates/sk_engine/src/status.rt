@@ -1,0 +1,40 @@
+//! How a run ends.
+ghost use Rattle.std.specs.Prelude.{◌≡◌};
+
+/// How a run ended.
+#[derive(Clone, Copy, Debug, PartialEq, Eq)]
+pub enum Status {
+    /// The input was read to its end, and no line was refused.
+    Done,
+    /// The input was read to its end, and a line was refused.
+    Refused,
+    /// The words are none of the forms.
+    Usage,
+    /// A source failed.
+    ReadFault,
+    /// The sink failed.
+    WriteFault,
+    /// Memory ran out.
+    Memory,
+    /// As many bytes of a source were taken as a run takes, without its end.
+    TooMuch,
+}
+
+impl Status {
+    ghost use Rattle.sk_engine.specs.Statuses.{code_of};
+
+    /// The number that the process ends with.
+    pub fn code(self) -> u8
+        ensures { result ≡ code_of self }
+    {
+        match self {
+            Status::Done => 0,
+            Status::Refused => 1,
+            Status::Usage => 2,
+            Status::ReadFault => 3,
+            Status::WriteFault => 4,
+            Status::Memory => 5,
+            Status::TooMuch => 6,
+        }
+    }
+}
