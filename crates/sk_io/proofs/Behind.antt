@@ -1,10 +1,10 @@
 -- What a source wrote into a part of a buffer.
-use Rattle.std.proofs.Common.{◌≡◌, ◌≤◌, ◌<◌, ◌+◌, ◌-◌, ℕ, List, ◌++◌, Option, length, take, drop, sym, ap, ◌∙◌, arith}
-use Rattle.std.proofs.lemmas.List.{take-append-le, drop-append-le, length-take}
+use Rattle.std.proofs.Common.{◌≡◌, ◌≤◌, ◌<◌, ◌+◌, ◌-◌, ℕ, List, ◌++◌, Option, length, take, sym, ap, ◌∙◌, arith}
+use Rattle.std.proofs.lemmas.List.{take-append-le, length-take}
 use Rattle.std.proofs.Math.Seq.{take-append-add}
 use Rattle.std.specs.Io.KnownBytes.{Consumes, IsAtEnd}
 use borrow.Rule.Slice.PartMut.{put_mid, post_of}
-use Rattle.sk_io.specs.Steps.{WritesBehind, TakesMore}
+use Rattle.sk_io.specs.Steps.{WritesBehind}
 
 -- the front of a buffer, with what was written behind `end`
 front_written : (old buf : List ℕ) (end k n : ℕ) → end ≤ length old → n ≤ length buf → take (end + n) (put_mid end k old buf) ≡ take end old ++ take n buf
@@ -27,18 +27,4 @@ writes_behind old buf left left' end most n some fits len short bytes =
       front = front_written old buf end (end + most - end) n (omega arith) short;
       told = bytes.0;
       at_end = λ none. bytes.1 none wide;
-    }
-
--- a part that ends where the buffer was written is longer by what was written
-pub takes_more : (held old new : List ℕ) (left left' : Option (List ℕ)) (start end here most n : ℕ) → start ≤ end → end ≤ length old → here ≤ most
-    → drop start (take end old) ≡ held → WritesBehind old new left left' end here n → TakesMore held (drop start (take (end + n) new)) left left' most n
-takes_more held old new left left' start end here most n ordered inside less same w =
-    let len : length (take end old) ≡ end = simp length-take (omega arith) in
-    record {
-      bound = omega (arith, w.bound);
-      taken = w.taken;
-      count = w.count;
-      held = ap (λ l. drop start l) w.front ∙ drop-append-le start (take end old) w.taken (omega arith) ∙ ap (λ l. l ++ w.taken) same;
-      told = w.told;
-      at_end = w.at_end;
     }

@@ -17,9 +17,11 @@ no_end_both (x ∷ xs) ys p q = (p.0, no_end_both xs ys p.1 q)
 pub no_end_same : (xs ys : List ℕ) → xs ≡ ys → NoLineEnd xs → NoLineEnd ys
 no_end_same xs ys e h = subst NoLineEnd e h
 
+-- the first byte is an end
 ends_first : (x : ℕ) (xs : List ℕ) → x ≡ 10 → EndsAt (x ∷ xs) 0
 ends_first x xs e = record { no_end = tt; inside = omega arith; is = ap (λ b. b ∷ xs) e }
 
+-- a byte that is no end stands before the others
 ends_cons : (x n : ℕ) (xs : List ℕ) → x ≢ 10 → EndsAt xs n → EndsAt (x ∷ xs) (suc n)
 ends_cons x n xs ne h =
     let step : suc (n + 1) ≡ suc n + 1 = omega arith in
@@ -29,9 +31,11 @@ ends_cons x n xs ne h =
       is = ap (λ w. x ∷ w) h.is ∙ ap (λ k. x ∷ (take n xs ++ 10 ∷ drop k (x ∷ xs))) step;
     }
 
+-- what the test of a byte says where it is true
 test_true : (x : ℕ) → (x == 10) ≡ true → x ≡ 10
 test_true x e = grind (arith, nat_tests)
 
+-- what the test of a byte says where it is false
 test_false : (x : ℕ) → (x == 10) ≡ false → x ≢ 10
 test_false x e = λ h. grind (arith, nat_tests)
 
@@ -39,6 +43,7 @@ test_false x e = λ h. grind (arith, nat_tests)
 abbrev IsFront : List ℕ → ℕ → Type 0
 IsFront xs n = EndsAt xs n ⊎ (NoLineEnd xs × (n ≡ length xs))
 
+-- the number of bytes before the first end, with a byte more
 front_cons : (x n : ℕ) (xs : List ℕ) (b : Bool) → (x == 10) ≡ b → IsFront xs n → IsFront (x ∷ xs) (cond (not b) (1 + n) 0)
 front_cons x n xs true e h = inl (ends_first x xs (test_true x e))
 front_cons x n xs false e (inl h) =
@@ -46,16 +51,20 @@ front_cons x n xs false e (inl h) =
     inl (subst (λ k. EndsAt (x ∷ xs) k) step (ends_cons x n xs (test_false x e) h))
 front_cons x n xs false e (inr h) = inr ((test_false x e, h.0), omega (arith, h.1))
 
+-- the number of bytes before the first end
 front : (xs : List ℕ) → IsFront xs (position_or_len (λ b. b == 10) xs)
 front [] = inr (tt, refl)
 front (x ∷ xs) = front_cons x (position_or_len (λ b. b == 10) xs) xs (x == 10) refl (front xs)
 
+-- the test of a number below another
 lt_true : (m n : ℕ) → m < n → nat_lt m n ≡ true
 lt_true m n h = grind (arith, nat_tests)
 
+-- the test of equal numbers
 lt_false : (m n : ℕ) → m ≡ n → nat_lt m n ≡ false
 lt_false m n h = grind (arith, nat_tests)
 
+-- what the number of bytes before the first end answers
 found_by : (xs : List ℕ) (n : ℕ) (r : Option ℕ) → r ≡ cond (nat_lt n (length xs)) (Some n) None → IsFront xs n → MatchOption r (NoLineEnd xs) (EndsAt xs)
 found_by xs n r e (inl h) =
     let is : r ≡ Some n = e ∙ ap (λ b. cond b (Some n) None) (lt_true n (length xs) h.inside) in

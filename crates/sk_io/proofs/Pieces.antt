@@ -55,6 +55,7 @@ put_whole (Some xs) (Some ys) piece (r ∷ rest) so_far none = absurd (omega ari
 pub rest_short : (old now : Option (List ℕ)) (piece rest : List ℕ) → PutSoFar old now piece rest → length rest ≤ length piece
 rest_short old now piece rest so_far = omega (arith, length-append so_far.put rest, ap length so_far.whole)
 
+-- the front of a join
 take-exact : (n : ℕ) (xs ys : List ℕ) → length xs ≡ n → take n (xs ++ ys) ≡ xs
 take-exact n xs ys e = take-append-le n xs ys (omega arith) ∙ ap (λ k. take k xs) (sym e) ∙ take-length xs
 
@@ -73,10 +74,12 @@ gives_front bytes buf new at n le e =
 pub ends_there : (bytes : List ℕ) (at room piece n : ℕ) → 1 ≤ piece → 0 < room → n ≡ min (min room piece) (length bytes - at) → n ≡ 0 → drop (at + n) bytes ≡ []
 ends_there bytes at room piece n some wide e none = drop_all (at + n) bytes (omega arith)
 
+-- a test joined with a false one
 both_false : (was : Bool) → (was && false) ≡ false
 both_false true = refl
 both_false false = refl
 
+-- a number is not a greater one
 not_same : (m n : ℕ) → m < n → (m == n) ≡ false
 not_same m n lt = grind (arith, nat_tests)
 

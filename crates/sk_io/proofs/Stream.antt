@@ -289,6 +289,7 @@ ends old lo mid lm before o none e =
       charged = charged old lo mid lm [] before;
     }
 
+-- a line that is too long was passed over up to its end
 passed_end : (old : Reader) (lo : Option (List ℕ)) (new : Reader) (ln : Option (List ℕ)) (line : List ℕ) → NoLineEnd line → MAX_LINE < length line → new.stopped ≡ None
     → Passes old lo new ln (line ++ 10 ∷ []) → PassesOver old lo new ln
 passed_end old lo new ln line none long goes p = record {
@@ -308,6 +309,7 @@ passed_end old lo new ln line none long goes p = record {
   charged = charged old lo new ln (line ++ 10 ∷ []) p;
 }
 
+-- a line that is too long was passed over up to the end of the source
 passed_all : (old : Reader) (lo : Option (List ℕ)) (new : Reader) (ln : Option (List ℕ)) (line : List ℕ) → NoLineEnd line → MAX_LINE < length line → new.stopped ≡ None
     → Passes old lo new ln line → IsOver new ln → PassesOver old lo new ln
 passed_all old lo new ln line none long goes p is_over = record {
@@ -329,6 +331,7 @@ passed_all old lo new ln line none long goes p is_over = record {
   charged = charged old lo new ln line p;
 }
 
+-- it was passed over in one of these ways
 either_way : (old : Reader) (lo : Option (List ℕ)) (mid : Reader) (lm : Option (List ℕ)) (new : Reader) (ln : Option (List ℕ)) (line : List ℕ) → NoLineEnd line
     → MAX_LINE < length line → new.stopped ≡ None → Passes old lo mid lm []
     → Passes mid lm new ln (line ++ 10 ∷ []) ⊎ (Passes mid lm new ln line × IsOver new ln) → PassesOver old lo new ln
@@ -374,10 +377,6 @@ pub record SearchSoFar (old : Reader) (lo : Option (List ℕ)) (now : Reader) (l
   pub passes : Passes old lo now ln []
   pub inside : seen ≤ length now.held
   pub no_end : NoLineEnd (take seen now.held)
-
--- the search begins
-pub search_none : (r : Reader) (left : Option (List ℕ)) → IsOpen r → SearchSoFar r left r left 0
-search_none r left o = record { is_open = o; passes = pass_none r left; inside = omega arith; no_end = tt }
 
 -- the search goes on behind what was held
 pub search_more : (old : Reader) (lo : Option (List ℕ)) (a : Reader) (la : Option (List ℕ)) (b : Reader) (lb : Option (List ℕ)) (seen n : ℕ) → SearchSoFar old lo a la seen
@@ -433,10 +432,7 @@ pub record SkipSoFar (old : Reader) (lo : Option (List ℕ)) (now : Reader) (ln 
   pub no_end : NoLineEnd (over ++ now.held)
   pub long : length old.held ≤ length (over ++ now.held)
 
--- nothing was passed over yet
-pub skip_none : (r : Reader) (left : Option (List ℕ)) → IsOpen r → NoLineEnd r.held → SkipSoFar r left r left
-skip_none r left o none = record { is_open = o; over = []; passes = pass_none r left; no_end = none; long = omega arith }
-
+-- all that is held is passed over
 held_skipped : (old : Reader) (lo : Option (List ℕ)) (a : Reader) (la : Option (List ℕ)) → SkipSoFar old lo a la → SkipSoFar old lo (record a { held = []; given = 0 }) la
 held_skipped old lo a la so_far =
     let same : so_far.over ++ a.held ≡ (so_far.over ++ a.held) ++ [] = search rules in
@@ -470,6 +466,7 @@ skip_more old lo a la b lb n so_far empty f none = record {
   long = omega (arith, so_far.long, ap length empty, length-append so_far.over a.held, length-append so_far.over b.held);
 }
 
+-- the end of the line is held, and passed over with it
 skip_found : (old : Reader) (lo : Option (List ℕ)) (a : Reader) (la : Option (List ℕ)) (b : Reader) (lb : Option (List ℕ)) (n at : ℕ) → SkipSoFar old lo a la → a.held ≡ []
     → Fills a la b lb n → EndsAt b.held at → Skips old lo (record b { given = at + 1 }) lb
 skip_found old lo a la b lb n at so_far empty f end =

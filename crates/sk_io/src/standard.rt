@@ -1,7 +1,8 @@
 //! Sources and sinks over the readers and writers of std.
 ghost use Rattle.std.specs.Prelude.{◌≡◌, ◌<◌, ℕ, Bool, false, List, None, Option, IfOk, length};
 ghost use Rattle.std.specs.Io.{ReadsAtMost, WritesAtMost};
-ghost use Rattle.sk_io.specs.Standard.{source_faults, sink_faults, sink_settled};
+ghost use Rattle.std.specs.Io.KnownBytes.{Keeps, ReadConsumes, WriteAppends};
+ghost use Rattle.sk_io.specs.Standard.{source_reader, source_faults, sink_writer, sink_faults, sink_settled};
 
 use crate::{Failed, Sink, Source};
 use std::io::{ErrorKind, Read, Write};
@@ -9,7 +10,7 @@ use std::io::{ErrorKind, Read, Write};
 /// How often a call that was interrupted is tried before it counts as a fault.
 const TRIES: u32 = 64;
 
-/// A source over a reader of std. It tells only its faults.
+/// A source over a reader of std. It tells what the reader tells, and its faults.
 #[derive(Debug, Drop)]
 pub struct StdSource<T: Drop> {
     reader: T,
@@ -19,6 +20,7 @@ pub struct StdSource<T: Drop> {
 impl<T: Read + Drop> StdSource<T> {
     /// A source that has not failed.
     pub fn new(reader: T) -> StdSource<T>
+        ensures reader { source_reader result ≡ reader }
         ensures faults { source_faults result ≡ 0 }
     {
         StdSource { reader, failed: 0 }
@@ -27,9 +29,10 @@ impl<T: Read + Drop> StdSource<T> {
 
 // One read, tried again where it was interrupted.
 fn read_some<T: Read>(reader: &mut T, buf: &mut [u8]) -> Result<usize, Failed>
-    ensures { ReadsAtMost result buf.new }
+    ensures bound { ReadsAtMost result buf.new }
+    ensures bytes { ReadConsumes (T.remaining reader.old) (T.remaining reader.new) result buf.new }
 {
-    for _ in 0..TRIES {
+    'tries: for _ in 0..TRIES {
         match reader.read(buf) {
             Ok(n) => return Ok(n),
             Err(error) => {
@@ -43,7 +46,7 @@ fn read_some<T: Read>(reader: &mut T, buf: &mut [u8]) -> Result<usize, Failed>
 }
 
 impl<T: Read + Drop> Source for StdSource<T> {
-    ghost left = { λ _. None };
+    ghost left = { λ s. T.remaining (source_reader s) };
 
     ghost faults = { source_faults };
 
@@ -56,7 +59,7 @@ impl<T: Read + Drop> Source for StdSource<T> {
     }
 }
 
-/// A sink over a writer of std. It tells only its faults and whether it is settled.
+/// A sink over a writer of std. It tells what the writer tells, its faults, and whether it is settled.
 #[derive(Debug, Drop)]
 pub struct StdSink<T: Drop> {
     writer: T,
@@ -67,6 +70,7 @@ pub struct StdSink<T: Drop> {
 impl<T: Write + Drop> StdSink<T> {
     /// A sink that has not failed.
     pub fn new(writer: T) -> StdSink<T>
+        ensures writer { sink_writer result ≡ writer }
         ensures faults { sink_faults result ≡ 0 }
         ensures settled { sink_settled result ≡ false }
     {
@@ -82,8 +86,9 @@ impl<T: Write + Drop> StdSink<T> {
 fn write_some<T: Write>(writer: &mut T, piece: &[u8]) -> Result<usize, Failed>
     ensures bound { WritesAtMost result piece.now }
     ensures some { IfOk result (λ n. 0 < length piece.now → 0 < n) }
+    ensures bytes { WriteAppends (T.contents writer.old) (T.contents writer.new) result piece.now }
 {
-    for _ in 0..TRIES {
+    'tries: for _ in 0..TRIES {
         match writer.write(piece) {
             Ok(n) => {
                 if n == 0 && !piece.is_empty() {
@@ -102,7 +107,7 @@ fn write_some<T: Write>(writer: &mut T, piece: &[u8]) -> Result<usize, Failed>
 }
 
 impl<T: Write + Drop> Sink for StdSink<T> {
-    ghost held = { λ _. None };
+    ghost held = { λ s. T.contents (sink_writer s) };
 
     ghost faults = { sink_faults };
 

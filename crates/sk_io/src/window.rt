@@ -12,7 +12,7 @@ use std::marker::Model;
 
 /// How many bytes a window can hold: more than two lines, so that a line is moved to the front only
 /// once more than it was dropped there.
-pub(crate) const WINDOW_LEN: usize = 2_097_154;
+pub(crate) const WINDOW_LEN: usize = 2 * MAX_LINE + 2;
 
 /// The bytes that were taken and not dropped.
 #[derive(Drop)]
@@ -130,7 +130,7 @@ fn take_behind<S: Source>(
 fn first_end(bytes: &[u8]) -> Option<usize>
     ensures { result ≡ position (λ b. b == 10) bytes.now }
 {
-    bytes.iter().position(|b| *b == 10)
+    bytes.iter().position(|b| *b == b'\n')
 }
 
 /// The place of the first line's end, which is not among the first `seen` bytes.
