@@ -1,6 +1,7 @@
 //! The types that all crates share: texts, schemas, records and edits, finds, ranks and reports.
 #![tactic(auto)]
 
+mod bytes;
 mod command;
 mod find;
 mod items;
@@ -10,6 +11,7 @@ mod report;
 mod schema;
 mod text;
 
+pub use bytes::Bytes;
 pub use command::Command;
 pub use find::{Ask, Find, Join, Scheme};
 pub use items::Items;

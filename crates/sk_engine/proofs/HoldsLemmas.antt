@@ -1,16 +1,13 @@
 -- The index with one document more holds it too.
-use Rattle.std.proofs.Common.{◌≡◌, ◌<◌, ◌≤◌, ◌+◌, ℕ, suc, Bool, true, false, cond, if◌then◌else◌, List, [], ◌∷◌, ◌++◌, length, map, nat_lt, Option, Some, None, count_by, bytes_eq, append-nil, refl, sym, ap, ◌∙◌, subst, arith}
-use Rattle.std.specs.List.{filter_map, cons_option}
+use Rattle.std.proofs.Common.{◌≡◌, ◌<◌, ◌≤◌, ◌+◌, ℕ, Bool, true, false, if◌then◌else◌, List, [], ◌∷◌, ◌++◌, nat_lt, Some, None, append-nil, refl, sym, ap, ◌∙◌, subst, arith}
+use Rattle.std.specs.List.{cons_option}
 use Rattle.std.proofs.lemmas.List.Elements.{filter_map-append}
-use Rattle.std.proofs.lemmas.Bool.Decides.{nat_tests}
-use Rattle.sk_lists.specs.declared.posting.Posting.{Posting}
 use Rattle.sk_lists.specs.Postings.{Postings, LieBelow, put}
 use Rattle.sk_lists.proofs.PostingLaws.{put-after}
 use Rattle.sk_model.specs.Documents.{Document}
 use Rattle.sk_model.specs.Edits.{Live, with_next}
 use Rattle.sk_model.specs.Scores.{wdf_of}
 use Rattle.sk_engine.specs.Adding.{noted, NotesWords}
-use Rattle.sk_engine.specs.Listed.{list_of}
 use Rattle.sk_engine.specs.Holds.{Holds, postings, posting_in}
 use Rattle.sk_engine.specs.declared.index.Index.{Index}
 

@@ -1,10 +1,9 @@
 -- How a machine goes from state to state.
-use Rattle.std.proofs.Common.{◌≡◌, ◌<◌, ◌≤◌, ℕ, Bool, true, false, if◌then◌else◌, List, [], ◌∷◌, length, nat_lt, Option, Some, None, refl, sym, ap, ◌∙◌, subst, arith}
+use Rattle.std.proofs.Common.{◌≡◌, ◌≤◌, ℕ, false, if◌then◌else◌, List, length, nat_lt, Option, Some, None, refl, sym, ap, ◌∙◌, subst, arith}
 use Rattle.std.proofs.lemmas.Bool.Decides.{nat_tests}
 use Rattle.serde_json.specs.Data.{Data}
 use Rattle.sk_io.specs.declared.line.TheConstants.{MAX_LINE}
 use Rattle.sk_base.specs.declared.command.Command.{Command}
-use Rattle.sk_base.specs.declared.command.Command.TheVariants as Command
 use Rattle.sk_base.specs.declared.find.Find.{Find}
 use Rattle.sk_base.specs.declared.schema.Field.{Field}
 use Rattle.sk_engine.specs.declared.machine.Machine.{Machine}
@@ -13,14 +12,12 @@ use Rattle.sk_engine.specs.declared.session.Answer.{Answer}
 use Rattle.sk_engine.specs.declared.session.Answer.TheVariants.{Found}
 use Rattle.sk_engine.specs.declared.refusal.Refusal.TheVariants as Refusal
 use Rattle.sk_engine.specs.declared.response.Response.{Response}
-use Rattle.sk_engine.specs.declared.response.Response.TheVariants as Response
 use Rattle.sk_engine.specs.Values.{line_value}
-use Rattle.sk_engine.specs.Commands.{command_of}
 use Rattle.sk_engine.specs.Faults.{IsCommand}
 use Rattle.sk_engine.specs.Meaning.{Meaning, blank, refusal, command, is_blank, meaning, meaning_of_value, meaning_of_command}
-use Rattle.sk_engine.specs.Sessions.{SessionHolds, fields_of, IsAnswer, response_of}
-use Rattle.sk_engine.specs.Output.{State, start, Answers, Obeys, Follows}
-use Rattle.sk_engine.specs.Machines.{StandsFor, IsAt, schema_in, Meets, Obeyed, Answered}
+use Rattle.sk_engine.specs.Sessions.{SessionHolds, IsAnswer, response_of}
+use Rattle.sk_engine.specs.Output.{State, Obeys, Follows}
+use Rattle.sk_engine.specs.Machines.{StandsFor, schema_in, Obeyed, Answered}
 use Rattle.sk_model.specs.Edits.{Live}
 
 -- a session that was only read answers a find

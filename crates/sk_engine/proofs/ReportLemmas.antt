@@ -1,24 +1,22 @@
 -- The report over the list of a term is one that the find may have.
-use Rattle.std.proofs.Common.{◌≡◌, ◌<◌, ◌≤◌, ◌+◌, ◌-◌, ◌/◌, ℕ, suc, max, min, Bool, true, false, cond, if◌then◌else◌, List, [], ◌∷◌, ◌++◌, length, map, take, drop, nat_lt, count_by, sum_by, Option, Some, None, option_map, refl, sym, ap, ◌∙◌, subst, arith, length-drop, unwrap_or}
+use Rattle.std.proofs.Common.{◌≡◌, ◌≤◌, ◌+◌, ℕ, max, min, Bool, true, false, cond, if◌then◌else◌, List, [], ◌∷◌, length, map, drop, nat_lt, count_by, Some, None, option_map, refl, sym, ap, ◌∙◌, subst, arith, length-drop}
 use Rattle.std.specs.List.{filter_map, cons_option}
 use Rattle.std.proofs.lemmas.List.{length-map, length-take}
 use Rattle.std.proofs.lemmas.List.Sums.{sum_by-cons}
 use Rattle.std.proofs.lemmas.Bool.Decides.{nat_tests}
 use Rattle.sk_base.specs.declared.find.Find.{Find}
-use Rattle.sk_base.specs.declared.find.Ask.{Ask}
 use Rattle.sk_base.specs.declared.find.Scheme.{Scheme}
 use Rattle.sk_base.specs.declared.rank.Rank.{Rank}
 use Rattle.sk_base.specs.declared.report.Report.{Report}
-use Rattle.sk_lists.specs.declared.posting.Posting.{Posting}
 use Rattle.sk_lists.specs.Postings.{Postings, greatest_wdf}
 use Rattle.sk_model.specs.Documents.{Document}
 use Rattle.sk_model.specs.Edits.{Live}
-use Rattle.sk_model.specs.Queries.{Query, term, query_of}
-use Rattle.sk_model.specs.Scores.{wdf_of, weigh, score}
+use Rattle.sk_model.specs.Queries.{term, query_of}
+use Rattle.sk_model.specs.Scores.{wdf_of, weigh}
 use Rattle.sk_model.specs.Matches.{matches, rank_of}
-use Rattle.sk_model.specs.Page.{kept, slice, best_first}
-use Rattle.sk_model.specs.Bounds.{length_of, greatest_in, greatest_of, ceil, static_count}
-use Rattle.sk_model.specs.Counts.{Counts, wanted, seen, duplicates}
+use Rattle.sk_model.specs.Page.{kept, slice}
+use Rattle.sk_model.specs.Bounds.{length_of, greatest_in, ceil, static_count}
+use Rattle.sk_model.specs.Counts.{Counts, wanted, seen}
 use Rattle.sk_model.specs.Allowance.{allowance}
 use Rattle.sk_model.specs.Reports.{hit_of, found_by, Reports}
 use Rattle.sk_model.proofs.OrderLaws.{length-best_first}

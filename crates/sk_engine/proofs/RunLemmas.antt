@@ -1,5 +1,5 @@
 -- How far a run over lines has come.
-use Rattle.std.proofs.Common.{◌≡◌, ◌<◌, ◌≤◌, ◌+◌, ◌^◌, ℕ, Bool, true, false, cond, ◌||◌, if◌then◌else◌, ◌⊎◌, inl, inr, List, [], ◌∷◌, ◌++◌, length, drop, Option, Some, None, Result, Ok, Err, sum_by, flat_map, refl, sym, ap, ◌∙◌, subst, arith, append_assoc, append-nil}
+use Rattle.std.proofs.Common.{◌≡◌, ◌<◌, ◌≤◌, ◌+◌, ◌^◌, ℕ, Bool, true, false, ◌||◌, if◌then◌else◌, ◌⊎◌, inl, inr, List, [], ◌∷◌, ◌++◌, length, Option, Some, None, Ok, sum_by, refl, sym, ap, ◌∙◌, subst, arith, append_assoc, append-nil}
 use Rattle.std.specs.List.{list_any}
 use Rattle.std.specs.Io.KnownBytes.{Appends, Keeps}
 use Rattle.std.proofs.lemmas.List.Sums.{sum_by-append}
@@ -8,21 +8,18 @@ use Rattle.std.proofs.lemmas.Grind.{flat_map-append}
 use Rattle.sk_io.specs.declared.line.Line.{Line}
 use Rattle.sk_io.specs.declared.line.Line.TheVariants.{Whole, TooLong}
 use Rattle.sk_io.specs.declared.line.LineStop.{LineStop}
-use Rattle.sk_io.specs.declared.line.LineStop.TheVariants as LineStop
 use Rattle.sk_io.specs.Causes.{Rose}
 use Rattle.sk_io.specs.Fronts.{AppendsFront, AppendsPrefix}
-use Rattle.sk_io.specs.LineText.{NoLineEnd, IsLine}
-use Rattle.sk_io.specs.Reading.{Reader, pending, reach, StreamIs, Outcome, ended, whole, too_long, stopped, outcome}
-use Rattle.sk_io.specs.Answers.{Charged, Ends, LineOf, Gives, LongLineOf, PassesOver, OpenLineOf, Stops, ReadsOn}
+use Rattle.sk_io.specs.Reading.{Reader, pending, StreamIs, outcome}
+use Rattle.sk_io.specs.Answers.{Charged, Ends, LineOf, LongLineOf, OpenLineOf, Stops, ReadsOn}
 use Rattle.sk_engine.specs.declared.machine.Machine.{Machine}
 use Rattle.sk_engine.specs.declared.response.Response.{Response}
 use Rattle.sk_engine.specs.declared.status.Status.{Status}
-use Rattle.sk_engine.specs.declared.status.Status.TheVariants as Status
 use Rattle.sk_engine.specs.Responses.{text_of, texts_of, is_refusal, steps_of}
 use Rattle.sk_engine.specs.Output.{State, start, Answers, Runs, stop, line}
 use Rattle.sk_engine.specs.Machines.{IsAt, Meets, Answered}
 use Rattle.sk_engine.specs.Lines.{AnsweredLine}
-use Rattle.sk_engine.specs.Ends.{finished_status, Finishes, CutsShort, BreaksOff, TakesAll}
+use Rattle.sk_engine.specs.Ends.{Finishes, CutsShort, BreaksOff, TakesAll}
 use Rattle.sk_engine.specs.Ended.{Outside, Told, Ended, Closed}
 
 -- the first lines of the bytes were answered, and the others are to come

@@ -1,15 +1,15 @@
 -- The members and items of JSON values, as the reader finds them.
-use Rattle.std.proofs.Common.{◌≡◌, ◌≢◌, ◌<◌, ◌≤◌, ℕ, suc, Bool, true, false, if◌then◌else◌, List, [], ◌∷◌, length, Option, Some, None, option_map, Bor, String, Global, string_bytes, refl, sym, ap, ◌∙◌, arith}
+use Rattle.std.proofs.Common.{◌≡◌, ◌≢◌, ℕ, suc, true, false, if◌then◌else◌, List, [], ◌∷◌, length, Option, Some, None, option_map, Bor, String, Global, string_bytes, refl, ap, ◌∙◌, arith}
 use Rattle.std.specs.List.{slice_get}
 use Rattle.std.specs.Option.{option_copied}
 use Rattle.std.specs.Str.{is_utf8, IsUtf8}
 use Rattle.std.proofs.lemmas.Str.{is_utf8-from_IsUtf8, IsUtf8-from_is_utf8}
-use Rattle.serde_json.specs.Data.{Data, null, boolean, number, string, array, object, Items, no_items, item, Members, no_members, member}
+use Rattle.serde_json.specs.Data.{Data, null, boolean, number, string, array, object, Items, Members}
 use Rattle.serde_json.specs.View.{view, items_view, members_view}
 use Rattle.serde_json.specs.Find.{as_object, as_array}
 use Rattle.serde_json.specs.Read.{read}
 use Rattle.serde_json.specs.declared.value.Value.{Value}
-use Rattle.sk_engine.specs.Values.{line_value, only_member, only_item, member_count, count_members}
+use Rattle.sk_engine.specs.Values.{line_value, only_member, only_item, count_members}
 
 abbrev pub Entry : Type 0
 Entry = String Global × Value

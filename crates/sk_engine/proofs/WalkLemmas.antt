@@ -1,12 +1,12 @@
 -- How far a walk for the matches of a list has come.
-use Rattle.std.proofs.Common.{◌≡◌, ◌<◌, ◌≤◌, ◌+◌, ◌-◌, ◌^◌, ℕ, List, [], ◌∷◌, ◌++◌, length, map, drop, min, Some, None, refl, sym, ap, ◌∙◌, arith}
+use Rattle.std.proofs.Common.{◌≡◌, ◌≤◌, ◌+◌, ◌-◌, ◌^◌, ℕ, List, [], ◌∷◌, ◌++◌, length, map, drop, Some, sym, ap, ◌∙◌, arith}
 use Rattle.std.proofs.lemmas.List.{map-append}
 use Rattle.sk_base.specs.declared.rank.Rank.{Rank}
 use Rattle.sk_base.specs.declared.find.Scheme.{Scheme}
 use Rattle.sk_lists.specs.declared.cursor.Cursor.{Cursor}
-use Rattle.sk_lists.specs.Postings.{Postings, ArePostings, from, first_id, first_wdf}
+use Rattle.sk_lists.specs.Postings.{Postings, from, first_id, first_wdf}
 use Rattle.sk_lists.specs.Cursor.{unread, left, IsOn}
-use Rattle.sk_lists.proofs.WalkLaws.{WalkedSoFar, walk_begins, walk_more, walk_ends, walk_stops, walk_shrinks}
+use Rattle.sk_lists.proofs.WalkLaws.{WalkedSoFar, walk_more, walk_stops}
 use Rattle.sk_model.specs.Scores.{weigh}
 use Rattle.sk_engine.specs.Found.{rank_in}
 

@@ -1,7 +1,6 @@
 -- Which finds a session takes.
 use Rattle.std.specs.Prelude.{◌≡◌, ◌≤◌, ◌+◌, true}
 use Rattle.sk_base.specs.declared.find.Ask.{Ask}
-use Rattle.sk_base.specs.declared.find.Ask.TheVariants as Ask
 use Rattle.sk_base.specs.declared.find.Find.{Find}
 use Rattle.sk_engine.specs.Commands.{is_asked_word}
 

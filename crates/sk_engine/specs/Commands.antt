@@ -5,9 +5,7 @@ use Rattle.std.specs.Char.{is_ascii_lowercase}
 use Rattle.serde_json.specs.Data.{Data}
 use Rattle.serde_json.specs.Find.{get, as_str}
 use Rattle.sk_base.specs.declared.command.Command.{Command}
-use Rattle.sk_base.specs.declared.command.Command.TheVariants as Command
 use Rattle.sk_base.specs.declared.record.Edit.{Edit}
-use Rattle.sk_base.specs.declared.record.Edit.TheVariants as Edit
 use Rattle.sk_base.specs.declared.record.FieldValue.TheVariants as FieldValue
 use Rattle.sk_base.specs.declared.find.Find.{Find}
 use Rattle.sk_base.specs.declared.find.Ask.TheVariants as Ask

@@ -1,8 +1,7 @@
 -- What the reader of command lines answers.
-use Rattle.std.specs.Prelude.{◌≡◌, ℕ, List, Option, Some, None, Result, Ok, Err}
+use Rattle.std.specs.Prelude.{◌≡◌, List, Option, Some, None, Result, Ok, Err}
 use Rattle.serde_json.specs.Data.{Data}
 use Rattle.sk_base.specs.declared.command.Command.{Command}
-use Rattle.sk_base.specs.declared.command.Command.TheVariants as Command
 use Rattle.sk_base.specs.declared.schema.Field.{Field}
 use Rattle.sk_model.specs.Edits.{FitsEdit}
 use Rattle.sk_engine.specs.declared.reader.LineFault.{LineFault}

@@ -1,13 +1,11 @@
 -- When a machine stands for the state of a run.
-use Rattle.std.specs.Prelude.{◌≡◌, ℕ, ◌+◌, List, Option, Some, None, option_map}
+use Rattle.std.specs.Prelude.{◌≡◌, ℕ, List, Option, Some, None, option_map}
 use Rattle.sk_base.specs.declared.schema.Field.{Field}
 use Rattle.sk_engine.specs.declared.machine.Machine.{Machine}
 use Rattle.sk_engine.specs.declared.session.Session.{Session}
 use Rattle.sk_engine.specs.declared.response.Response.{Response}
-use Rattle.sk_engine.specs.Responses.{steps_of}
 use Rattle.sk_engine.specs.Sessions.{SessionHolds, fields_of}
-use Rattle.sk_engine.specs.Output.{State, start, Answers, Obeys, Follows}
-use Rattle.sk_engine.specs.Meaning.{Meaning}
+use Rattle.sk_engine.specs.Output.{State, start, Answers, Obeys}
 use Rattle.sk_base.specs.declared.command.Command.{Command}
 
 -- Without a session nothing has happened; a session holds the schema and the live documents.

@@ -6,7 +6,6 @@ use Rattle.sk_io.specs.declared.line.TheConstants.{MAX_LINE}
 use Rattle.sk_base.specs.declared.command.Command.{Command}
 use Rattle.sk_base.specs.declared.schema.Field.{Field}
 use Rattle.sk_engine.specs.declared.refusal.Refusal.{Refusal}
-use Rattle.sk_engine.specs.declared.refusal.Refusal.TheVariants as Refusal
 use Rattle.sk_engine.specs.Values.{line_value}
 use Rattle.sk_engine.specs.Commands.{command_of}
 

@@ -2,13 +2,11 @@
 use Rattle.std.specs.Prelude.{◌≡◌, ℕ, List, [], ◌∷◌, length, Option, Some, None}
 use Rattle.sk_io.specs.LineText.{IsLine}
 use Rattle.sk_base.specs.declared.command.Command.{Command}
-use Rattle.sk_base.specs.declared.command.Command.TheVariants as Command
 use Rattle.sk_base.specs.declared.schema.Field.{Field}
 use Rattle.sk_base.specs.declared.report.Report.{Report}
 use Rattle.sk_model.specs.Edits.{Live, nothing_live, edited, reply_to}
 use Rattle.sk_model.specs.Reports.{Reports}
 use Rattle.sk_engine.specs.declared.response.Response.{Response}
-use Rattle.sk_engine.specs.declared.response.Response.TheVariants as Response
 use Rattle.sk_engine.specs.Responses.{response_to}
 use Rattle.sk_engine.specs.Meaning.{Meaning, blank, refusal, command, meaning}
 

@@ -1,12 +1,10 @@
 -- The text of an answer. Each line ends with the byte 10, and numbers are decimal.
-use Rattle.std.specs.Prelude.{ℕ, ◌+◌, Bool, true, false, List, [], ◌∷◌, ◌++◌, length, codes, decimal, sum_by, flat_map}
+use Rattle.std.specs.Prelude.{ℕ, ◌+◌, Bool, true, false, List, [], ◌∷◌, ◌++◌, length, codes, decimal, flat_map}
 use Rattle.json.specs.Print.{quoted}
 use Rattle.sk_base.specs.declared.record.Reply.{Reply}
-use Rattle.sk_base.specs.declared.record.Reply.TheVariants as Reply
 use Rattle.sk_base.specs.declared.report.Ranked.{Ranked}
 use Rattle.sk_base.specs.declared.report.Report.{Report}
 use Rattle.sk_engine.specs.declared.refusal.Refusal.{Refusal}
-use Rattle.sk_engine.specs.declared.refusal.Refusal.TheVariants as Refusal
 use Rattle.sk_engine.specs.declared.response.Response.{Response}
 use Rattle.sk_engine.specs.declared.response.Response.TheVariants.{Skipped, Refused, Schema, Id, Found}
 use Rattle.sk_engine.specs.Refusals.{number_of, name_of}

@@ -7,7 +7,6 @@ use Rattle.sk_model.specs.Reports.{Reports}
 use Rattle.sk_engine.specs.Holds.{Holds, schema_of}
 use Rattle.sk_engine.specs.declared.session.Session.{Session}
 use Rattle.sk_engine.specs.declared.response.Response.{Response}
-use Rattle.sk_engine.specs.declared.response.Response.TheVariants as Response
 use Rattle.sk_engine.specs.declared.session.Answer.{Answer}
 use Rattle.sk_engine.specs.declared.session.Answer.TheVariants.{Found}
 

@@ -1,5 +1,5 @@
 -- The ends of a run.
-use Rattle.std.specs.Prelude.{ℕ, Bool, true, false}
+use Rattle.std.specs.Prelude.{ℕ}
 use Rattle.sk_engine.specs.declared.status.Status.{Status}
 use Rattle.sk_engine.specs.declared.status.Status.TheVariants.{Done, Refused, Usage, ReadFault, WriteFault, Memory, TooMuch}
 

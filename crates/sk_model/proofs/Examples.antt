@@ -1,17 +1,15 @@
 -- Small values that the definitions must give, worked out by hand.
-use Rattle.std.proofs.Common.{◌≡◌, ◌∷◌, [], List, ℕ, refl, Option, Some, None, map, codes, replicate, ◌++◌}
+use Rattle.std.proofs.Common.{◌≡◌, ◌∷◌, [], List, ℕ, refl, Some, None, map, codes, replicate, ◌++◌}
 use Rattle.sk_base.specs.declared.record.Edit.{Edit}
-use Rattle.sk_base.specs.declared.record.Edit.TheVariants as Edit
 use Rattle.sk_base.specs.declared.record.FieldValue.TheVariants as FieldValue
 use Rattle.sk_base.specs.declared.record.Reply.TheVariants as Reply
 use Rattle.sk_base.specs.declared.find.Scheme.TheVariants as Scheme
-use Rattle.sk_base.specs.declared.rank.Rank.{Rank}
-use Rattle.sk_model.specs.Documents.{words, Document}
-use Rattle.sk_model.specs.Edits.{Live, nothing_live, last_id, edited, reply_to, live_after}
+use Rattle.sk_model.specs.Documents.{words}
+use Rattle.sk_model.specs.Edits.{Live, nothing_live, edited, reply_to, live_after}
 use Rattle.sk_model.specs.Queries.{term}
-use Rattle.sk_model.specs.Scores.{wdf_of, score}
+use Rattle.sk_model.specs.Scores.{score}
 use Rattle.sk_model.specs.Matches.{matches}
-use Rattle.sk_model.specs.Page.{best_first, kept, slice}
+use Rattle.sk_model.specs.Page.{kept, slice}
 use Rattle.sk_model.specs.Bounds.{ceil, static_count}
 use Rattle.sk_model.specs.Allowance.{allowance}
 

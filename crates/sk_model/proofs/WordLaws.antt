@@ -1,10 +1,8 @@
 -- A text has no more words than bytes.
-use Rattle.std.proofs.Common.{◌≡◌, ◌≤◌, ◌+◌, ◌==◌, ℕ, suc, Bool, true, false, cond, List, [], ◌∷◌, ◌++◌, length, filter, nat_lt, nat_le, ◌&&◌, refl, sym, ap, ◌∙◌, arith, length-append}
-use Rattle.std.specs.List.{slice_split, onto_first}
-use Rattle.std.proofs.lemmas.Bool.Decides.{nat_tests}
+use Rattle.std.proofs.Common.{◌≤◌, ◌==◌, ℕ, suc, Bool, true, false, cond, List, [], ◌∷◌, length, filter, arith, length-append}
+use Rattle.std.specs.List.{onto_first}
 use Rattle.sk_base.specs.declared.record.Entry.{Entry}
 use Rattle.sk_base.specs.declared.record.FieldValue.{FieldValue}
-use Rattle.sk_base.specs.declared.record.FieldValue.TheVariants as FieldValue
 use Rattle.sk_model.specs.Documents.{is_indexed, pieces, words, words_of_value, words_of_values, bytes_of_value, bytes_of_values}
 
 -- how many of the pieces are words

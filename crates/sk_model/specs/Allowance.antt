@@ -1,5 +1,5 @@
 -- The steps that a find may take. One step is one reading in the index.
-use Rattle.std.specs.Prelude.{ℕ, ◌+◌, List}
+use Rattle.std.specs.Prelude.{ℕ, ◌+◌}
 use Rattle.sk_model.specs.Edits.{Live}
 use Rattle.sk_model.specs.Queries.{Query, term}
 use Rattle.sk_model.specs.Bounds.{length_of}

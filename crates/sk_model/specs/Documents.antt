@@ -4,7 +4,6 @@ use Rattle.std.specs.List.{slice_split}
 use Rattle.sk_base.specs.declared.record.Record.{Record}
 use Rattle.sk_base.specs.declared.record.Entry.{Entry}
 use Rattle.sk_base.specs.declared.record.FieldValue.{FieldValue}
-use Rattle.sk_base.specs.declared.record.FieldValue.TheVariants as FieldValue
 
 -- A document is its indexed words, in order.
 pub record Document : Type 0 where

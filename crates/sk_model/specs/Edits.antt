@@ -1,9 +1,7 @@
 -- The live documents after any list of edits.
 use Rattle.std.specs.Prelude.{ℕ, ◌+◌, ◌≤◌, nat_lt, List, [], ◌∷◌, ◌++◌, if◌then◌else◌}
 use Rattle.sk_base.specs.declared.record.Edit.{Edit}
-use Rattle.sk_base.specs.declared.record.Edit.TheVariants as Edit
 use Rattle.sk_base.specs.declared.record.Reply.{Reply}
-use Rattle.sk_base.specs.declared.record.Reply.TheVariants as Reply
 use Rattle.sk_model.specs.Documents.{Document, document_of, bytes_of_values, most_bytes}
 
 -- The live documents with their ids, by rising id, and the highest id that was ever used.

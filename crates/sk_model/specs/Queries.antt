@@ -1,7 +1,6 @@
 -- What a query is.
 use Rattle.std.specs.Prelude.{ℕ, List}
 use Rattle.sk_base.specs.declared.find.Ask.{Ask}
-use Rattle.sk_base.specs.declared.find.Ask.TheVariants as Ask
 
 pub data Query : Type 0 where
   -- documents that have the term

@@ -1,11 +1,11 @@
 -- When a report is one that a find may have.
-use Rattle.std.specs.Prelude.{◌≡◌, ◌≤◌, ℕ, ◌+◌, ◌/◌, List, [], length, map}
+use Rattle.std.specs.Prelude.{◌≡◌, ◌≤◌, ◌+◌, ◌/◌, List, [], length, map}
 use Rattle.sk_base.specs.declared.find.Find.{Find}
 use Rattle.sk_base.specs.declared.rank.Rank.{Rank}
 use Rattle.sk_base.specs.declared.report.Ranked.{Ranked}
 use Rattle.sk_base.specs.declared.report.Report.{Report}
 use Rattle.sk_model.specs.Edits.{Live}
-use Rattle.sk_model.specs.Queries.{Query, query_of}
+use Rattle.sk_model.specs.Queries.{query_of}
 use Rattle.sk_model.specs.Matches.{matches}
 use Rattle.sk_model.specs.Page.{kept, slice}
 use Rattle.sk_model.specs.Bounds.{ceil, static_count}

@@ -1,7 +1,6 @@
 -- What one document scores for a query.
 use Rattle.std.specs.Prelude.{ℕ, nat_lt, List, count_by, bytes_eq, Option, Some, None, if◌then◌else◌}
 use Rattle.sk_base.specs.declared.find.Scheme.{Scheme}
-use Rattle.sk_base.specs.declared.find.Scheme.TheVariants as Scheme
 use Rattle.sk_model.specs.Documents.{Document}
 use Rattle.sk_model.specs.Queries.{Query, term}
 

@@ -1,4 +1,4 @@
-use Rattle.std.proofs.Common.{◌≡◌, ◌<◌, ◌+◌, ◌++◌, ◌∷◌, [], List, ℕ, Bor, take, map, get_or, length, count_by, bytes_eq, string_bytes, arith, sym, ap, ◌∙◌, if◌then◌else◌}
+use Rattle.std.proofs.Common.{◌≡◌, ◌+◌, ◌++◌, ◌∷◌, [], List, ℕ, Bor, take, map, get_or, count_by, bytes_eq, string_bytes, arith, sym, ap, ◌∙◌, if◌then◌else◌}
 use Rattle.std.proofs.lemmas.List.{map_more}
 use Rattle.sk_engine.specs.Adding.{count_of, noted}
 use Rattle.sk_engine.specs.Listed.{list_of}

@@ -1,5 +1,5 @@
 use Rattle.std.proofs.Common.{◌≡◌, ◌++◌, drop, map, filter}
-use Rattle.sk_model.specs.Documents.{is_indexed, words}
+use Rattle.sk_model.specs.Documents.{is_indexed}
 use Rattle.sk_engine.proofs.index.push_words.Given as goal
 
 abbrev pub invariant-pieces : goal.invariant-pieces

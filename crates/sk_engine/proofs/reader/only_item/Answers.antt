@@ -1,4 +1,4 @@
-use Rattle.std.proofs.Common.{◌≡◌, sym, ap, ◌∙◌, length, arith}
+use Rattle.std.proofs.Common.{sym, ap, ◌∙◌}
 use Rattle.std.specs.List.{slice_get}
 use Rattle.sk_engine.specs.Values.{only_item}
 use Rattle.sk_engine.proofs.ValueLemmas.{array_is, many_items, one_item}

@@ -1,4 +1,4 @@
-use Rattle.std.proofs.Common.{arith, ◌≤◌, ◌≡◌, ◌||◌, Bool, true, false, Err, ap, sym, refl, ◌∙◌}
+use Rattle.std.proofs.Common.{arith, ◌||◌, Err, ap, refl, ◌∙◌}
 use Rattle.sk_io.specs.declared.line.LineStop.TheVariants as LineStop
 use Rattle.sk_engine.proofs.RunLemmas.{begins, never_begun, finished, unfinished, cut, full, lost, unwritten, more_put, rose_since, failed_now, still_goes, closed_end}
 use Rattle.sk_engine.proofs.runs.answer_lines.Goals as goal

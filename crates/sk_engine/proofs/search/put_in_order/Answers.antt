@@ -1,7 +1,6 @@
-use Rattle.std.proofs.Common.{rules, ap, ◌∙◌}
+use Rattle.std.proofs.Common.{rules}
 use Rattle.std.proofs.lemmas.List.Sorted.{answers_always}
 use Rattle.sk_base.specs.Before.{is_before}
-use Rattle.sk_model.specs.Page.{best_first}
 use Rattle.sk_model.proofs.OrderLaws.{before_order, sorted_is}
 use Rattle.sk_engine.proofs.search.put_in_order.Goals as goal
 

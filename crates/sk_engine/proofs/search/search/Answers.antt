@@ -1,4 +1,4 @@
-use Rattle.std.proofs.Common.{[], unwrap_or, sym, ap, ◌∙◌}
+use Rattle.std.proofs.Common.{◌∙◌}
 use Rattle.sk_engine.proofs.ReportLemmas.{reported}
 use Rattle.sk_engine.proofs.search.search.Goals as goal
 

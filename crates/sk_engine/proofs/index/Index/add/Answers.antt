@@ -1,7 +1,7 @@
-use Rattle.std.proofs.Common.{◌≡◌, ◌<◌, true, nat_lt, if◌then◌else◌, sym, ap, subst, arith, ◌∙◌}
+use Rattle.std.proofs.Common.{◌≡◌, ◌<◌, true, nat_lt, if◌then◌else◌, sym, subst, arith}
 use Rattle.std.proofs.lemmas.Bool.Decides.{nat_tests}
 use Rattle.sk_model.specs.Documents.{document_of}
-use Rattle.sk_model.specs.Edits.{Live, last_id, with_next, edited}
+use Rattle.sk_model.specs.Edits.{last_id, with_next}
 use Rattle.sk_engine.specs.Holds.{Holds}
 use Rattle.sk_engine.proofs.index.Index.add.Goals as goal
 

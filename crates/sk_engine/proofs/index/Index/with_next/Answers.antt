@@ -1,6 +1,5 @@
-use Rattle.std.proofs.Common.{◌≡◌, ◌≤◌, ◌∙◌, List, ℕ, length, map, ap, sym, subst, arith, refl, ◌+◌}
+use Rattle.std.proofs.Common.{◌≡◌, ◌∙◌, length, map, ap, sym, subst, arith, refl, ◌+◌}
 use Rattle.std.proofs.lemmas.List.{length-map}
-use Rattle.sk_base.specs.declared.record.Entry.{Entry}
 use Rattle.sk_model.specs.Documents.{words_of_values, document_of}
 use Rattle.sk_model.proofs.WordLaws.{length-words_of_values}
 use Rattle.sk_engine.specs.Adding.{NotesWords}

@@ -1,0 +1,2 @@
+pub mod SlotValues
+pub mod Places
