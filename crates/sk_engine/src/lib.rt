@@ -17,3 +17,6 @@ pub use response::Response;
 pub use runs::run;
 pub use session::{Answer, Session};
 pub use status::Status;
+
+#[cfg(test)]
+mod tests;
