@@ -11,9 +11,6 @@ mod search;
 mod session;
 mod status;
 
-pub use index::Index;
-pub use refusal::Refusal;
-pub use response::Response;
 pub use runs::run;
 pub use session::{Answer, Session};
 pub use status::Status;

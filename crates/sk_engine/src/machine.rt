@@ -15,7 +15,9 @@ ghost use Rattle.sk_engine.specs.Lines.{AnsweredLine};
 ghost use Rattle.sk_base.specs.declared.command.Command.TheVariants as Command;
 
 use crate::reader::{LineFault, command};
-use crate::{Answer, Refusal, Response, Session};
+use crate::refusal::Refusal;
+use crate::response::Response;
+use crate::{Answer, Session};
 use sk_base::{Command, Edit, Find, Reply, Schema};
 use sk_io::Line;
 use sk_steps::Steps;

@@ -2,7 +2,7 @@
 ghost use Rattle.std.specs.Prelude.{◌≡◌, ◌++◌, ◌+◌, ◌<◌, ◌^◌, codes, decimal, string_bytes, length, IfOk};
 ghost use Rattle.json.specs.Print.{quoted};
 
-use crate::Refusal;
+use crate::refusal::Refusal;
 use serde_json::Value;
 use sk_base::{DocId, Ranked, Report, Text};
 use std::alloc::{AllocError, Global};

@@ -10,7 +10,7 @@ ghost use Rattle.sk_model.specs.Reports.{hit_of, Reports};
 ghost use Rattle.sk_engine.specs.Holds.{Holds};
 ghost use Rattle.sk_engine.specs.Found.{rank_in, greatest_weight, IsReportOf};
 
-use crate::Index;
+use crate::index::Index;
 use sk_base::{Ask, Find, Hits, Items, Rank, Ranked, Report, Scheme, Text, Weight};
 use sk_lists::{Cursor, List};
 use sk_steps::Steps;

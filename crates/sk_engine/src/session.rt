@@ -4,7 +4,7 @@ ghost use Rattle.sk_model.specs.Edits.{Live, nothing_live, edited, reply_to, Fit
 ghost use Rattle.sk_engine.specs.Asked.{IsAsked};
 ghost use Rattle.sk_engine.specs.Sessions.{SessionHolds, fields_of, IsAnswer, steps_in};
 
-use crate::Index;
+use crate::index::Index;
 use crate::search::search;
 use sk_base::{Edit, Find, Reply, Report, Schema};
 use sk_steps::Steps;
