@@ -28,8 +28,13 @@ pub record Reached (bytes : List ℕ) (answers : List Response) (reader : Reader
   pub stream : List ℕ
   pub goes_on : (more : List Response) (last : State) (rest : List ℕ) → Runs state stream more last rest → Runs start bytes (answers ++ more) last rest
   pub is : StreamIs reader left stream
-  pub taken : reader.room + length bytes ≡ 2 ^ 40 + length is.rest
   pub at : IsAt machine state
+
+-- as many bytes as are taken off the room were taken of the bytes
+pub record TakenSoFar (bytes : List ℕ) (reader : Reader) (left : Option (List ℕ)) : Type 0 where
+  pub stream : List ℕ
+  pub is : StreamIs reader left stream
+  pub taken : reader.room + length bytes ≡ 2 ^ 40 + length is.rest
 
 -- the answers so far were put, and counted
 pub record SoFar (bytes held : List ℕ) (reader : Reader) (left held_now : Option (List ℕ)) (machine : Machine) (refused : Bool) (begun now : ℕ) : Type 0 where
@@ -50,7 +55,6 @@ begins bytes held reader left held_now machine begun new told holds at = record 
     stream = bytes;
     goes_on = λ more last rest runs. runs;
     is = record { rest = bytes; told = told; is = ap (λ (r : Reader). pending r ++ bytes) (sym new) };
-    taken = ap (λ (r : Reader). r.room + length bytes) new;
     at = at;
   };
   text = holds ∙ ap Some (sym (append-nil held));
@@ -60,18 +64,16 @@ begins bytes held reader left held_now machine begun new told holds at = record 
 
 -- the answer of one line more
 one_more : (bytes : List ℕ) (answers : List Response) (reader reader' : Reader) (left left' : Option (List ℕ)) (machine machine' : Machine) (response : Response) (text : List ℕ)
-    → (so : Reached bytes answers reader left machine) → (first : LineOf text reader' left' so.stream) → Charged reader left reader' left' → Answered machine text response machine'
+    → (so : Reached bytes answers reader left machine) → (first : LineOf text reader' left' so.stream) → Answered machine text response machine'
     → Reached bytes (answers ++ response ∷ []) reader' left' machine'
-one_more bytes answers reader reader' left left' machine machine' response text so first charged answered =
+one_more bytes answers reader reader' left left' machine machine' response text so first answered =
     let met : Meets (Answers so.state text response) machine' = answered so.state so.at in
-    let paid : reader'.room + length so.is.rest ≡ reader.room + length first.goes_on.rest = charged so.is.rest first.goes_on.rest so.is.told first.goes_on.told in
     record {
       state = met.next;
       stream = first.after;
       goes_on = λ more last rest runs.
           subst (λ all. Runs start bytes all last rest) (sym (append_assoc answers (response ∷ []) more)) (so.goes_on (response ∷ more) last rest (line first.is_line met.allowed runs));
       is = first.goes_on;
-      taken = omega (arith, paid, so.taken);
       at = met.at;
     }
 
@@ -79,10 +81,10 @@ pub reach_more : (bytes : List ℕ) (answers : List Response) (reader reader' : 
     → Reached bytes answers reader left machine → ReadsOn reader left reader' left' (outcome (Ok (Some l))) → AnsweredLine machine l response machine'
     → Reached bytes (answers ++ response ∷ []) reader' left' machine'
 reach_more bytes answers reader reader' left left' machine machine' response (Whole text) so reads answered =
-    one_more bytes answers reader reader' left left' machine machine' response text.now so (reads.first so.stream so.is) reads.charged answered
+    one_more bytes answers reader reader' left left' machine machine' response text.now so (reads.first so.stream so.is) answered
 reach_more bytes answers reader reader' left left' machine machine' response TooLong so reads answered =
     let long : LongLineOf reader' left' so.stream = reads.first so.stream so.is in
-    one_more bytes answers reader reader' left left' machine machine' response long.line so long.first reads.charged (answered long.line long.long)
+    one_more bytes answers reader reader' left left' machine machine' response long.line so long.first (answered long.line long.long)
 
 -- what follows the front of a text is what the source has left
 record EndsIn (left : Option (List ℕ)) (s : List ℕ) : Type 0 where
@@ -228,14 +230,33 @@ cut bytes held reader reader' left left' held_now machine refused begun now why 
       text = so.text;
     }
 
+-- at first nothing was taken
+pub taken_none : (bytes : List ℕ) (reader : Reader) (left : Option (List ℕ)) → reader ≡ record { held = []; given = 0; room = 2 ^ 40; stopped = None } → left ≡ Some bytes → TakenSoFar bytes reader left
+taken_none bytes reader left new told = record {
+  stream = bytes;
+  is = record { rest = bytes; told = told; is = ap (λ (r : Reader). pending r ++ bytes) (sym new) };
+  taken = ap (λ (r : Reader). r.room + length bytes) new;
+}
+
+taken_on : (bytes text : List ℕ) (reader reader' : Reader) (left left' : Option (List ℕ)) → (so : TakenSoFar bytes reader left) → LineOf text reader' left' so.stream → Charged reader left reader' left' → TakenSoFar bytes reader' left'
+taken_on bytes text reader reader' left left' so first charged =
+    let paid : reader'.room + length so.is.rest ≡ reader.room + length first.goes_on.rest = charged so.is.rest first.goes_on.rest so.is.told first.goes_on.told in
+    record { stream = first.after; is = first.goes_on; taken = omega (arith, paid, so.taken) }
+
+-- what a line took
+pub taken_more : (bytes : List ℕ) (reader reader' : Reader) (left left' : Option (List ℕ)) (l : Line) → TakenSoFar bytes reader left → ReadsOn reader left reader' left' (outcome (Ok (Some l))) → TakenSoFar bytes reader' left'
+taken_more bytes reader reader' left left' (Whole text) so reads = taken_on bytes text.now reader reader' left left' so (reads.first so.stream so.is) reads.charged
+taken_more bytes reader reader' left left' TooLong so reads =
+    let long : LongLineOf reader' left' so.stream = reads.first so.stream so.is in
+    taken_on bytes long.line reader reader' left left' so long.first reads.charged
+
 -- the source stopped at the limit
-pub full : (bytes held : List ℕ) (reader reader' : Reader) (left left' held_now : Option (List ℕ)) (machine : Machine) (refused : Bool) (begun now : ℕ)
-    → SoFar bytes held reader left held_now machine refused begun now → Stops reader left reader' left' LineStop.TooMuch → TakesAll (2 ^ 40) bytes left'
-full bytes held reader reader' left left' held_now machine refused begun now so stops =
-    let tail : OpenLineOf left' so.reached.stream = stops.open_line so.reached.stream so.reached.is in
-    let paid : reader'.room + length so.reached.is.rest ≡ reader.room + length tail.rest = stops.charged so.reached.is.rest tail.rest so.reached.is.told tail.told in
+pub full : (bytes : List ℕ) (reader reader' : Reader) (left left' : Option (List ℕ)) → TakenSoFar bytes reader left → Stops reader left reader' left' LineStop.TooMuch → TakesAll (2 ^ 40) bytes left'
+full bytes reader reader' left left' so stops =
+    let tail : OpenLineOf left' so.stream = stops.open_line so.stream so.is in
+    let paid : reader'.room + length so.is.rest ≡ reader.room + length tail.rest = stops.charged so.is.rest tail.rest so.is.told tail.told in
     let none : reader'.room ≡ 0 = stops.full refl in
-    record { rest = tail.rest; left = tail.told; taken = omega (arith, paid, none, so.reached.taken) }
+    record { rest = tail.rest; left = tail.told; taken = omega (arith, paid, none, so.taken) }
 
 -- all lines were answered, by the status of the end
 pub finished : (bytes held : List ℕ) (reader reader' : Reader) (left left' held_now held' : Option (List ℕ)) (machine : Machine) (refused : Bool) (begun now : ℕ) (status : Status)
@@ -311,7 +332,7 @@ closed_end refused Status.Memory before after faults_now later closed all broken
 closed_end refused Status.TooMuch before after faults_now later closed all broken = absurd closed
 
 -- what the status of too much says
-pub too_much : (status : Status) (before after : Outside) → Ended status before after → status ≡ Status.TooMuch → Told before (λ bytes held. TakesAll (2 ^ 40) bytes after.left)
+pub too_much : (status : Status) (before after : Outside) → Ended status before after → status ≡ Status.TooMuch → (bytes : List ℕ) → before.left ≡ Some bytes → TakesAll (2 ^ 40) bytes after.left
 too_much Status.Done before after end is = cc
 too_much Status.Refused before after end is = cc
 too_much Status.Usage before after end is = cc

@@ -36,7 +36,7 @@ pub record EndsUnwritten (before after : Outside) : Type 0 where
 -- too many bytes were taken
 pub record EndsFull (before after : Outside) : Type 0 where
   pub told : Told before (λ bytes held. CutsShort bytes held after.left after.held)
-  pub taken : Told before (λ bytes held. TakesAll (2 ^ 40) bytes after.left)
+  pub taken : (bytes : List ℕ) → before.left ≡ Some bytes → TakesAll (2 ^ 40) bytes after.left
 
 -- what each status says
 abbrev pub Ended : Status → Outside → Outside → Type 0

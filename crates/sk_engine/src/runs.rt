@@ -38,7 +38,7 @@ pub fn run<S: Source, R: Source, K: Sink, L: Ledger>(
     // Why the run stopped before the end.
     ensures read_fault { result ≡ Status.ReadFault → Rose (S.faults input.old) (S.faults input.new) }
     ensures write_fault { result ≡ Status.WriteFault → Rose (K.faults output.old) (K.faults output.new) }
-    ensures too_much { result ≡ Status.TooMuch → (bytes held : List ℕ) → S.left input.old ≡ Some bytes → K.held output.old ≡ Some held
+    ensures too_much { result ≡ Status.TooMuch → (bytes : List ℕ) → S.left input.old ≡ Some bytes
         → TakesAll (2 ^ 40) bytes (S.left input.new) }
 
     // What was put then: after a read fault or too much, the answers to all lines whose end was taken; after a write fault or

@@ -1,6 +1,6 @@
 use Rattle.std.proofs.Common.{arith, ◌||◌, Err, ap, refl, ◌∙◌}
 use Rattle.sk_io.specs.declared.line.LineStop.TheVariants as LineStop
-use Rattle.sk_engine.proofs.RunLemmas.{begins, never_begun, finished, unfinished, cut, full, lost, unwritten, more_put, rose_since, failed_now, still_goes, closed_end}
+use Rattle.sk_engine.proofs.RunLemmas.{begins, never_begun, finished, unfinished, cut, taken_none, taken_more, full, lost, unwritten, more_put, rose_since, failed_now, still_goes, closed_end}
 use Rattle.sk_engine.proofs.runs.answer_lines.Goals as goal
 
 pub returns-in_default : goal.returns-in_default
@@ -11,6 +11,7 @@ lines-init g c = record {
   goes = ap (λ r. r.stopped) c.in-Ok.ensures;
   read_later = omega arith;
   write_later = omega arith;
+  taken = λ bytes told. taken_none bytes _ _ c.in-Ok.ensures told;
   told = λ bytes held told holds. begins bytes held _ _ _ _ _ c.in-Ok.ensures told holds c.new-machine.ensures;
 }
 
@@ -37,7 +38,7 @@ returns-in-Err-TooMuch g c =
     let so = c.lines.invariant in
     record {
       told = λ bytes held told holds. cut bytes held _ _ _ _ _ _ _ _ _ LineStop.TooMuch (so.told bytes held told holds) (reads.goes_on so.goes);
-      taken = λ bytes held told holds. full bytes held _ _ _ _ _ _ _ _ _ (so.told bytes held told holds) (reads.goes_on so.goes);
+      taken = λ bytes told. full bytes _ _ _ _ (so.taken bytes told) (reads.goes_on so.goes);
     }
 
 pub returns-in_default-answer_line : goal.returns-in_default-answer_line
@@ -71,6 +72,7 @@ lines-preserved g c =
       goes = still_goes _ _ _ _ c.in-Ok-Some.line (reads.goes_on so.goes);
       read_later = omega (arith, so.read_later, c.in-Ok-Some.ensures.cause.later);
       write_later = omega (arith, so.write_later, c.in-Ok-put_all.ensures.cause.later);
+      taken = λ bytes told. taken_more bytes _ _ _ _ c.in-Ok-Some.line (so.taken bytes told) (reads.goes_on so.goes);
       told = λ bytes held told holds.
           more_put bytes held _ _ _ _ _ _ _ _ c.lines.refused _ _ _ _ c.in-Ok-Some.line c.in-Ok-answer_line.response _ (so.told bytes held told holds) (reads.goes_on so.goes) c.in-Ok-answer_line.ensures.answered
           (c.as_bytes.ensures.value ∙ c.in-Ok-into_text.ensures) c.in-Ok-put_all.ensures.ok (ap (λ b. c.lines.refused || b) c.is_refusal-refused.ensures) c.in-Ok-answer_line.ensures.cost;
