@@ -1,5 +1,5 @@
 -- How far a run over lines has come.
-use Rattle.std.proofs.Common.{◌≡◌, ◌<◌, ◌≤◌, ◌+◌, ◌^◌, ℕ, Bool, true, false, ◌||◌, if◌then◌else◌, ◌⊎◌, inl, inr, List, [], ◌∷◌, ◌++◌, length, Option, Some, None, Ok, sum_by, refl, sym, ap, ◌∙◌, subst, arith, append_assoc, append-nil}
+use Rattle.std.proofs.Common.{◌≡◌, ◌<◌, ◌≤◌, ◌+◌, ◌^◌, ℕ, Bool, true, false, ◌||◌, if◌then◌else◌, ◌⊎◌, inl, inr, List, [], ◌∷◌, ◌++◌, length, Option, Some, None, Ok, sum_by, refl, sym, ap, ◌∙◌, subst, arith, append_assoc, append-nil, true≢false}
 use Rattle.std.specs.List.{list_any}
 use Rattle.std.specs.Io.KnownBytes.{Appends, Keeps}
 use Rattle.std.proofs.lemmas.List.Sums.{sum_by-append}
@@ -46,7 +46,7 @@ pub record SoFar (bytes held : List ℕ) (reader : Reader) (left held_now : Opti
 
 -- at first no line was answered
 pub begins : (bytes held : List ℕ) (reader : Reader) (left held_now : Option (List ℕ)) (machine : Machine) (begun : ℕ)
-    → reader ≡ record { held = []; given = 0; room = 2 ^ 40; stopped = None } → left ≡ Some bytes → held_now ≡ Some held → IsAt machine start
+    → reader ≡ record { held = []; given = 0; room = 2 ^ 40; stopped = None; ended = false } → left ≡ Some bytes → held_now ≡ Some held → IsAt machine start
     → SoFar bytes held reader left held_now machine false begun begun
 begins bytes held reader left held_now machine begun new told holds at = record {
   answers = [];
@@ -54,7 +54,7 @@ begins bytes held reader left held_now machine begun new told holds at = record 
     state = start;
     stream = bytes;
     goes_on = λ more last rest runs. runs;
-    is = record { rest = bytes; told = told; is = ap (λ (r : Reader). pending r ++ bytes) (sym new) };
+    is = record { rest = bytes; told = told; is = ap (λ (r : Reader). pending r ++ bytes) (sym new); at_end = λ e. absurd (true≢false (sym e ∙ ap (λ (r : Reader). r.ended) new)) };
     at = at;
   };
   text = holds ∙ ap Some (sym (append-nil held));
@@ -231,10 +231,10 @@ cut bytes held reader reader' left left' held_now machine refused begun now why 
     }
 
 -- at first nothing was taken
-pub taken_none : (bytes : List ℕ) (reader : Reader) (left : Option (List ℕ)) → reader ≡ record { held = []; given = 0; room = 2 ^ 40; stopped = None } → left ≡ Some bytes → TakenSoFar bytes reader left
+pub taken_none : (bytes : List ℕ) (reader : Reader) (left : Option (List ℕ)) → reader ≡ record { held = []; given = 0; room = 2 ^ 40; stopped = None; ended = false } → left ≡ Some bytes → TakenSoFar bytes reader left
 taken_none bytes reader left new told = record {
   stream = bytes;
-  is = record { rest = bytes; told = told; is = ap (λ (r : Reader). pending r ++ bytes) (sym new) };
+  is = record { rest = bytes; told = told; is = ap (λ (r : Reader). pending r ++ bytes) (sym new); at_end = λ e. absurd (true≢false (sym e ∙ ap (λ (r : Reader). r.ended) new)) };
   taken = ap (λ (r : Reader). r.room + length bytes) new;
 }
 

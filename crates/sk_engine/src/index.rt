@@ -46,6 +46,7 @@ impl Index {
         &self.schema
     }
 
+    /// The allocator that it keeps.
     pub fn allocator(&self) -> Global {
         self.alloc
     }

@@ -330,7 +330,7 @@ const FAULTS: [(&str, &[u64], &[u64], usize, &str, Status); 8] = [
         &[2],
         &[],
         4096,
-        "ok schema 1\nok id 1\nok id 2\n",
+        "ok schema 1\nok id 1\n",
         Status::ReadFault,
     ),
     ("run", &[3], &[], 4096, OUTPUT, Status::ReadFault),
@@ -458,5 +458,18 @@ fn a_session_shows_the_asked_page(rt: HostRuntime) -> Result<(), Fail> {
         let hits = found::<Brand>(Blank::new(1), alloc, &session, scheme, first, size)?;
         assert_eq!(rt; hits.as_slice(), page, "{scheme:?} {first} {size}");
     }
+    Ok(())
+}
+
+#[test]
+fn nothing_is_read_behind_the_end(rt: HostRuntime) -> Result<(), Fail> {
+    // The first call gives all, the last line without its end, and the second tells the end.
+    let lines = b"{\"schema\":[{\"name\":\"body\",\"kind\":\"text\"}]}\nred";
+    let (status, bytes) = outcome(rt.alloc(), "run", lines.as_slice(), 4096, 4096, &[3], &[])?;
+    assert_eq!(rt; status, Status::Refused);
+    assert_eq!(rt;
+        bytes.as_slice(),
+        b"ok schema 1\nrefused 2 NotJson\n".as_slice()
+    );
     Ok(())
 }

@@ -1,5 +1,5 @@
 -- The bytes still to come, through the steps of a reader.
-use Rattle.std.proofs.Common.{◌≡◌, ◌≤◌, ◌<◌, ◌+◌, ℕ, List, [], ◌∷◌, ◌++◌, Option, None, Some, length, take, drop, refl, sym, ap, ◌∙◌, subst, append_assoc, arith, length-drop, length-append, rules, inl, inr, ◌⊎◌}
+use Rattle.std.proofs.Common.{◌≡◌, ◌≤◌, ◌<◌, ◌+◌, ℕ, true, List, [], ◌∷◌, ◌++◌, Option, None, Some, length, take, drop, refl, sym, ap, ◌∙◌, subst, append_assoc, arith, length-drop, length-append, rules, inl, inr, ◌⊎◌}
 use Rattle.std.proofs.lemmas.List.{take-append-drop, length-take, take_at, drop_all}
 use Rattle.std.specs.Io.KnownBytes.{Consumes, Keeps, IsAtEnd}
 use Rattle.sk_io.specs.declared.line.LineStop.{LineStop}
@@ -8,7 +8,7 @@ use Rattle.sk_io.specs.declared.found.LineEnd.TheVariants.{Nowhere}
 use Rattle.sk_io.specs.LineText.{NoLineEnd}
 use Rattle.sk_io.specs.Reading.{Reader, pending, StreamIs}
 use Rattle.sk_io.specs.Answers.{Charged, Ends, Gives, PassesOver, Stops}
-use Rattle.sk_io.specs.Steps.{EndsAt, IsOpen, Fills, Halts, Passes, Halted, NoneLeft, IsFar, Sought, IsOver, Skips}
+use Rattle.sk_io.specs.Steps.{EndsAt, IsOpen, Fills, Halts, Tells, Passes, Halted, NoneLeft, IsFar, Sought, IsOver, Skips}
 use Rattle.sk_io.proofs.LineEnds.{no_end_both, no_end_same, length-before, take-through}
 
 -- what is pending where nothing was given
@@ -42,9 +42,27 @@ end_told (Some xs) rest e h =
     let same : rest ≡ xs = cc in
     same ∙ h
 
+-- the source and the room are as before
+tells_same : (a b : Reader) (left : Option (List ℕ)) (rest : List ℕ) → b.room ≡ a.room → left ≡ Some rest → Tells a b left rest
+tells_same a b left rest room told = record { rest' = rest; told = told; charged = omega (arith, room) }
+
+-- what a source tells after two steps
+tells_both : (a b c : Reader) (lb lc : Option (List ℕ)) (rest : List ℕ) → (one : Tells a b lb rest) → Tells b c lc one.rest' → Tells a c lc rest
+tells_both a b c lb lc rest one two = record { rest' = two.rest'; told = two.told; charged = omega (arith, one.charged, two.charged) }
+
+-- what a source has left after its end
+left_at_end : (left : Option (List ℕ)) (old : Reader) (rest taken rest' : List ℕ) → left ≡ Some rest' → rest ≡ taken ++ rest' → (old.ended ≡ true → rest ≡ [])
+    → IsAtEnd left ⊎ (old.ended ≡ true) → rest' ≡ []
+left_at_end left old rest taken rest' told is before (inl at_end) = end_told left rest' told at_end
+left_at_end left old rest taken rest' told is before (inr ended) = nil_of rest' (omega (arith, ap length is, ap length (before ended), length-append taken rest'))
+
 -- nothing was done, and nothing passed over
 pub pass_none : (r : Reader) (left : Option (List ℕ)) → Passes r left r left []
-pass_none r left = record { count = omega arith; behind = λ s h. record { rest = s; is = refl; stream = h } }
+pass_none r left = record {
+  count = omega arith;
+  behind = λ s h. record { rest = s; is = refl; stream = h };
+  tells = λ rest told. tells_same r r left rest refl told;
+}
 
 -- one step after another
 pub pass_both : (a : Reader) (la : Option (List ℕ)) (b : Reader) (lb : Option (List ℕ)) (c : Reader) (lc : Option (List ℕ)) (p q : List ℕ)
@@ -59,6 +77,9 @@ pass_both a la b lb c lc p q f g = record {
         is = one.is ∙ ap (λ w. p ++ w) two.is ∙ sym (append_assoc p q two.rest);
         stream = two.stream;
       };
+  tells = λ rest told.
+      let one = f.tells rest told in
+      tells_both a b c lb lc rest one (g.tells one.rest' one.told);
 }
 
 -- a step after which nothing more is passed over
@@ -70,6 +91,9 @@ pass_then a la b lb c lc p f g = record {
       let one = f.behind s h in
       let two = g.behind one.rest one.stream in
       record { rest = two.rest; is = one.is ∙ ap (λ w. p ++ w) two.is; stream = two.stream };
+  tells = λ rest told.
+      let one = f.tells rest told in
+      tells_both a b c lb lc rest one (g.tells one.rest' one.told);
 }
 
 -- the same, with equal bytes passed over
@@ -94,8 +118,12 @@ pass_fill a la b lb n o f =
               is =
                   h.is ∙ ap (λ w. w ++ h.rest) pa ∙ ap (λ w. a.held ++ w) told.2 ∙ sym (append_assoc a.held f.taken told.0)
                   ∙ ap (λ w. w ++ told.0) (sym pb);
+              at_end = λ e. left_at_end lb a h.rest f.taken told.0 told.1 told.2 h.at_end (f.at_end e);
             };
           };
+      tells = λ rest t.
+          let told = consumes_told la lb rest f.taken t f.told in
+          record { rest' = told.0; told = told.1; charged = omega (arith, f.room, f.count, ap length told.2, length-append f.taken told.0) };
     }
 
 -- a stop passes over nothing
@@ -103,20 +131,28 @@ pub pass_halt : (a : Reader) (la : Option (List ℕ)) (b : Reader) (lb : Option 
 pass_halt a la b lb why h =
     let same : pending b ≡ pending a = ap (λ r. pending r) h.is in
     let room : b.room ≡ a.room = ap (λ r. r.room) h.is in
+    let ended : b.ended ≡ a.ended = ap (λ r. r.ended) h.is in
     record {
       count = omega (arith, ap length same, room);
       behind = λ s t. record {
         rest = s;
         is = refl;
-        stream = record { rest = t.rest; told = keeps_told la lb t.rest t.told h.keeps; is = t.is ∙ ap (λ w. w ++ t.rest) (sym same) };
+        stream = record {
+          rest = t.rest;
+          told = keeps_told la lb t.rest t.told h.keeps;
+          is = t.is ∙ ap (λ w. w ++ t.rest) (sym same);
+          at_end = λ e. t.at_end (sym ended ∙ e);
+        };
       };
+      tells = λ rest told. tells_same a b lb rest room (keeps_told la lb rest told h.keeps);
     }
 
 -- dropping what was given passes over nothing
 pub pass_drop_given : (a : Reader) (left : Option (List ℕ)) → Passes a left (record a { held = pending a; given = 0 }) left []
 pass_drop_given a left = record {
   count = omega arith;
-  behind = λ s h. record { rest = s; is = refl; stream = record { rest = h.rest; told = h.told; is = h.is } };
+  behind = λ s h. record { rest = s; is = refl; stream = record { rest = h.rest; told = h.told; is = h.is; at_end = h.at_end } };
+  tells = λ rest told. tells_same a (record a { held = pending a; given = 0 }) left rest refl told;
 }
 
 -- the drop of what was given
@@ -139,8 +175,9 @@ pass_drop_held a left o =
       behind = λ s h. record {
         rest = h.rest;
         is = h.is ∙ ap (λ w. w ++ h.rest) pa;
-        stream = record { rest = h.rest; told = h.told; is = refl };
+        stream = record { rest = h.rest; told = h.told; is = refl; at_end = h.at_end };
       };
+      tells = λ rest told. tells_same a (record a { held = []; given = 0 }) left rest refl told;
     }
 
 -- giving some bytes passes over them
@@ -153,31 +190,27 @@ pass_give a left n o le =
       behind = λ s h. record {
         rest = drop n a.held ++ h.rest;
         is = h.is ∙ ap (λ w. w ++ h.rest) (pa ∙ sym (take-append-drop n a.held)) ∙ append_assoc (take n a.held) (drop n a.held) h.rest;
-        stream = record { rest = h.rest; told = h.told; is = refl };
+        stream = record { rest = h.rest; told = h.told; is = refl; at_end = h.at_end };
       };
+      tells = λ rest told. tells_same a (record a { given = n }) left rest refl told;
     }
 
 -- what was taken off the room was taken off the source
 pub charged : (a : Reader) (la : Option (List ℕ)) (b : Reader) (lb : Option (List ℕ)) (over : List ℕ) → Passes a la b lb over → Charged a la b lb
 charged a la b lb over p = λ rest rest' told told'.
-    let g = p.behind (pending a ++ rest) (record { rest = rest; told = told; is = refl }) in
-    let e : Some g.stream.rest ≡ Some rest' = sym g.stream.told ∙ told' in
-    let same : g.stream.rest ≡ rest' = cc in
-    omega (
-      arith,
-      p.count,
-      ap length g.is,
-      ap length g.stream.is,
-      ap length same,
-      length-append (pending a) rest,
-      length-append over g.rest,
-      length-append (pending b) g.stream.rest,
-    )
+    let t = p.tells rest told in
+    let e : Some t.rest' ≡ Some rest' = sym t.told ∙ told' in
+    let same : t.rest' ≡ rest' = cc in
+    omega (arith, t.charged, ap length same)
 
--- nothing is left of the stream where nothing is pending and the source is at its end
-over_told : (r : Reader) (left : Option (List ℕ)) (s : List ℕ) → pending r ≡ [] → IsAtEnd left → StreamIs r left s → s ≡ []
-over_told r left s none at_end h =
-    h.is ∙ ap (λ w. w ++ h.rest) none ∙ end_told left h.rest h.told at_end
+-- nothing is left of the stream where nothing is pending and the source's end was reached
+over_told : (r : Reader) (left : Option (List ℕ)) (s : List ℕ) → pending r ≡ [] → r.ended ≡ true → StreamIs r left s → s ≡ []
+over_told r left s none ended h =
+    h.is ∙ ap (λ w. w ++ h.rest) none ∙ h.at_end ended
+
+-- what has a line's end is more than the line
+has_end : (line after s : List ℕ) → s ≡ line ++ 10 ∷ after → s ≡ line → ⊥
+has_end line after s is same = omega (arith, ap length is, ap length same, length-append line (10 ∷ after))
 
 -- a line that ends in what is held is given
 line_given : (old : Reader) (lo : Option (List ℕ)) (mid : Reader) (lm : Option (List ℕ)) (at : ℕ) → Passes old lo mid lm [] → IsOpen mid → EndsAt mid.held at
@@ -192,13 +225,15 @@ line_given old lo mid lm at before o end short =
       falls = omega (arith, p.count, long);
       first = λ s h.
           let g = p.behind s h in
+          let is : s ≡ take at mid.held ++ 10 ∷ g.rest = g.is ∙ ap (λ w. w ++ g.rest) (take-through mid.held at end) ∙ append_assoc (take at mid.held) (10 ∷ []) g.rest in
           record {
             after = g.rest;
             is_line = record {
               no_end = end.no_end;
-              is = inl (g.is ∙ ap (λ w. w ++ g.rest) (take-through mid.held at end) ∙ append_assoc (take at mid.held) (10 ∷ []) g.rest);
+              is = inl is;
             };
             goes_on = g.stream;
+            last = λ same. absurd (has_end (take at mid.held) g.rest s is same);
           };
       charged = charged old lo (record mid { given = at + 1 }) lm (take (at + 1) mid.held) p;
     }
@@ -215,6 +250,7 @@ long_given old lo mid lm at before o end far =
       falls = omega (arith, p.count, long);
       first = λ s h.
           let g = p.behind s h in
+          let is : s ≡ take at mid.held ++ 10 ∷ g.rest = g.is ∙ ap (λ w. w ++ g.rest) (take-through mid.held at end) ∙ append_assoc (take at mid.held) (10 ∷ []) g.rest in
           record {
             line = take at mid.held;
             long = omega (arith, length-before mid.held at end);
@@ -222,16 +258,17 @@ long_given old lo mid lm at before o end far =
               after = g.rest;
               is_line = record {
                 no_end = end.no_end;
-                is = inl (g.is ∙ ap (λ w. w ++ g.rest) (take-through mid.held at end) ∙ append_assoc (take at mid.held) (10 ∷ []) g.rest);
+                is = inl is;
               };
               goes_on = g.stream;
+              last = λ same. absurd (has_end (take at mid.held) g.rest s is same);
             };
           };
       charged = charged old lo (record mid { given = at + 1 }) lm (take (at + 1) mid.held) p;
     }
 
 -- the last line, which has no end, is given
-rest_given : (old : Reader) (lo : Option (List ℕ)) (mid : Reader) (lm : Option (List ℕ)) (n : ℕ) → Passes old lo mid lm [] → IsOpen mid → NoneLeft mid lm
+rest_given : (old : Reader) (lo : Option (List ℕ)) (mid : Reader) (lm : Option (List ℕ)) (n : ℕ) → Passes old lo mid lm [] → IsOpen mid → NoneLeft mid
     → n ≡ length mid.held → 0 < n → Gives old lo (record mid { given = n }) lm (take n mid.held)
 rest_given old lo mid lm n before o none e some =
     let le : n ≤ length mid.held = omega arith in
@@ -245,7 +282,7 @@ rest_given old lo mid lm n before o none e some =
       falls = omega (arith, p.count, len);
       first = λ s h.
           let g = p.behind s h in
-          let over : g.rest ≡ [] = over_told (record mid { given = n }) lm g.rest all none.at_end g.stream in
+          let over : g.rest ≡ [] = over_told (record mid { given = n }) lm g.rest all none.ended g.stream in
           let same : take n mid.held ++ [] ≡ take n mid.held = search rules in
           record {
             after = g.rest;
@@ -254,6 +291,7 @@ rest_given old lo mid lm n before o none e some =
               is = inr (g.is ∙ ap (λ w. take n mid.held ++ w) over ∙ same, omega (arith, len), over);
             };
             goes_on = g.stream;
+            last = λ _. none.ended;
           };
       charged = charged old lo (record mid { given = n }) lm (take n mid.held) p;
     }
@@ -270,22 +308,23 @@ give_long old lo mid lm new at e before o end far = subst (λ r. PassesOver old 
 
 -- the same, at the reader that gives the last line
 pub give_rest : (old : Reader) (lo : Option (List ℕ)) (mid : Reader) (lm : Option (List ℕ)) (new : Reader) (n : ℕ) → new ≡ record mid { given = n } → Passes old lo mid lm []
-    → IsOpen mid → NoneLeft mid lm → n ≡ length mid.held → 0 < n → Gives old lo new lm (take n new.held)
+    → IsOpen mid → NoneLeft mid → n ≡ length mid.held → 0 < n → Gives old lo new lm (take n new.held)
 give_rest old lo mid lm new n e before o none len some = subst (λ r. Gives old lo r lm (take n r.held)) (sym e) (rest_given old lo mid lm n before o none len some)
 
 -- no line is left
-pub ends : (old : Reader) (lo : Option (List ℕ)) (mid : Reader) (lm : Option (List ℕ)) → Passes old lo mid lm [] → IsOpen mid → NoneLeft mid lm
+pub ends : (old : Reader) (lo : Option (List ℕ)) (mid : Reader) (lm : Option (List ℕ)) → Passes old lo mid lm [] → IsOpen mid → NoneLeft mid
     → length mid.held ≡ 0 → Ends old lo mid lm
 ends old lo mid lm before o none e =
     let no_pending : pending mid ≡ [] = open_pending mid o ∙ nil_of mid.held e in
     record {
       goes = o.goes;
+      ended = none.ended;
       more_room = none.more_room;
       reaches = omega (arith, before.count);
       empty = λ s h.
           let g = before.behind s h in
-          let over : g.rest ≡ [] = over_told mid lm g.rest no_pending none.at_end g.stream in
-          (g.is ∙ over, record { rest = g.stream.rest; told = g.stream.told; is = sym over ∙ g.stream.is });
+          let over : g.rest ≡ [] = over_told mid lm g.rest no_pending none.ended g.stream in
+          (g.is ∙ over, record { rest = g.stream.rest; told = g.stream.told; is = sym over ∙ g.stream.is; at_end = g.stream.at_end });
       charged = charged old lo mid lm [] before;
     }
 
@@ -297,13 +336,15 @@ passed_end old lo new ln line none long goes p = record {
   falls = omega (arith, p.count, length-append line (10 ∷ []));
   first = λ s h.
       let g = p.behind s h in
+      let is : s ≡ line ++ 10 ∷ g.rest = g.is ∙ append_assoc line (10 ∷ []) g.rest in
       record {
         line = line;
         long = long;
         first = record {
           after = g.rest;
-          is_line = record { no_end = none; is = inl (g.is ∙ append_assoc line (10 ∷ []) g.rest) };
+          is_line = record { no_end = none; is = inl is };
           goes_on = g.stream;
+          last = λ same. absurd (has_end line g.rest s is same);
         };
       };
   charged = charged old lo new ln (line ++ 10 ∷ []) p;
@@ -311,13 +352,13 @@ passed_end old lo new ln line none long goes p = record {
 
 -- a line that is too long was passed over up to the end of the source
 passed_all : (old : Reader) (lo : Option (List ℕ)) (new : Reader) (ln : Option (List ℕ)) (line : List ℕ) → NoLineEnd line → MAX_LINE < length line → new.stopped ≡ None
-    → Passes old lo new ln line → IsOver new ln → PassesOver old lo new ln
+    → Passes old lo new ln line → IsOver new → PassesOver old lo new ln
 passed_all old lo new ln line none long goes p is_over = record {
   goes = goes;
   falls = omega (arith, p.count);
   first = λ s h.
       let g = p.behind s h in
-      let over : g.rest ≡ [] = over_told new ln g.rest is_over.none_held is_over.at_end g.stream in
+      let over : g.rest ≡ [] = over_told new ln g.rest is_over.none_held is_over.ended g.stream in
       let same : line ++ [] ≡ line = search rules in
       record {
         line = line;
@@ -326,6 +367,7 @@ passed_all old lo new ln line none long goes p is_over = record {
           after = g.rest;
           is_line = record { no_end = none; is = inr (g.is ∙ ap (λ w. line ++ w) over ∙ same, omega arith, over) };
           goes_on = g.stream;
+          last = λ _. is_over.ended;
         };
       };
   charged = charged old lo new ln line p;
@@ -334,7 +376,7 @@ passed_all old lo new ln line none long goes p is_over = record {
 -- it was passed over in one of these ways
 either_way : (old : Reader) (lo : Option (List ℕ)) (mid : Reader) (lm : Option (List ℕ)) (new : Reader) (ln : Option (List ℕ)) (line : List ℕ) → NoLineEnd line
     → MAX_LINE < length line → new.stopped ≡ None → Passes old lo mid lm []
-    → Passes mid lm new ln (line ++ 10 ∷ []) ⊎ (Passes mid lm new ln line × IsOver new ln) → PassesOver old lo new ln
+    → Passes mid lm new ln (line ++ 10 ∷ []) ⊎ (Passes mid lm new ln line × IsOver new) → PassesOver old lo new ln
 either_way old lo mid lm new ln line none long goes before (inl p) =
     passed_end old lo new ln line none long goes (pass_both old lo mid lm new ln [] (line ++ 10 ∷ []) before p)
 either_way old lo mid lm new ln line none long goes before (inr p) =
@@ -420,7 +462,7 @@ search_ends old lo a la b lb seen n so_far none short f e =
         no_end = no_end_same a.held b.held (sym same) none;
         short = omega (arith, ap length same);
         more_room = omega (arith, f.had_room, f.room);
-        at_end = f.at_end e;
+        ended = f.ended e;
       };
     }
 
@@ -499,7 +541,7 @@ skip_ends old lo a la b lb n so_far empty f e = record {
   long = omega (arith, so_far.long, ap length empty, length-append so_far.over a.held);
   passes = inr (
     pass_then old lo a la b lb so_far.over so_far.passes (pass_fill a la b lb n so_far.is_open f),
-    record { none_held = open_pending b f.is_open ∙ same_held a la b lb n f e ∙ empty; at_end = f.at_end e },
+    record { none_held = open_pending b f.is_open ∙ same_held a la b lb n f e ∙ empty; ended = f.ended e },
   );
 }
 

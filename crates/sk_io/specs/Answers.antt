@@ -1,5 +1,5 @@
 -- What each answer of a reader of lines means.
-use Rattle.std.specs.Prelude.{◌≡◌, ℕ, ◌+◌, ◌<◌, ◌≤◌, ◌⊎◌, List, [], ◌++◌, length, Option, None, Some, Result, IsErrOf}
+use Rattle.std.specs.Prelude.{◌≡◌, ℕ, ◌+◌, ◌<◌, ◌≤◌, ◌⊎◌, true, List, [], ◌++◌, length, Option, None, Some, Result, IsErrOf}
 use Rattle.sk_io.specs.declared.line.LineStop.{LineStop}
 use Rattle.sk_io.specs.declared.line.LineStop.TheVariants.{Failed, TooMuch}
 use Rattle.sk_io.specs.declared.line.Line.{Line}
@@ -14,19 +14,21 @@ abbrev pub Charged : Reader → Option (List ℕ) → Reader → Option (List �
 Charged old left new left' =
     (rest rest' : List ℕ) → left ≡ Some rest → left' ≡ Some rest' → new.room + length rest ≡ old.room + length rest'
 
--- no line is left
+-- no line is left, and the source's end was reached
 pub record Ends (old : Reader) (left : Option (List ℕ)) (new : Reader) (left' : Option (List ℕ)) : Type 0 where
   pub goes : new.stopped ≡ None
+  pub ended : new.ended ≡ true
   pub more_room : 0 < new.room
   pub reaches : reach new ≤ reach old
   pub empty : (s : List ℕ) → StreamIs old left s → (s ≡ []) × StreamIs new left' []
   pub charged : Charged old left new left'
 
--- `line` is the first line of s, and the stream goes on behind it
+-- `line` is the first line of s, and the stream goes on behind it; one without an end is given only where the source's end was reached
 pub record LineOf (line : List ℕ) (new : Reader) (left' : Option (List ℕ)) (s : List ℕ) : Type 0 where
   pub after : List ℕ
   pub is_line : IsLine line s after
   pub goes_on : StreamIs new left' after
+  pub last : s ≡ line → new.ended ≡ true
 
 -- the first line was given
 pub record Gives (old : Reader) (left : Option (List ℕ)) (new : Reader) (left' : Option (List ℕ)) (line : List ℕ) : Type 0 where
@@ -78,10 +80,11 @@ ReadsOn old left new left' (whole line) = Gives old left new left' line
 ReadsOn old left new left' too_long = PassesOver old left new left'
 ReadsOn old left new left' (stopped why) = Stops old left new left' why
 
--- what a call of `next` did, by its answer
+-- what a call of `next` did, by its answer; a reader that reached the end stays there
 pub record Reads (old : Reader) (left : Option (List ℕ)) (new : Reader) (left' : Option (List ℕ)) (answer : Outcome) : Type 0 where
   pub again : (why : LineStop) → old.stopped ≡ Some why → StopsAgain old left new left' answer why
   pub goes_on : old.stopped ≡ None → ReadsOn old left new left' answer
+  pub stays : old.ended ≡ true → new.ended ≡ true
 
 -- the count of faults does not fall, and the stop `Failed` comes only where it rose, or again
 pub record StopHasCause {T : Type 0} (stop : Option LineStop) (before now : ℕ) (result : Result T LineStop) : Type 0 where

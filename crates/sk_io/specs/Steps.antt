@@ -1,5 +1,5 @@
 -- The steps of a reader of lines, for the functions below `next`.
-use Rattle.std.specs.Prelude.{◌≡◌, ℕ, ◌+◌, ◌^◌, ◌<◌, ◌≤◌, ◌⊎◌, List, [], ◌∷◌, ◌++◌, length, take, drop, Option, None, Some, Result, Ok, Err, IsErrOf}
+use Rattle.std.specs.Prelude.{◌≡◌, ℕ, ◌+◌, ◌^◌, ◌<◌, ◌≤◌, ◌⊎◌, true, List, [], ◌∷◌, ◌++◌, length, take, drop, Option, None, Some, Result, Ok, Err, IsErrOf}
 use Rattle.std.specs.Io.KnownBytes.{Keeps, Consumes, IsAtEnd}
 use Rattle.sk_io.specs.declared.line.LineStop.{LineStop}
 use Rattle.sk_io.specs.declared.line.LineStop.TheVariants.{Failed, TooMuch}
@@ -41,7 +41,7 @@ pub record IsOpen (r : Reader) : Type 0 where
   pub none_given : r.given ≡ 0
   pub goes : r.stopped ≡ None
 
--- n bytes more are held
+-- n bytes more are held; none only where the source's end was reached, now or before
 pub record Fills (old : Reader) (left : Option (List ℕ)) (new : Reader) (left' : Option (List ℕ)) (n : ℕ) : Type 0 where
   pub is_open : IsOpen new
   pub had_room : 0 < old.room
@@ -50,7 +50,8 @@ pub record Fills (old : Reader) (left : Option (List ℕ)) (new : Reader) (left'
   pub count : length taken ≡ n
   pub held : new.held ≡ old.held ++ taken
   pub told : Consumes left left' taken
-  pub at_end : n ≡ 0 → IsAtEnd left'
+  pub ended : n ≡ 0 → new.ended ≡ true
+  pub at_end : new.ended ≡ true → IsAtEnd left' ⊎ (old.ended ≡ true)
 
 -- no byte more could be taken
 pub record Halts (old : Reader) (left : Option (List ℕ)) (new : Reader) (left' : Option (List ℕ)) (why : LineStop) : Type 0 where
@@ -64,10 +65,17 @@ pub record GoesOnBehind (over : List ℕ) (new : Reader) (left' : Option (List �
   pub is : s ≡ over ++ rest
   pub stream : StreamIs new left' rest
 
+-- the source tells what it has left, and as much was taken off it as off the room
+pub record Tells (old new : Reader) (left' : Option (List ℕ)) (rest : List ℕ) : Type 0 where
+  pub rest' : List ℕ
+  pub told : left' ≡ Some rest'
+  pub charged : new.room + length rest ≡ old.room + length rest'
+
 -- the bytes `over` were passed over, and nothing else
 pub record Passes (old : Reader) (left : Option (List ℕ)) (new : Reader) (left' : Option (List ℕ)) (over : List ℕ) : Type 0 where
   pub count : reach new + length over ≡ reach old
   pub behind : (s : List ℕ) → StreamIs old left s → GoesOnBehind over new left' s
+  pub tells : (rest : List ℕ) → left ≡ Some rest → Tells old new left' rest
 
 -- the reader stopped in a line of which `over` was passed over
 pub record Halted (old : Reader) (left : Option (List ℕ)) (new : Reader) (left' : Option (List ℕ)) (why : LineStop) : Type 0 where
@@ -79,11 +87,11 @@ pub record Halted (old : Reader) (left : Option (List ℕ)) (new : Reader) (left
   pub full : why ≡ TooMuch → new.room ≡ 0
 
 -- no line's end is left, neither here nor in the source
-pub record NoneLeft (new : Reader) (left' : Option (List ℕ)) : Type 0 where
+pub record NoneLeft (new : Reader) : Type 0 where
   pub no_end : NoLineEnd new.held
   pub short : length new.held ≤ MAX_LINE
   pub more_room : 0 < new.room
-  pub at_end : IsAtEnd left'
+  pub ended : new.ended ≡ true
 
 -- a line that is longer than a line may be, so far
 pub record IsFar (new : Reader) : Type 0 where
@@ -96,21 +104,21 @@ pub record EndIsHeld (new : Reader) (at : ℕ) : Type 0 where
   pub fits : at + 1 < 2 ^ 64
 
 -- where the first line ends
-abbrev pub IsSought : Reader → Option (List ℕ) → LineEnd → Type 0
-IsSought new left' (At at) = EndIsHeld new at
-IsSought new left' Far = IsFar new
-IsSought new left' Nowhere = NoneLeft new left'
+abbrev pub IsSought : Reader → LineEnd → Type 0
+IsSought new (At at) = EndIsHeld new at
+IsSought new Far = IsFar new
+IsSought new Nowhere = NoneLeft new
 
 -- the end of the first line was sought, and all that was taken is held
 pub record Sought (old : Reader) (left : Option (List ℕ)) (new : Reader) (left' : Option (List ℕ)) (end : LineEnd) : Type 0 where
   pub is_open : IsOpen new
   pub passes : Passes old left new left' []
-  pub sought : IsSought new left' end
+  pub sought : IsSought new end
 
--- nothing is held, and nothing is left
-pub record IsOver (new : Reader) (left' : Option (List ℕ)) : Type 0 where
+-- nothing is held, and the source's end was reached
+pub record IsOver (new : Reader) : Type 0 where
   pub none_held : pending new ≡ []
-  pub at_end : IsAtEnd left'
+  pub ended : new.ended ≡ true
 
 -- the rest of a line was passed over: up to its end, or to the end of the source
 pub record Skips (old : Reader) (left : Option (List ℕ)) (new : Reader) (left' : Option (List ℕ)) : Type 0 where
@@ -118,7 +126,7 @@ pub record Skips (old : Reader) (left : Option (List ℕ)) (new : Reader) (left'
   pub line : List ℕ
   pub no_end : NoLineEnd line
   pub long : length old.held ≤ length line
-  pub passes : Passes old left new left' (line ++ 10 ∷ []) ⊎ (Passes old left new left' line × IsOver new left')
+  pub passes : Passes old left new left' (line ++ 10 ∷ []) ⊎ (Passes old left new left' line × IsOver new)
 
 -- the count of faults does not fall, and the stop `Failed` comes only where it rose
 pub record FailHasCause {T : Type 0} (before now : ℕ) (result : Result T LineStop) : Type 0 where

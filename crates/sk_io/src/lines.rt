@@ -1,5 +1,5 @@
 //! A source cut into lines.
-ghost use Rattle.std.specs.Prelude.{◌≡◌, ◌<◌, ◌≤◌, ◌+◌, List, [], None, Some, IfOk, IfErr, OnOk, IsSome, length, drop};
+ghost use Rattle.std.specs.Prelude.{◌≡◌, ◌<◌, ◌≤◌, ◌+◌, true, false, List, [], None, Some, Ok, IfOk, IfErr, OnOk, IsOk, IsSome, length, drop};
 ghost use Rattle.std.specs.Borrow.{sem};
 ghost use Rattle.std.specs.Io.BufRead.{Rests};
 ghost use Rattle.sk_io.specs.contracts.lines.Lines.{the_row};
@@ -22,17 +22,18 @@ pub struct Lines {
     given: usize,
     room: u64,
     stopped: Option<LineStop>,
+    ended: bool,
 }
 
 impl Model for Lines {
-    ghost use Rattle.std.specs.Prelude.{◌≤◌, length};
+    ghost use Rattle.std.specs.Prelude.{◌≡◌, ◌<◌, ◌≤◌, true, length};
     ghost use Rattle.sk_io.specs.Reading.{Reader};
 
     ghost Value = { Reader };
 
-    ghost view = { λ l. record { held = l.window; given = l.given; room = l.room; stopped = l.stopped } };
+    ghost view = { λ l. record { held = l.window; given = l.given; room = l.room; stopped = l.stopped; ended = l.ended } };
 
-    ghost invariant = { λ l. l.given ≤ length l.window };
+    ghost invariant = { λ l. (l.given ≤ length l.window) × (l.ended ≡ true → 0 < l.room) };
 }
 
 impl Lines {
@@ -40,7 +41,7 @@ impl Lines {
     /// taken here.
     pub fn new(alloc: Global, limit: u64) -> Result<Lines, AllocError>
         requires { 1 ≤ limit }
-        ensures { IfOk result (λ lines. lines ≡ record { held = []; given = 0; room = limit; stopped = None }) }
+        ensures { IfOk result (λ lines. lines ≡ record { held = []; given = 0; room = limit; stopped = None; ended = false }) }
     {
         let window = Window::new(alloc)?;
         Ok(Lines {
@@ -48,16 +49,19 @@ impl Lines {
             given: 0,
             room: limit,
             stopped: None,
+            ended: false,
         })
     }
 
     /// The next line, or `None` where the source is at its end. What is held is searched before the
     /// source is asked, which is never asked for more than is left of the limit. After a stop each
-    /// call answers the same stop.
+    /// call answers the same stop. Once the source gave 0 bytes it is not asked again.
     pub fn next<S: Source>(&mut self, source: &mut S) -> Result<Option<Line<'_>>, LineStop>
         ensures short { IfOk result IsShort }
         ensures untouched { IsSome self.old.stopped → source.new ≡ source.old }
         ensures prompt { HasLineEnd (pending self.old) → source.new ≡ source.old }
+        ensures ended { self.old.ended ≡ true → source.new ≡ source.old }
+        ensures no_stop { self.old.ended ≡ true → self.old.stopped ≡ None → IsOk result }
         ensures cause { StopHasCause self.old.stopped (S.faults source.old) (S.faults source.new) result }
         ensures* after { sem 𝓛 (Rests the_row self.entry (λ new. Reads self.old (S.left source.old) new (S.left source.new) (outcome result))) }
     {
@@ -80,6 +84,8 @@ impl Lines {
         ensures within { IfOk result (IsWithin self.new) }
         ensures untouched { IsSome self.old.stopped → source.new ≡ source.old }
         ensures prompt { HasLineEnd (pending self.old) → source.new ≡ source.old }
+        ensures ended { self.old.ended ≡ true → source.new ≡ source.old }
+        ensures no_stop { self.old.ended ≡ true → self.old.stopped ≡ None → IsOk result }
         ensures cause { StopHasCause self.old.stopped (S.faults source.old) (S.faults source.new) result }
     {
         if let Some(why) = self.stopped {
@@ -94,6 +100,7 @@ impl Lines {
         ensures reads { ReadsOn self.old (S.left source.old) self.new (S.left source.new) (found_outcome self.new result) }
         ensures within { IfOk result (IsWithin self.new) }
         ensures prompt { HasLineEnd (pending self.old) → source.new ≡ source.old }
+        ensures ended { self.old.ended ≡ true → (self.new.ended ≡ true) × (source.new ≡ source.old) × IsOk result }
         ensures cause { FailHasCause (S.faults source.old) (S.faults source.new) result }
     {
         self.drop_given();
@@ -146,14 +153,18 @@ impl Lines {
         self.given = n;
     }
 
-    // Takes some bytes more.
+    // Takes some bytes more, or none at the source's end.
     fn fill<S: Source>(&mut self, source: &mut S) -> Result<usize, LineStop>
         requires is_open { IsOpen self.old }
         requires space { length self.old.held ≤ MAX_LINE }
         ensures ok { IfOk result (Fills self.old (S.left source.old) self.new (S.left source.new)) }
         ensures err { IfErr result (Halts self.old (S.left source.old) self.new (S.left source.new)) }
+        ensures ended { self.old.ended ≡ true → (self.new ≡ self.old) × (source.new ≡ source.old) × (result ≡ Ok 0) }
         ensures cause { FailHasCause (S.faults source.old) (S.faults source.new) result }
     {
+        if self.ended {
+            return Ok(0);
+        }
         if self.room == 0 {
             self.stopped = Some(LineStop::TooMuch);
             return Err(LineStop::TooMuch);
@@ -161,6 +172,7 @@ impl Lines {
         match self.window.fill(source, self.room as usize) {
             Ok(n) => {
                 self.room -= n as u64;
+                self.ended = n == 0;
                 Ok(n)
             }
             Err(Failed) => {
@@ -176,6 +188,7 @@ impl Lines {
         ensures ok { IfOk result (Sought self.old (S.left source.old) self.new (S.left source.new)) }
         ensures prompt { HasLineEnd self.old.held → (source.new ≡ source.old) × EndIsFound result }
         ensures err { IfErr result (Halted self.old (S.left source.old) self.new (S.left source.new)) }
+        ensures ended { self.old.ended ≡ true → (self.new ≡ self.old) × (source.new ≡ source.old) × IsOk result }
         ensures cause { FailHasCause (S.faults source.old) (S.faults source.new) result }
     {
         let mut seen = 0;
@@ -200,6 +213,7 @@ impl Lines {
         requires no_end { NoLineEnd self.old.held }
         ensures ok { OnOk result (Skips self.old (S.left source.old) self.new (S.left source.new)) }
         ensures err { IfErr result (Halted self.old (S.left source.old) self.new (S.left source.new)) }
+        ensures ended { self.old.ended ≡ true → (self.new.ended ≡ true) × (source.new ≡ source.old) × IsOk result }
         ensures cause { FailHasCause (S.faults source.old) (S.faults source.new) result }
     {
         'skip: loop {

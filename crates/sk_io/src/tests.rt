@@ -134,6 +134,22 @@ fn stops_at_a_fault(rt: HostRuntime) -> Result<(), Fail> {
     Ok(())
 }
 
+// The third call of the source is to fail. None is made behind the end, so it is still to come.
+#[test]
+fn asks_no_source_behind_its_end(rt: HostRuntime) -> Result<(), Fail> {
+    let alloc = rt.alloc();
+    let mut source = source_of(alloc, b"a\nbc", 1000, &[3])?;
+    let mut lines = Lines::new(alloc, FAR)?;
+    assert_eq!(rt; lines.next(&mut source), Ok(Some(Line::Whole(b"a"))));
+    assert_eq!(rt; lines.next(&mut source), Ok(Some(Line::Whole(b"bc"))));
+    assert_eq!(rt; lines.next(&mut source), Ok(None));
+    assert_eq!(rt; lines.next(&mut source), Ok(None));
+    let mut buf = [0u8; 1];
+    assert_eq!(rt; source.take(&mut buf), Err(Failed));
+    assert_eq!(rt; source.take(&mut buf), Ok(0));
+    Ok(())
+}
+
 #[test]
 fn a_source_gives_pieces_and_fails_where_told(rt: HostRuntime) -> Result<(), Fail> {
     let alloc = rt.alloc();

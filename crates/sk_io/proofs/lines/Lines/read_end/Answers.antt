@@ -1,4 +1,4 @@
-use Rattle.std.proofs.Common.{◌≤◌, length, arith, ap, sym}
+use Rattle.std.proofs.Common.{◌≡◌, ◌≤◌, ◌∙◌, true, length, arith, ap, sym}
 use Rattle.std.proofs.lemmas.Result.{err_from_is_err_and}
 use Rattle.sk_io.specs.LineText.{NoLineEnd}
 use Rattle.sk_io.proofs.LineEnds.{no_end_same}
@@ -24,4 +24,9 @@ search-preserved g c =
       so_far = search_seen _ _ _ _ _ _ (ap length (sym c.held-seen.ensures)) (search_more _ _ c.search.self _ _ _ c.search.seen c.in_ok-n.n c.search.invariant.so_far none c.in_ok-n.ensures.ok);
       later = omega (arith, c.search.invariant.later, c.fill.ensures.cause.later);
       prompt = λ h. absurd (h (no_end_same c.search.self.held c.args.self.now.held (ap (λ r. r.held) (c.search.invariant.prompt h).0) none));
+      ended = λ e.
+          let was : c.search.self.ended ≡ true = ap (λ r. r.ended) (c.search.invariant.ended e).0 ∙ e in
+          let got = (c.in_ok-n.ensures.ended was).2 in
+          let none_taken : c.in_ok-n.n ≡ 0 = cc in
+          absurd (c.if-n-eq0.false none_taken);
     }

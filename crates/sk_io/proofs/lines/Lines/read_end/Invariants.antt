@@ -1,4 +1,4 @@
-use Rattle.std.proofs.Common.{◌≡◌, ◌≤◌}
+use Rattle.std.proofs.Common.{◌≡◌, ◌≤◌, true}
 use Rattle.sk_io.specs.LineText.{HasLineEnd}
 use Rattle.sk_io.proofs.Stream.{SearchSoFar}
 use Rattle.sk_io.proofs.lines.Lines.read_end.Given as goal
@@ -8,6 +8,7 @@ invariant-search g l = record {
   so_far : SearchSoFar l.fn.self (g.S.Source.left l.fn.source) l.self (g.S.Source.left l.source) l.seen;
   later : g.S.Source.faults l.fn.source ≤ g.S.Source.faults l.source;
   prompt : HasLineEnd l.fn.self.held → (l.self ≡ l.fn.self) × (l.source ≡ l.fn.source);
+  ended : l.fn.self.ended ≡ true → (l.self ≡ l.fn.self) × (l.source ≡ l.fn.source);
 }
 
 abbrev pub decreases-search : goal.decreases-search

@@ -1,4 +1,4 @@
-use Rattle.std.proofs.Common.{arith, ap}
+use Rattle.std.proofs.Common.{◌≡◌, ◌∙◌, true, arith, ap}
 use Rattle.std.proofs.lemmas.Result.{err_from_is_err_and}
 use Rattle.sk_io.specs.LineText.{NoLineEnd}
 use Rattle.sk_io.specs.Steps.{EndsAt}
@@ -33,4 +33,9 @@ skip-preserved g c =
     record {
       so_far = skip_more _ _ c.drop_held.new.self _ c.fill.new.self _ c.in_ok-n.n so_far empty c.in_ok-n.ensures.ok none;
       later = omega (arith, c.skip.invariant.later, c.fill.ensures.cause.later);
+      ended = λ e.
+          let was : c.drop_held.new.self.ended ≡ true = ap (λ r. r.ended) c.drop_held.ensures ∙ (c.skip.invariant.ended e).0 in
+          let got = (c.in_ok-n.ensures.ended was).2 in
+          let none_taken : c.in_ok-n.n ≡ 0 = cc in
+          absurd (c.if-n-eq0.false none_taken);
     }

@@ -1,0 +1,5 @@
+pub mod Terms
+pub mod Heads
+pub mod Searches
+pub mod Order
+pub mod Blocks

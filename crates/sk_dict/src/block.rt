@@ -1,0 +1,73 @@
+//! A piece of the order of the terms.
+ghost use Rattle.std.specs.Prelude.{◌≡◌, ◌<◌, ◌≤◌, [], ◌∷◌, length, take, drop, IfOk, OnOk, OnErr};
+ghost use Rattle.std.specs.List.{insert};
+ghost use Rattle.sk_dict.specs.Blocks.{IsBlock};
+
+use std::alloc::{AllocError, Global};
+use std::marker::Model;
+
+/// How many numbers a block holds at the most.
+pub(crate) const FULL: usize = 512;
+
+/// Numbers of terms, at least one. Contracts see it as the list of these.
+#[derive(Debug, Drop)]
+pub(crate) struct Block {
+    numbers: Vec<usize>,
+}
+
+impl Model for Block {
+    ghost use Rattle.std.specs.Prelude.{List, ℕ};
+    ghost use Rattle.sk_dict.specs.Blocks.{IsBlock};
+
+    ghost Value = { List ℕ };
+
+    ghost view = { λ b. b.numbers.items };
+
+    ghost invariant = { λ b. IsBlock b.numbers.items };
+}
+
+impl Block {
+    /// The block of one number.
+    pub fn new(alloc: Global, number: usize) -> Result<Block, AllocError>
+        ensures { IfOk result (λ b. b ≡ number ∷ []) }
+    {
+        let mut numbers = Vec::new(alloc);
+        numbers.push(number)?;
+        Ok(Block { numbers })
+    }
+
+    pub fn numbers(&self) -> &[usize]
+        ensures value { result.now ≡ self.now }
+        ensures sized { IsBlock self.now }
+    {
+        self.numbers.as_slice()
+    }
+
+    /// Puts the number at the slot, and moves those from there on by one.
+    pub fn insert(&mut self, slot: usize, number: usize) -> Result<(), AllocError>
+        requires within { slot ≤ length self.old }
+        requires room { length self.old < FULL }
+        ensures ok { OnOk result (self.new ≡ insert self.old slot number) }
+        ensures err { OnErr result (self.new ≡ self.old) }
+    {
+        self.numbers.insert(slot, number)?;
+        Ok(())
+    }
+
+    /// A copy of the numbers from the slot on.
+    pub fn upper(&self, slot: usize) -> Result<Block, AllocError>
+        requires { slot < length self.now }
+        ensures { IfOk result (λ b. b ≡ drop slot self.now) }
+    {
+        let numbers = Vec::from_slice(*self.numbers.allocator(), &self.numbers[slot..])?;
+        Ok(Block { numbers })
+    }
+
+    /// Keeps the first `count` numbers. It takes no memory.
+    pub fn truncate(&mut self, count: usize)
+        requires { 0 < count }
+        ensures { self.new ≡ take count self.old }
+    {
+        self.numbers.truncate(count);
+    }
+}

@@ -1,0 +1,150 @@
+//! The dictionary.
+ghost use Rattle.std.specs.Prelude.{◌≡◌, ◌≢◌, ◌<◌, ◌++◌, ◌∷◌, true, Some, None, [], length, is_some, IfOk, OnOk, OnErr, IfSome, MatchOption};
+ghost use Rattle.std.specs.List.{AllPairs};
+ghost use Rattle.sk_dict.specs.Terms.{term_at, number_of, number_for, with_term, begins_with, IsNext, HasNoNext};
+ghost use Rattle.sk_dict.specs.Searches.{start_of, IsFirst, AllPassed};
+
+use crate::block::Block;
+use crate::order::{find_place, number_at, put};
+use crate::terms::Terms;
+use sk_base::Term;
+use std::alloc::{AllocError, Global};
+use std::marker::Model;
+
+/// Terms, each with a number from 0 in the order in which they came. Contracts see it as the list of the terms by number.
+#[derive(Debug, Drop)]
+pub struct Dict {
+    terms: Terms,
+    blocks: Vec<Block>,
+}
+
+impl Model for Dict {
+    ghost use Rattle.std.specs.Prelude.{List, ℕ};
+    ghost use Rattle.std.specs.List.{concat};
+    ghost use Rattle.sk_dict.specs.Order.{IsOrder};
+
+    ghost Value = { List (List ℕ) };
+
+    ghost view = { λ d. d.terms };
+
+    ghost invariant = { λ d. IsOrder d.terms (concat d.blocks.items) };
+}
+
+impl Dict {
+    /// The dictionary without a term. It keeps the allocator, and takes no memory.
+    pub fn new(alloc: Global) -> Dict
+        ensures { result ≡ [] }
+    {
+        Dict {
+            terms: Terms::new(alloc),
+            blocks: Vec::new(alloc),
+        }
+    }
+
+    /// How many terms there are.
+    pub fn len(&self) -> usize
+        ensures count { result ≡ length self.now }
+        ensures different { AllPairs (λ s t. s ≢ t) self.now }
+    {
+        self.terms.len()
+    }
+
+    /// The term with this number.
+    pub fn term(&self, number: usize) -> &str
+        requires { number < length self.now }
+        ensures { result.now ≡ term_at self.now number }
+    {
+        self.terms.get(number)
+    }
+
+    /// The number of the term. It takes no memory.
+    pub fn find(&self, term: &[u8]) -> Option<usize>
+        ensures value { result ≡ number_of term.now self.now }
+        ensures there { IfSome result (λ n. n < length self.now) }
+    {
+        let number = self.first(term, false)?;
+        if self.terms.get(number).as_bytes() == term {
+            Some(number)
+        } else {
+            None
+        }
+    }
+
+    /// The number of the term, which is given the next one where it is new.
+    pub fn add(&mut self, term: Term) -> Result<usize, AllocError>
+        ensures ok { IfOk result (λ n. n ≡ number_for term self.old) }
+        ensures after { OnOk result (self.new ≡ with_term term self.old) }
+        ensures found { IfOk result (λ n. number_of term self.new ≡ Some n) }
+        ensures there { IfOk result (λ n. n < length self.new) }
+        ensures err { OnErr result (self.new ≡ self.old) }
+    {
+        match self.find(term.as_str().as_bytes()) {
+            Some(number) => Ok(number),
+            None => self.add_new(term),
+        }
+    }
+
+    /// The number of the first term that begins with the prefix and stands behind the term with the number `after`, if one is given.
+    /// It takes no memory.
+    pub fn next_with_prefix(&self, prefix: &[u8], after: Option<usize>) -> Option<usize>
+        requires there { IfSome after (λ a. a < length self.now) }
+        requires begins { IfSome after (λ a. begins_with (term_at self.now a) prefix.now ≡ true) }
+        ensures { MatchOption result (HasNoNext self.now prefix.now after) (λ n. IsNext self.now prefix.now after n) }
+    {
+        let number = self.first(self.start(prefix, after), after.is_some())?;
+        if self.term(number).as_bytes().starts_with(prefix) {
+            Some(number)
+        } else {
+            None
+        }
+    }
+
+    // The first term at the key, or behind it.
+    fn first(&self, key: &[u8], behind: bool) -> Option<usize>
+        ensures { MatchOption result (AllPassed self.now key.now behind) (λ n. IsFirst self.now key.now behind n) }
+    {
+        if self.blocks.is_empty() {
+            return None;
+        }
+        let place = find_place(&self.terms, &self.blocks, key, behind);
+        number_at(&self.blocks, place)
+    }
+
+    // Where the search for the next term begins.
+    fn start<'a>(&'a self, prefix: &'a [u8], after: Option<usize>) -> &'a [u8]
+        requires { IfSome after (λ a. a < length self.now) }
+        ensures { result.now ≡ start_of self.now prefix.now after }
+    {
+        match after {
+            None => prefix,
+            Some(number) => self.term(number).as_bytes(),
+        }
+    }
+
+    // Gives the next number to a term that is not there.
+    fn add_new(&mut self, term: Term) -> Result<usize, AllocError>
+        requires { number_of term self.old ≡ None }
+        ensures ok { IfOk result (λ n. n ≡ length self.old) }
+        ensures after { OnOk result (self.new ≡ self.old ++ term ∷ []) }
+        ensures found { IfOk result (λ n. number_of term self.new ≡ Some n) }
+        ensures there { IfOk result (λ n. n < length self.new) }
+        ensures err { OnErr result (self.new ≡ self.old) }
+    {
+        let number = self.terms.len();
+        self.terms.push(term)?;
+        let key = self.terms.get(number).as_bytes();
+        match put(
+            &mut self.blocks,
+            self.terms.allocator(),
+            &self.terms,
+            key,
+            number,
+        ) {
+            Ok(()) => Ok(number),
+            Err(fault) => {
+                self.terms.truncate(number);
+                Err(fault)
+            }
+        }
+    }
+}
