@@ -2,6 +2,7 @@
 use Rattle.std.proofs.Common.{◌≡◌, ◌<◌, ◌≤◌, ◌+◌, ◌^◌, ℕ, Bool, true, false, ◌||◌, if◌then◌else◌, ◌⊎◌, inl, inr, List, [], ◌∷◌, ◌++◌, length, Option, Some, None, Ok, sum_by, refl, sym, ap, ◌∙◌, subst, arith, append_assoc, append-nil, true≢false}
 use Rattle.std.specs.List.{list_any}
 use Rattle.std.specs.Io.KnownBytes.{Appends, Keeps}
+use Rattle.std.proofs.KnownBytes.{Appends-nil, Appends-trans, Appends-kept}
 use Rattle.std.proofs.lemmas.List.Sums.{sum_by-append}
 use Rattle.std.proofs.lemmas.List.Folds.{list_any-append}
 use Rattle.std.proofs.lemmas.Grind.{flat_map-append}
@@ -19,13 +20,16 @@ use Rattle.sk_engine.specs.Responses.{text_of, texts_of, is_refusal, steps_of}
 use Rattle.sk_engine.specs.Output.{State, start, Answers, Runs, stop, line}
 use Rattle.sk_engine.specs.Machines.{IsAt, Meets, Answered}
 use Rattle.sk_engine.specs.Lines.{AnsweredLine}
-use Rattle.sk_engine.specs.Ends.{Finishes, CutsShort, BreaksOff, TakesAll}
+use Rattle.sk_engine.specs.Ends.{EndsLine, Finishes, CutsShort, BreaksOff, TakesAll}
 use Rattle.sk_engine.specs.Ended.{Outside, Told, Ended, Closed}
 
 -- the first lines of the bytes were answered, and the others are to come
 pub record Reached (bytes : List ℕ) (answers : List Response) (reader : Reader) (left : Option (List ℕ)) (machine : Machine) : Type 0 where
   pub state : State
+  pub lines : List ℕ
   pub stream : List ℕ
+  pub behind : bytes ≡ lines ++ stream
+  pub line_end : EndsLine lines ⊎ (reader.ended ≡ true)
   pub goes_on : (more : List Response) (last : State) (rest : List ℕ) → Runs state stream more last rest → Runs start bytes (answers ++ more) last rest
   pub is : StreamIs reader left stream
   pub at : IsAt machine state
@@ -37,30 +41,54 @@ pub record TakenSoFar (bytes : List ℕ) (reader : Reader) (left : Option (List 
   pub taken : reader.room + length bytes ≡ 2 ^ 40 + length is.rest
 
 -- the answers so far were put, and counted
-pub record SoFar (bytes held : List ℕ) (reader : Reader) (left held_now : Option (List ℕ)) (machine : Machine) (refused : Bool) (begun now : ℕ) : Type 0 where
+pub record SoFar (bytes : List ℕ) (reader : Reader) (left held held_now : Option (List ℕ)) (machine : Machine) (refused : Bool) (begun now : ℕ) : Type 0 where
   pub answers : List Response
   pub reached : Reached bytes answers reader left machine
-  pub text : held_now ≡ Some (held ++ texts_of answers)
+  pub text : Appends held held_now (texts_of answers)
   pub refusals : refused ≡ list_any is_refusal answers
   pub cost : now ≡ begun + sum_by steps_of answers
 
 -- at first no line was answered
-pub begins : (bytes held : List ℕ) (reader : Reader) (left held_now : Option (List ℕ)) (machine : Machine) (begun : ℕ)
-    → reader ≡ record { held = []; given = 0; room = 2 ^ 40; stopped = None; ended = false } → left ≡ Some bytes → held_now ≡ Some held → IsAt machine start
-    → SoFar bytes held reader left held_now machine false begun begun
-begins bytes held reader left held_now machine begun new told holds at = record {
+pub begins : (bytes : List ℕ) (reader : Reader) (left held : Option (List ℕ)) (machine : Machine) (begun : ℕ)
+    → reader ≡ record { held = []; given = 0; room = 2 ^ 40; stopped = None; ended = false } → left ≡ Some bytes → IsAt machine start
+    → SoFar bytes reader left held held machine false begun begun
+begins bytes reader left held machine begun new told at = record {
   answers = [];
   reached = record {
     state = start;
+    lines = [];
     stream = bytes;
+    behind = refl;
+    line_end = inl (inl refl);
     goes_on = λ more last rest runs. runs;
     is = record { rest = bytes; told = told; is = ap (λ (r : Reader). pending r ++ bytes) (sym new); at_end = λ e. absurd (true≢false (sym e ∙ ap (λ (r : Reader). r.ended) new)) };
     at = at;
   };
-  text = holds ∙ ap Some (sym (append-nil held));
+  text = Appends-nil held;
   refusals = refl;
   cost = omega arith;
 }
+
+-- the bytes of the lines with one line more
+record LinesMore (bytes lines line after : List ℕ) (reader : Reader) : Type 0 where
+  lines_now : List ℕ
+  behind : bytes ≡ lines_now ++ after
+  line_end : EndsLine lines_now ⊎ (reader.ended ≡ true)
+
+lines_more : (bytes lines text : List ℕ) (reader : Reader) (left : Option (List ℕ)) (s : List ℕ) → bytes ≡ lines ++ s → (first : LineOf text reader left s) → LinesMore bytes lines text first.after reader
+lines_more bytes lines text reader left s behind first = by_end first.is_line.is
+  where
+    by_end : ((s ≡ text ++ 10 ∷ first.after) ⊎ ((s ≡ text) × (0 < length text) × (first.after ≡ []))) → LinesMore bytes lines text first.after reader
+    by_end (inl e) = record {
+      lines_now = (lines ++ text) ++ 10 ∷ [];
+      behind = behind ∙ ap (λ (w : List ℕ). lines ++ w) e ∙ sym (append_assoc lines text (10 ∷ first.after)) ∙ sym (append_assoc (lines ++ text) (10 ∷ []) first.after);
+      line_end = inl (inr (lines ++ text, refl));
+    }
+    by_end (inr e) = record {
+      lines_now = lines ++ text;
+      behind = behind ∙ ap (λ (w : List ℕ). lines ++ w) e.0 ∙ sym (append-nil (lines ++ text)) ∙ ap (λ (w : List ℕ). (lines ++ text) ++ w) (sym e.2);
+      line_end = inr (first.last e.0);
+    }
 
 -- the answer of one line more
 one_more : (bytes : List ℕ) (answers : List Response) (reader reader' : Reader) (left left' : Option (List ℕ)) (machine machine' : Machine) (response : Response) (text : List ℕ)
@@ -68,9 +96,13 @@ one_more : (bytes : List ℕ) (answers : List Response) (reader reader' : Reader
     → Reached bytes (answers ++ response ∷ []) reader' left' machine'
 one_more bytes answers reader reader' left left' machine machine' response text so first answered =
     let met : Meets (Answers so.state text response) machine' = answered so.state so.at in
+    let more : LinesMore bytes so.lines text first.after reader' = lines_more bytes so.lines text reader' left' so.stream so.behind first in
     record {
       state = met.next;
+      lines = more.lines_now;
       stream = first.after;
+      behind = more.behind;
+      line_end = more.line_end;
       goes_on = λ more last rest runs.
           subst (λ all. Runs start bytes all last rest) (sym (append_assoc answers (response ∷ []) more)) (so.goes_on (response ∷ more) last rest (line first.is_line met.allowed runs));
       is = first.goes_on;
@@ -120,9 +152,9 @@ read_on reader reader' left left' TooLong s is reads =
     behind_line long.line reader' left' s long.first
 
 -- the line that was read is not answered
-pub lost : (bytes held : List ℕ) (reader reader' : Reader) (left left' held_now : Option (List ℕ)) (machine : Machine) (refused : Bool) (begun now : ℕ) (l : Line)
-    → SoFar bytes held reader left held_now machine refused begun now → ReadsOn reader left reader' left' (outcome (Ok (Some l))) → BreaksOff bytes held left' held_now
-lost bytes held reader reader' left left' held_now machine refused begun now l so reads =
+pub lost : (bytes : List ℕ) (reader reader' : Reader) (left left' held held_now : Option (List ℕ)) (machine : Machine) (refused : Bool) (begun now : ℕ) (l : Line)
+    → SoFar bytes reader left held held_now machine refused begun now → ReadsOn reader left reader' left' (outcome (Ok (Some l))) → BreaksOff bytes left' held held_now
+lost bytes reader reader' left left' held held_now machine refused begun now l so reads =
     let ends : EndsIn left' so.reached.stream = read_on reader reader' left left' l so.reached.stream so.reached.is reads in
     record {
       answers = so.answers;
@@ -140,8 +172,8 @@ lost bytes held reader reader' left left' held_now machine refused begun now l s
     }
 
 -- nothing was read
-pub never_begun : (bytes held : List ℕ) (left held_now : Option (List ℕ)) → left ≡ Some bytes → held_now ≡ Some held → BreaksOff bytes held left held_now
-never_begun bytes held left held_now told holds = record {
+pub never_begun : (bytes : List ℕ) (left held : Option (List ℕ)) → left ≡ Some bytes → BreaksOff bytes left held held
+never_begun bytes left held told = record {
   answers = [];
   last = start;
   pending = [];
@@ -151,59 +183,64 @@ never_begun bytes held left held_now told holds = record {
   runs = stop;
   left = told;
   parts = refl;
-  text = holds ∙ ap Some (sym (append-nil held));
+  text = Appends-nil held;
 }
 
 texts-push : (answers : List Response) (response : Response) → texts_of (answers ++ response ∷ []) ≡ texts_of answers ++ text_of response
 texts-push answers response = flat_map-append text_of answers (response ∷ []) ∙ ap (λ (w : List ℕ). texts_of answers ++ w) (append-nil (text_of response))
 
+-- what the sink took of the answers so far and of one text more
+record PutFront (held held_now : Option (List ℕ)) (before text : List ℕ) : Type 0 where
+  shown : List ℕ
+  hidden : List ℕ
+  parts : before ++ text ≡ shown ++ hidden
+  put : Appends held held_now shown
+
+put_front : (held held_now held' : Option (List ℕ)) (before text : List ℕ) → Appends held held_now before → AppendsPrefix held_now held' text → PutFront held held' before text
+put_front None held_now held' before text put prefix = record { shown = before; hidden = text; parts = refl; put = tt }
+put_front (Some xs) None held' before text put prefix = absurd put
+put_front (Some xs) (Some ys) held' before text put prefix =
+    let front : AppendsFront ys held' text = prefix in
+    record {
+      shown = before ++ front.shown;
+      hidden = front.rest;
+      parts = ap (λ (w : List ℕ). before ++ w) front.whole ∙ sym (append_assoc before front.shown front.rest);
+      put = subst (λ o. Appends (Some xs) o (before ++ front.shown)) (sym front.now_held) (ap (λ (w : List ℕ). w ++ front.shown) put ∙ append_assoc xs before front.shown);
+    }
+
 -- the sink failed within the answer of a line
-pub unwritten : (bytes held : List ℕ) (reader reader' : Reader) (left left' held_now held' : Option (List ℕ)) (machine machine' : Machine) (refused : Bool) (begun now : ℕ) (l : Line) (response : Response) (text : List ℕ)
-    → SoFar bytes held reader left held_now machine refused begun now → ReadsOn reader left reader' left' (outcome (Ok (Some l))) → AnsweredLine machine l response machine'
-    → text ≡ text_of response → AppendsPrefix held_now held' text → BreaksOff bytes held left' held'
-unwritten bytes held reader reader' left left' held_now held' machine machine' refused begun now l response text so reads answered is prefix =
+pub unwritten : (bytes : List ℕ) (reader reader' : Reader) (left left' held held_now held' : Option (List ℕ)) (machine machine' : Machine) (refused : Bool) (begun now : ℕ) (l : Line) (response : Response) (text : List ℕ)
+    → SoFar bytes reader left held held_now machine refused begun now → ReadsOn reader left reader' left' (outcome (Ok (Some l))) → AnsweredLine machine l response machine'
+    → text ≡ text_of response → AppendsPrefix held_now held' text → BreaksOff bytes left' held held'
+unwritten bytes reader reader' left left' held held_now held' machine machine' refused begun now l response text so reads answered is prefix =
     let more : Reached bytes (so.answers ++ response ∷ []) reader' left' machine' = reach_more bytes so.answers reader reader' left left' machine machine' response l so.reached reads answered in
-    let front : AppendsFront (held ++ texts_of so.answers) held' text = subst (λ o. AppendsPrefix o held' text) so.text prefix in
+    let front : PutFront held held' (texts_of so.answers) text = put_front held held_now held' (texts_of so.answers) text so.text prefix in
     record {
       answers = so.answers ++ response ∷ [];
       last = more.state;
       pending = pending reader';
       rest = more.is.rest;
-      shown = texts_of so.answers ++ front.shown;
-      hidden = front.rest;
+      shown = front.shown;
+      hidden = front.hidden;
       runs =
           subst (λ all. Runs start bytes all more.state (pending reader' ++ more.is.rest)) (append-nil (so.answers ++ response ∷ []))
           (more.goes_on [] more.state (pending reader' ++ more.is.rest) (subst (λ s. Runs more.state more.stream [] more.state s) more.is.is stop));
       left = more.is.told;
-      parts = texts-push so.answers response ∙ ap (λ (w : List ℕ). texts_of so.answers ++ w) (sym is ∙ front.whole) ∙ sym (append_assoc (texts_of so.answers) front.shown front.rest);
-      text = front.now_held ∙ ap Some (append_assoc held (texts_of so.answers) front.shown);
+      parts = texts-push so.answers response ∙ ap (λ (w : List ℕ). texts_of so.answers ++ w) (sym is) ∙ front.parts;
+      text = front.put;
     }
 
-appended : (before after : Option (List ℕ)) (held text : List ℕ) → before ≡ Some held → Appends before after text → after ≡ Some (held ++ text)
-appended before after held text is grows = told after (subst (λ o. Appends o after text) is grows)
-  where
-    told : (after : Option (List ℕ)) → Appends (Some held) after text → after ≡ Some (held ++ text)
-    told None h = absurd h
-    told (Some xs) h = ap Some h
-
-kept : (before after : Option (List ℕ)) (held : List ℕ) → before ≡ Some held → Keeps before after → after ≡ Some held
-kept before after held is keeps = told after (subst (λ o. Keeps o after) is keeps)
-  where
-    told : (after : Option (List ℕ)) → Keeps (Some held) after → after ≡ Some held
-    told None h = absurd h
-    told (Some xs) h = ap Some h
-
 -- a line was read, answered and its answer put
-pub more_put : (bytes held : List ℕ) (reader reader' : Reader) (left left' held_now held' : Option (List ℕ)) (machine machine' : Machine) (refused refused' : Bool) (begun now now' : ℕ) (l : Line) (response : Response) (text : List ℕ)
-    → SoFar bytes held reader left held_now machine refused begun now → ReadsOn reader left reader' left' (outcome (Ok (Some l))) → AnsweredLine machine l response machine'
+pub more_put : (bytes : List ℕ) (reader reader' : Reader) (left left' held held_now held' : Option (List ℕ)) (machine machine' : Machine) (refused refused' : Bool) (begun now now' : ℕ) (l : Line) (response : Response) (text : List ℕ)
+    → SoFar bytes reader left held held_now machine refused begun now → ReadsOn reader left reader' left' (outcome (Ok (Some l))) → AnsweredLine machine l response machine'
     → text ≡ text_of response → Appends held_now held' text → refused' ≡ (refused || is_refusal response) → now' ≡ now + steps_of response
-    → SoFar bytes held reader' left' held' machine' refused' begun now'
-more_put bytes held reader reader' left left' held_now held' machine machine' refused refused' begun now now' l response text so reads answered is put refusal paid = record {
+    → SoFar bytes reader' left' held held' machine' refused' begun now'
+more_put bytes reader reader' left left' held held_now held' machine machine' refused refused' begun now now' l response text so reads answered is put refusal paid = record {
   answers = so.answers ++ response ∷ [];
   reached = reach_more bytes so.answers reader reader' left left' machine machine' response l so.reached reads answered;
   text =
-      appended held_now held' (held ++ texts_of so.answers) text so.text put
-      ∙ ap Some (append_assoc held (texts_of so.answers) text ∙ ap (λ (w : List ℕ). held ++ w) (ap (λ (w : List ℕ). texts_of so.answers ++ w) is ∙ sym (texts-push so.answers response)));
+      subst (λ w. Appends held held' w) (ap (λ (w : List ℕ). texts_of so.answers ++ w) is ∙ sym (texts-push so.answers response))
+      (Appends-trans held held_now held' (texts_of so.answers) text so.text put);
   refusals = refusal ∙ ap (λ b. b || is_refusal response) so.refusals ∙ sym (list_any-append is_refusal so.answers (response ∷ []) ∙ ap (λ b. list_any is_refusal so.answers || b) (or-false (is_refusal response)));
   cost = omega (arith, paid, so.cost, sum_by-append steps_of so.answers (response ∷ []));
 }
@@ -213,13 +250,16 @@ more_put bytes held reader reader' left left' held_now held' machine machine' re
     or-false false = refl
 
 -- the source stopped
-pub cut : (bytes held : List ℕ) (reader reader' : Reader) (left left' held_now : Option (List ℕ)) (machine : Machine) (refused : Bool) (begun now : ℕ) (why : LineStop)
-    → SoFar bytes held reader left held_now machine refused begun now → Stops reader left reader' left' why → CutsShort bytes held left' held_now
-cut bytes held reader reader' left left' held_now machine refused begun now why so stops =
+pub cut : (bytes : List ℕ) (reader reader' : Reader) (left left' held held_now : Option (List ℕ)) (machine : Machine) (refused : Bool) (begun now : ℕ) (why : LineStop)
+    → SoFar bytes reader left held held_now machine refused begun now → Stops reader left reader' left' why → (reader.ended ≡ true → ⊥) → CutsShort bytes left' held held_now
+cut bytes reader reader' left left' held held_now machine refused begun now why so stops not_ended =
     let tail : OpenLineOf left' so.reached.stream = stops.open_line so.reached.stream so.reached.is in
     record {
       answers = so.answers;
       last = so.reached.state;
+      lines = so.reached.lines;
+      is = so.reached.behind ∙ ap (λ (w : List ℕ). so.reached.lines ++ w) tail.is;
+      line_end = closed so.reached.line_end;
       open_line = tail.open_line;
       rest = tail.rest;
       runs =
@@ -229,6 +269,10 @@ cut bytes held reader reader' left left' held_now machine refused begun now why 
       left = tail.told;
       text = so.text;
     }
+  where
+    closed : (EndsLine so.reached.lines ⊎ (reader.ended ≡ true)) → EndsLine so.reached.lines
+    closed (inl line_end) = line_end
+    closed (inr at_end) = absurd (not_ended at_end)
 
 -- at first nothing was taken
 pub taken_none : (bytes : List ℕ) (reader : Reader) (left : Option (List ℕ)) → reader ≡ record { held = []; given = 0; room = 2 ^ 40; stopped = None; ended = false } → left ≡ Some bytes → TakenSoFar bytes reader left
@@ -259,26 +303,29 @@ full bytes reader reader' left left' so stops =
     record { rest = tail.rest; left = tail.told; taken = omega (arith, paid, none, so.taken) }
 
 -- all lines were answered, by the status of the end
-pub finished : (bytes held : List ℕ) (reader reader' : Reader) (left left' held_now held' : Option (List ℕ)) (machine : Machine) (refused : Bool) (begun now : ℕ) (status : Status)
-    → SoFar bytes held reader left held_now machine refused begun now → Ends reader left reader' left' → Keeps held_now held' → status ≡ (if refused then Status.Refused else Status.Done)
-    → Finishes bytes held status held' begun now
-finished bytes held reader reader' left left' held_now held' machine refused begun now status so ends keeps is =
-    let none : so.reached.stream ≡ [] = (ends.empty so.reached.stream so.reached.is).0 in
+pub finished : (bytes : List ℕ) (reader reader' : Reader) (left left' held held_now held' : Option (List ℕ)) (machine : Machine) (refused : Bool) (begun now : ℕ) (status : Status)
+    → SoFar bytes reader left held held_now machine refused begun now → Ends reader left reader' left' → Keeps held_now held' → status ≡ (if refused then Status.Refused else Status.Done)
+    → Finishes bytes status left' held held' begun now
+finished bytes reader reader' left left' held held_now held' machine refused begun now status so ends keeps is =
+    let empty = ends.empty so.reached.stream so.reached.is in
+    let none : so.reached.stream ≡ [] = empty.0 in
+    let behind : StreamIs reader' left' [] = empty.1 in
     record {
       answers = so.answers;
       last = so.reached.state;
       runs =
           subst (λ all. Runs start bytes all so.reached.state []) (append-nil so.answers)
           (so.reached.goes_on [] so.reached.state [] (subst (λ s. Runs so.reached.state so.reached.stream [] so.reached.state s) none stop));
-      text = kept held_now held' (held ++ texts_of so.answers) so.text keeps;
+      left = behind.told ∙ ap Some (behind.at_end ends.ended);
+      text = Appends-kept held held_now held' (texts_of so.answers) so.text keeps;
       status_is = is ∙ ap (λ b. if b then Status.Refused else Status.Done) so.refusals;
       steps = so.cost;
     }
 
 -- all lines were answered, and the sink failed at its end
-pub unfinished : (bytes held : List ℕ) (reader reader' : Reader) (left left' held_now held' : Option (List ℕ)) (machine : Machine) (refused : Bool) (begun now : ℕ)
-    → SoFar bytes held reader left held_now machine refused begun now → Ends reader left reader' left' → Keeps held_now held' → BreaksOff bytes held left' held'
-unfinished bytes held reader reader' left left' held_now held' machine refused begun now so ends keeps =
+pub unfinished : (bytes : List ℕ) (reader reader' : Reader) (left left' held held_now held' : Option (List ℕ)) (machine : Machine) (refused : Bool) (begun now : ℕ)
+    → SoFar bytes reader left held held_now machine refused begun now → Ends reader left reader' left' → Keeps held_now held' → BreaksOff bytes left' held held'
+unfinished bytes reader reader' left left' held held_now held' machine refused begun now so ends keeps =
     let empty = ends.empty so.reached.stream so.reached.is in
     let none : StreamIs reader' left' [] = empty.1 in
     record {
@@ -293,7 +340,7 @@ unfinished bytes held reader reader' left left' held_now held' machine refused b
           (so.reached.goes_on [] so.reached.state (pending reader' ++ none.rest) (subst (λ s. Runs so.reached.state so.reached.stream [] so.reached.state s) (empty.0 ∙ none.is) stop));
       left = none.told;
       parts = sym (append-nil (texts_of so.answers));
-      text = kept held_now held' (held ++ texts_of so.answers) so.text keeps;
+      text = Appends-kept held held_now held' (texts_of so.answers) so.text keeps;
     }
 
 -- a count that rose in a call rose since the start
@@ -317,8 +364,8 @@ still_goes reader reader' left left' TooLong reads = reads.goes
 -- the end by what closing the sink answered
 pub closed_end : (refused : Bool) (status : Status) (before after : Outside) (faults_now : ℕ)
     → before.write_faults ≤ faults_now → Closed refused status faults_now after.write_faults after.settled
-    → ((s : Status) → s ≡ (if refused then Status.Refused else Status.Done) → Told before (λ bytes held. Finishes bytes held s after.held before.steps after.steps))
-    → Told before (λ bytes held. BreaksOff bytes held after.left after.held)
+    → ((s : Status) → s ≡ (if refused then Status.Refused else Status.Done) → Told before (λ bytes. Finishes bytes s after.left before.held after.held before.steps after.steps))
+    → Told before (λ bytes. BreaksOff bytes after.left before.held after.held)
     → Ended status before after
 closed_end refused Status.Done before after faults_now later closed all broken =
     record { settled = closed.1; told = all Status.Done (sym (ap (λ b. if b then Status.Refused else Status.Done) closed.0)) }

@@ -14,29 +14,29 @@ pub record Outside : Type 0 where
   pub settled : Bool
   pub steps : ℕ
 
--- where the source and the sink tell their bytes
-abbrev pub Told : Outside → (List ℕ → List ℕ → Type 0) → Type 0
-Told before P = (bytes held : List ℕ) → before.left ≡ Some bytes → before.held ≡ Some held → P bytes held
+-- where the source tells its bytes
+abbrev pub Told : Outside → (List ℕ → Type 0) → Type 0
+Told before P = (bytes : List ℕ) → before.left ≡ Some bytes → P bytes
 
 -- the input was read to its end
 pub record EndsFinished (status : Status) (before after : Outside) : Type 0 where
   pub settled : after.settled ≡ true
-  pub told : Told before (λ bytes held. Finishes bytes held status after.held before.steps after.steps)
+  pub told : Told before (λ bytes. Finishes bytes status after.left before.held after.held before.steps after.steps)
 
 -- the source failed
 pub record EndsUnread (before after : Outside) : Type 0 where
   pub cause : Rose before.read_faults after.read_faults
-  pub told : Told before (λ bytes held. CutsShort bytes held after.left after.held)
+  pub told : Told before (λ bytes. CutsShort bytes after.left before.held after.held)
 
 -- the sink failed
 pub record EndsUnwritten (before after : Outside) : Type 0 where
   pub cause : Rose before.write_faults after.write_faults
-  pub told : Told before (λ bytes held. BreaksOff bytes held after.left after.held)
+  pub told : Told before (λ bytes. BreaksOff bytes after.left before.held after.held)
 
 -- too many bytes were taken
 pub record EndsFull (before after : Outside) : Type 0 where
-  pub told : Told before (λ bytes held. CutsShort bytes held after.left after.held)
-  pub taken : (bytes : List ℕ) → before.left ≡ Some bytes → TakesAll (2 ^ 40) bytes after.left
+  pub told : Told before (λ bytes. CutsShort bytes after.left before.held after.held)
+  pub taken : Told before (λ bytes. TakesAll (2 ^ 40) bytes after.left)
 
 -- what each status says
 abbrev pub Ended : Status → Outside → Outside → Type 0
@@ -45,7 +45,7 @@ Ended Refused before after = EndsFinished Refused before after
 Ended Usage before after = ⊥
 Ended ReadFault before after = EndsUnread before after
 Ended WriteFault before after = EndsUnwritten before after
-Ended Memory before after = Told before (λ bytes held. BreaksOff bytes held after.left after.held)
+Ended Memory before after = Told before (λ bytes. BreaksOff bytes after.left before.held after.held)
 Ended TooMuch before after = EndsFull before after
 
 -- what closing the sink answers

@@ -1,6 +1,7 @@
 -- What a run over lines has read and put when it ends.
-use Rattle.std.specs.Prelude.{◌≡◌, ℕ, ◌+◌, Bool, false, List, [], ◌∷◌, ◌++◌, length, Option, Some, sum_by, bytes_eq, codes, if◌then◌else◌}
+use Rattle.std.specs.Prelude.{◌≡◌, ℕ, ◌+◌, Bool, false, List, [], ◌∷◌, ◌++◌, length, Option, Some, ◌⊎◌, sum_by, bytes_eq, codes, if◌then◌else◌}
 use Rattle.std.specs.List.{list_any}
+use Rattle.std.specs.Io.KnownBytes.{Appends}
 use Rattle.sk_io.specs.LineText.{NoLineEnd}
 use Rattle.sk_engine.specs.declared.response.Response.{Response}
 use Rattle.sk_engine.specs.declared.status.Status.{Status}
@@ -18,28 +19,36 @@ is_form (word ∷ other ∷ words) = false
 abbrev pub finished_status : List Response → Status
 finished_status answers = if list_any is_refusal answers then Refused else Done
 
--- Of these bytes all lines were answered, and behind what the sink held it took the answers of all lines, in order, and nothing else. The status tells whether a line was refused, and the steps rose by the numbers printed.
-pub record Finishes (bytes held : List ℕ) (status : Status) (held_after : Option (List ℕ)) (steps_before steps_after : ℕ) : Type 0 where
+-- The bytes are none, or their last one is a line's end.
+abbrev pub EndsLine : List ℕ → Type 0
+EndsLine bytes = (bytes ≡ []) ⊎ ((before : List ℕ) × (bytes ≡ before ++ 10 ∷ []))
+
+-- Of these bytes all lines were answered and none is left, and the sink took the answers of all lines, in order, and nothing else. The status tells whether a line was refused, and the steps rose by the numbers printed.
+pub record Finishes (bytes : List ℕ) (status : Status) (left_after held_before held_after : Option (List ℕ)) (steps_before steps_after : ℕ) : Type 0 where
   pub answers : List Response
   pub last : State
   pub runs : Runs start bytes answers last []
-  pub text : held_after ≡ Some (held ++ texts_of answers)
+  pub left : left_after ≡ Some []
+  pub text : Appends held_before held_after (texts_of answers)
   pub status_is : status ≡ finished_status answers
   pub steps : steps_after ≡ steps_before + sum_by steps_of answers
 
 -- All lines whose end was taken were answered, and the sink took these answers whole. What was taken behind them holds no line's end.
-pub record CutsShort (bytes held : List ℕ) (left_after held_after : Option (List ℕ)) : Type 0 where
+pub record CutsShort (bytes : List ℕ) (left_after held_before held_after : Option (List ℕ)) : Type 0 where
   pub answers : List Response
   pub last : State
+  pub lines : List ℕ
   pub open_line : List ℕ
   pub rest : List ℕ
+  pub is : bytes ≡ lines ++ (open_line ++ rest)
+  pub line_end : EndsLine lines
   pub runs : Runs start bytes answers last (open_line ++ rest)
   pub no_end : NoLineEnd open_line
   pub left : left_after ≡ Some rest
-  pub text : held_after ≡ Some (held ++ texts_of answers)
+  pub text : Appends held_before held_after (texts_of answers)
 
 -- First lines of those that were taken were answered, and the sink took a front of these answers.
-pub record BreaksOff (bytes held : List ℕ) (left_after held_after : Option (List ℕ)) : Type 0 where
+pub record BreaksOff (bytes : List ℕ) (left_after held_before held_after : Option (List ℕ)) : Type 0 where
   pub answers : List Response
   pub last : State
   pub pending : List ℕ
@@ -49,7 +58,7 @@ pub record BreaksOff (bytes held : List ℕ) (left_after held_after : Option (Li
   pub runs : Runs start bytes answers last (pending ++ rest)
   pub left : left_after ≡ Some rest
   pub parts : texts_of answers ≡ shown ++ hidden
-  pub text : held_after ≡ Some (held ++ shown)
+  pub text : Appends held_before held_after shown
 
 -- As many bytes as the limit were taken.
 pub record TakesAll (limit : ℕ) (bytes : List ℕ) (left_after : Option (List ℕ)) : Type 0 where

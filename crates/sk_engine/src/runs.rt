@@ -27,8 +27,8 @@ pub fn run<S: Source, R: Source, K: Sink, L: Ledger>(
     steps: &mut Steps<L>,
 ) -> Status
     // The input was read to its end: the output is one that the definitions allow, and the counter rose by the steps printed.
-    ensures whole { IsFinished result → (bytes held : List ℕ) → S.left input.old ≡ Some bytes → K.held output.old ≡ Some held
-        → Finishes bytes held result (K.held output.new) steps.old steps.new }
+    ensures whole { IsFinished result → (bytes : List ℕ) → S.left input.old ≡ Some bytes
+        → Finishes bytes result (S.left input.new) (K.held output.old) (K.held output.new) steps.old steps.new }
     ensures settled { IsFinished result → K.settled output.new ≡ true }
 
     // The words are no form, and nothing was read or written.
@@ -43,10 +43,10 @@ pub fn run<S: Source, R: Source, K: Sink, L: Ledger>(
 
     // What was put then: after a read fault or too much, the answers to all lines whose end was taken; after a write fault or
     // want of memory, a front of the answers.
-    ensures cut_short { IsCutShort result → (bytes held : List ℕ) → S.left input.old ≡ Some bytes → K.held output.old ≡ Some held
-        → CutsShort bytes held (S.left input.new) (K.held output.new) }
-    ensures broken_off { IsBrokenOff result → (bytes held : List ℕ) → S.left input.old ≡ Some bytes → K.held output.old ≡ Some held
-        → BreaksOff bytes held (S.left input.new) (K.held output.new) }
+    ensures cut_short { IsCutShort result → (bytes : List ℕ) → S.left input.old ≡ Some bytes
+        → CutsShort bytes (S.left input.new) (K.held output.old) (K.held output.new) }
+    ensures broken_off { IsBrokenOff result → (bytes : List ℕ) → S.left input.old ≡ Some bytes
+        → BreaksOff bytes (S.left input.new) (K.held output.old) (K.held output.new) }
 
     // The words do not touch the records.
     ensures records { records.new ≡ records.old }

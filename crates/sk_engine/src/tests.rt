@@ -241,8 +241,16 @@ fn lines_are_answered_or_refused(rt: HostRuntime) -> Result<(), Fail> {
 
 const SCHEMA: &str = "{\"schema\":[{\"name\":\"body\",\"kind\":\"text\"}]}\n";
 
+/// The ends of 127 lists.
+const NESTED_127: &str =
+    "]]]]]]]]]]]]]]]]]]]]]]]]]]]]]]]]]]]]]]]]]]]]]]]]]]]]]]]]]]]]]]]]]]]]]]]]]]]]]]]]]]]]]]]]]]]]]]]]]]]]]]]]]]]]]]]]]]]]]]]]]]]]]]]\n";
+
+/// The ends of 128 lists.
+const NESTED_128: &str =
+    "]]]]]]]]]]]]]]]]]]]]]]]]]]]]]]]]]]]]]]]]]]]]]]]]]]]]]]]]]]]]]]]]]]]]]]]]]]]]]]]]]]]]]]]]]]]]]]]]]]]]]]]]]]]]]]]]]]]]]]]]]]]]]]]]\n";
+
 /// What stands before, how often which byte, and what stands behind; the answers.
-const LONG: [(&str, usize, u8, &str, &str); 12] = [
+const LONG: [(&str, usize, u8, &str, &str); 13] = [
     ("", 1_048_576, b' ', "\nred\n", "refused 2 NotJson\n"),
     (
         "",
@@ -252,7 +260,8 @@ const LONG: [(&str, usize, u8, &str, &str); 12] = [
         "refused 1 TooLong\nrefused 2 NotJson\n",
     ),
     ("", 2_097_152, b'a', "", "refused 1 TooLong\n"),
-    ("", 127, b'[', "]", "refused 2 NotJson\n"),
+    ("", 127, b'[', NESTED_127, "refused 5 BadShape\n"),
+    ("[", 127, b'[', NESTED_128, "refused 2 NotJson\n"),
     ("\"", 1, 0xff, "\"\n", "refused 2 NotJson\n"),
     (
         "{\"schema\":[{\"kind\":\"text\",\"name\":\"",
@@ -358,6 +367,21 @@ fn a_fault_ends_the_run_with_its_status(rt: HostRuntime) -> Result<(), Fail> {
             held.as_bytes(),
             "{word} {read_fails:?} {write_fails:?} {room}"
         );
+    }
+    Ok(())
+}
+
+/// Where the last line has no end, the source was at its end when the line was given, and is not asked again.
+#[test]
+fn nothing_is_read_behind_the_end(rt: HostRuntime) -> Result<(), Fail> {
+    let line = b"{\"find\":\"red\"}";
+    for (read_fails, held, want) in [
+        (&[2], "", Status::ReadFault),
+        (&[3], "refused 5 BadShape\n", Status::Refused),
+    ] {
+        let (status, bytes) = outcome(rt.alloc(), "run", line, 4096, 4096, read_fails, &[])?;
+        assert_eq!(rt; status, want, "{read_fails:?}");
+        assert_eq!(rt; bytes.as_slice(), held.as_bytes(), "{read_fails:?}");
     }
     Ok(())
 }

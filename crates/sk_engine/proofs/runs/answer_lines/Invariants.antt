@@ -9,8 +9,8 @@ invariant-lines g l = record {
   read_later : g.S.Source.faults l.fn.input ≤ g.S.Source.faults l.input;
   write_later : g.K.Sink.faults l.fn.output ≤ g.K.Sink.faults l.output;
   taken : (bytes : List ℕ) → g.S.Source.left l.fn.input ≡ Some bytes → TakenSoFar bytes l.lines (g.S.Source.left l.input);
-  told : (bytes held : List ℕ) → g.S.Source.left l.fn.input ≡ Some bytes → g.K.Sink.held l.fn.output ≡ Some held
-      → SoFar bytes held l.lines (g.S.Source.left l.input) (g.K.Sink.held l.output) l.machine l.refused l.fn.steps l.steps;
+  told : (bytes : List ℕ) → g.S.Source.left l.fn.input ≡ Some bytes
+      → SoFar bytes l.lines (g.S.Source.left l.input) (g.K.Sink.held l.fn.output) (g.K.Sink.held l.output) l.machine l.refused l.fn.steps l.steps;
 }
 
 abbrev pub decreases-lines : goal.decreases-lines
