@@ -3,12 +3,11 @@ ghost use Rattle.std.specs.Prelude.{◌≡◌, ◌≤◌, ◌+◌, IfOk, length,
 ghost use Rattle.std.specs.Option.{option_copied};
 ghost use Rattle.sk_io.specs.declared.line.TheConstants.{MAX_LINE};
 ghost use Rattle.sk_io.specs.Answers.{IsShort};
-ghost use Rattle.sk_model.specs.Edits.{FitsEdit};
-ghost use Rattle.sk_engine.specs.Asked.{IsAsked};
+ghost use Rattle.sk_engine.specs.Asked.{IsPlainSchema, IsPlainEdit, IsAsked};
 ghost use Rattle.sk_engine.specs.Responses.{steps_of, response_to};
 ghost use Rattle.sk_engine.specs.Meaning.{is_blank};
 ghost use Rattle.sk_engine.specs.Output.{start};
-ghost use Rattle.sk_engine.specs.Sessions.{steps_in, response_of};
+ghost use Rattle.sk_engine.specs.Sessions.{fields_of, steps_in, response_of};
 ghost use Rattle.sk_engine.specs.Machines.{IsAt, schema_in, Obeyed, Answered};
 ghost use Rattle.sk_engine.specs.Faults.{MayCome};
 ghost use Rattle.sk_engine.specs.Lines.{AnsweredLine};
@@ -74,7 +73,7 @@ impl Machine {
         }
         match command(alloc, line, self.schema()) {
             Ok(command) => {
-                let (machine, response) = self.obey(alloc, command, steps)?;
+                let (machine, response) = self.execute(alloc, command, steps)?;
                 Ok((machine, response))
             }
             Err(LineFault::NotJson) => Ok((self, Response::Refused(Refusal::NotJson))),
@@ -92,7 +91,7 @@ impl Machine {
         }
     }
 
-    fn obey<L: Ledger>(
+    fn execute<L: Ledger>(
         self,
         alloc: Global,
         command: Command,
@@ -104,15 +103,15 @@ impl Machine {
     {
         match (self.session, command) {
             (None, Command::Schema(schema)) => {
-                let (machine, response) = accept(alloc, schema)?;
+                let (machine, response) = accept_schema(alloc, schema)?;
                 Ok((machine, response))
             }
             (Some(session), Command::Edit(edit)) => {
-                let (machine, response) = change(session, edit)?;
+                let (machine, response) = apply_edit(session, edit)?;
                 Ok((machine, response))
             }
             (Some(session), Command::Find(find)) => {
-                let (machine, response) = look(session, &find, steps)?;
+                let (machine, response) = run_find(session, &find, steps)?;
                 Ok((machine, response))
             }
             _ => unreachable!(),
@@ -121,7 +120,8 @@ impl Machine {
 }
 
 /// The first session, under its schema.
-fn accept(alloc: Global, schema: Schema) -> Result<(Machine, Response), AllocError>
+fn accept_schema(alloc: Global, schema: Schema) -> Result<(Machine, Response), AllocError>
+    requires { IsPlainSchema schema }
     ensures obeyed { IfOk result (λ p. Obeyed None (Command.Schema schema) p.1 p.0) }
     ensures cost { IfOk result (λ p. steps_of p.1 ≡ 0) }
 {
@@ -135,8 +135,8 @@ fn accept(alloc: Global, schema: Schema) -> Result<(Machine, Response), AllocErr
     ))
 }
 
-fn change(session: Session, edit: Edit) -> Result<(Machine, Response), AllocError>
-    requires { FitsEdit edit }
+fn apply_edit(session: Session, edit: Edit) -> Result<(Machine, Response), AllocError>
+    requires { IsPlainEdit (fields_of session) edit }
     ensures obeyed { IfOk result (λ p. Obeyed (Some session) (Command.Edit edit) p.1 p.0) }
     ensures cost { IfOk result (λ p. steps_of p.1 ≡ 0) }
 {
@@ -159,7 +159,7 @@ fn response_to(reply: Reply) -> Response
     }
 }
 
-fn look<L: Ledger>(
+fn run_find<L: Ledger>(
     session: Session,
     find: &Find,
     steps: &mut Steps<L>,
@@ -169,7 +169,7 @@ fn look<L: Ledger>(
     ensures cost { IfOk result (λ p. steps.new ≡ steps.old + steps_of p.1) }
 {
     let answer = session.find(find, steps)?;
-    let response = found(find.first, answer);
+    let response = found_response(find.first, answer);
     Ok((
         Machine {
             session: Some(session),
@@ -178,7 +178,7 @@ fn look<L: Ledger>(
     ))
 }
 
-fn found(first: u32, answer: Answer) -> Response
+fn found_response(first: u32, answer: Answer) -> Response
     ensures response { result ≡ response_of first answer }
     ensures cost { steps_of result ≡ steps_in answer }
 {

@@ -1,7 +1,7 @@
 //! A session: the documents under one schema.
 ghost use Rattle.std.specs.Prelude.{◌≡◌, ◌+◌, IfOk};
-ghost use Rattle.sk_model.specs.Edits.{Live, nothing_live, edited, reply_to, FitsEdit};
-ghost use Rattle.sk_engine.specs.Asked.{IsAsked};
+ghost use Rattle.sk_model.specs.Edits.{Live, nothing_live, edited, reply_to};
+ghost use Rattle.sk_engine.specs.Asked.{IsPlainSchema, IsPlainEdit, IsAsked};
 ghost use Rattle.sk_engine.specs.Sessions.{SessionHolds, fields_of, IsAnswer, steps_in};
 
 use crate::index::Index;
@@ -26,6 +26,7 @@ pub enum Answer {
 impl Session {
     /// A session without documents.
     pub fn new(alloc: Global, schema: Schema) -> Result<Session, AllocError>
+        requires { IsPlainSchema schema }
         ensures schema { IfOk result (λ session. fields_of session ≡ schema) }
         ensures holds { IfOk result (λ session. SessionHolds session nothing_live) }
     {
@@ -42,7 +43,7 @@ impl Session {
 
     /// Changes the documents. Where memory runs out the session is given up.
     pub fn apply(self, edit: Edit) -> Result<(Session, Reply), AllocError>
-        requires { FitsEdit edit }
+        requires { IsPlainEdit (fields_of self) edit }
         ensures live { IfOk result (λ p. (live : Live) → SessionHolds self live → SessionHolds p.0 (edited live edit)) }
         ensures reply { IfOk result (λ p. (live : Live) → SessionHolds self live → p.1 ≡ reply_to live edit) }
         ensures schema { IfOk result (λ p. fields_of p.0 ≡ fields_of self) }

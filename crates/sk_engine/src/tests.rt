@@ -1,5 +1,7 @@
-ghost use Rattle.std.specs.Prelude.{◌≡◌, ◌≤◌, ◌+◌, length, IfOk};
-ghost use Rattle.sk_model.specs.Edits.{FitsEdit};
+ghost use Rattle.std.specs.Prelude.{◌≡◌, ◌≤◌, ◌<◌, ◌+◌, List, true, length, IfOk, IfSome};
+ghost use Rattle.sk_engine.specs.Commands.{is_plain_text};
+ghost use Rattle.sk_engine.specs.Asked.{IsPlainSchema, IsPlainEdit};
+ghost use Rattle.sk_base.specs.declared.schema.Field.{Field};
 
 use super::*;
 use sk_base::{
@@ -371,21 +373,6 @@ fn a_fault_ends_the_run_with_its_status(rt: HostRuntime) -> Result<(), Fail> {
     Ok(())
 }
 
-/// Where the last line has no end, the source was at its end when the line was given, and is not asked again.
-#[test]
-fn nothing_is_read_behind_the_end(rt: HostRuntime) -> Result<(), Fail> {
-    let line = b"{\"find\":\"red\"}";
-    for (read_fails, held, want) in [
-        (&[2], "", Status::ReadFault),
-        (&[3], "refused 5 BadShape\n", Status::Refused),
-    ] {
-        let (status, bytes) = outcome(rt.alloc(), "run", line, 4096, 4096, read_fails, &[])?;
-        assert_eq!(rt; status, want, "{read_fails:?}");
-        assert_eq!(rt; bytes.as_slice(), held.as_bytes(), "{read_fails:?}");
-    }
-    Ok(())
-}
-
 #[test]
 fn at_most_ten_hits_are_shown_and_all_are_counted(rt: HostRuntime) -> Result<(), Fail> {
     let alloc = rt.alloc();
@@ -407,7 +394,10 @@ fn at_most_ten_hits_are_shown_and_all_are_counted(rt: HostRuntime) -> Result<(),
     Ok(())
 }
 
-fn first_schema(alloc: Global) -> Result<Option<Schema>, AllocError> {
+fn first_schema(alloc: Global) -> Result<Option<Schema>, AllocError>
+    ensures plain { IfOk result (λ o. IfSome o IsPlainSchema) }
+    ensures one { IfOk result (λ o. IfSome o (λ schema. length schema ≡ 1)) }
+{
     let mut fields = Vec::new(alloc);
     fields.push(Field {
         name: Text::new(alloc, "body")?,
@@ -417,8 +407,8 @@ fn first_schema(alloc: Global) -> Result<Option<Schema>, AllocError> {
 }
 
 fn addition(alloc: Global, text: &str) -> Result<Edit, AllocError>
-    requires { length text.now ≤ 1048576 }
-    ensures { IfOk result FitsEdit }
+    requires { is_plain_text text.now ≡ true }
+    ensures { IfOk result (λ edit. (schema : List Field) → 0 < length schema → IsPlainEdit schema edit) }
 {
     let mut values = Items::new(alloc);
     values.push(Entry {

@@ -1,5 +1,5 @@
 use Rattle.sk_engine.proofs.MachineLemmas.{obeyed_as}
-use Rattle.sk_engine.proofs.machine.Machine.obey.Goals as goal
+use Rattle.sk_engine.proofs.machine.Machine.execute.Goals as goal
 
 pub returns-in_ok-machine-in-Some-Edit-clause-obeyed : goal.returns-in_ok-machine-in-Some-Edit-clause-obeyed
 returns-in_ok-machine-in-Some-Edit-clause-obeyed g c =
