@@ -10,6 +10,7 @@ use Rattle.sk_base.specs.Names.{is_name, is_prefix}
 abbrev pub is_kind : FieldKind → Bool
 is_kind (FieldKind.Text prefix step) = is_prefix prefix && nat_le 1 step && nat_le step 256
 
+-- A field keeps the rules of its name and of its kind.
 abbrev pub is_field : Field → Bool
 is_field field = is_name field.name && is_kind field.kind
 

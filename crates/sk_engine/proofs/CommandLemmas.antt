@@ -1,5 +1,5 @@
 -- Which commands may come under a schema.
-use Rattle.std.proofs.Common.{◌≡◌, ◌≤◌, ◌<◌, ◌+◌, ◌&&◌, ◌==◌, ℕ, Bool, true, false, if◌then◌else◌, cond, List, [], ◌∷◌, length, Option, Some, None, option_map, nat_lt, nat_le, bytes_eq, codes, refl, subst, arith}
+use Rattle.std.proofs.Common.{◌≡◌, ◌<◌, ◌&&◌, ◌==◌, ℕ, Bool, true, false, if◌then◌else◌, cond, List, [], ◌∷◌, length, Option, Some, None, option_map, nat_lt, bytes_eq, codes, refl, subst, arith}
 use Rattle.std.specs.Option.{option_and_then}
 use Rattle.std.specs.List.{position_or_len}
 use Rattle.std.proofs.lemmas.Bool.Decides.{nat_tests}

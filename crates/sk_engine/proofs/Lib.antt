@@ -7,3 +7,4 @@ mod WalkLemmas
 mod ReportLemmas
 mod MachineLemmas
 mod RunLemmas
+mod Examples

@@ -29,6 +29,7 @@ is_field_name name = nat_lt 0 (length name) && nat_le (length name) 32 && are_le
 abbrev pub is_asked_word : List ℕ → Bool
 is_asked_word word = nat_lt 0 (length word) && nat_le (length word) 64 && are_letters word
 
+-- Letters a to z and spaces (32) alone.
 abbrev pub are_letters_and_spaces : List ℕ → Bool
 are_letters_and_spaces bytes = list_all (λ c. is_ascii_lowercase c || c == 32) bytes
 
@@ -40,6 +41,7 @@ is_plain_text text = are_letters_and_spaces text && nat_le (length text) most_by
 abbrev pub text_at : List ℕ → Data → Option (List ℕ)
 text_at name d = option_and_then as_str (get name d)
 
+-- The text is there, and is the wanted one.
 abbrev pub is_text : List ℕ → Option (List ℕ) → Bool
 is_text wanted None = false
 is_text wanted (Some text) = bytes_eq text wanted
@@ -67,6 +69,7 @@ added_text place text =
 abbrev pub added_at : List Field → List ℕ → Data → Option Edit
 added_at fields name d = option_and_then (λ place. option_and_then (added_text place) (as_str d)) (place_of name fields)
 
+-- The addition of an object with one member.
 abbrev pub addition_of : List Field → Data → Option Edit
 addition_of fields d = option_and_then (λ m. added_at fields m.0 m.1) (only_member d)
 
@@ -76,6 +79,7 @@ first_page word =
     if is_asked_word word then Some (record { ask = Ask.Text word Join.Or; scheme = Scheme.Nnn; first = 0; size = 10; check = 0 })
     else None
 
+-- The find of a string.
 abbrev pub find_of : Data → Option Find
 find_of d = option_and_then first_page (as_str d)
 

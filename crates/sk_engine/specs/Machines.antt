@@ -13,6 +13,7 @@ abbrev pub StandsFor : Option Session → State → Type 0
 StandsFor None s = s ≡ start
 StandsFor (Some session) s = (s.schema ≡ Some (fields_of session)) × SessionHolds session s.live
 
+-- The machine stands for this state.
 abbrev pub IsAt : Machine → State → Type 0
 IsAt machine s = StandsFor machine.session s
 

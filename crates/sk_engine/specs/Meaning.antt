@@ -9,6 +9,7 @@ use Rattle.sk_engine.specs.declared.refusal.Refusal.{Refusal}
 use Rattle.sk_engine.specs.Values.{line_value}
 use Rattle.sk_engine.specs.Commands.{command_of}
 
+-- What a line can mean: nothing, a refusal, or a command.
 pub data Meaning : Type 0 where
   blank : Meaning
   refusal : Refusal → Meaning
@@ -18,10 +19,12 @@ pub data Meaning : Type 0 where
 abbrev pub is_blank : List ℕ → Bool
 is_blank line = list_all (λ b. b == 9 || b == 13 || b == 32) line
 
+-- A value that is no command has a bad shape.
 abbrev pub meaning_of_command : Option Command → Meaning
 meaning_of_command None = refusal Refusal.BadShape
 meaning_of_command (Some c) = command c
 
+-- A line that is read as no value is no JSON.
 abbrev pub meaning_of_value : Option (List Field) → Option Data → Meaning
 meaning_of_value schema None = refusal Refusal.NotJson
 meaning_of_value schema (Some d) = meaning_of_command (command_of schema d)

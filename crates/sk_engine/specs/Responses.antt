@@ -9,12 +9,15 @@ use Rattle.sk_engine.specs.declared.response.Response.{Response}
 use Rattle.sk_engine.specs.declared.response.Response.TheVariants.{Skipped, Refused, Schema, Id, Found}
 use Rattle.sk_engine.specs.Refusals.{number_of, name_of}
 
+-- `refused`, the number and the name.
 abbrev pub refusal_line : Refusal → List ℕ
 refusal_line why = codes "refused " ++ (decimal (number_of why) ++ (codes " " ++ (name_of why ++ codes "\n")))
 
+-- The second half of a found line, from ` upper=` on.
 abbrev pub found_rest : Report → List ℕ
 found_rest report = codes " upper=" ++ (decimal report.upper ++ (codes " max=" ++ (decimal report.greatest ++ (codes " steps=" ++ (decimal report.steps ++ codes "\n")))))
 
+-- `found` with the number of hits, the bounds, the greatest weight and the steps.
 abbrev pub found_line : Report → List ℕ
 found_line report = (codes "found hits=" ++ (decimal (length report.hits) ++ (codes " lower=" ++ (decimal report.lower ++ (codes " estimate=" ++ decimal report.estimate))))) ++ found_rest report
 
@@ -22,6 +25,7 @@ found_line report = (codes "found hits=" ++ (decimal (length report.hits) ++ (co
 abbrev pub hit_rest : Ranked → List ℕ
 hit_rest hit = codes " collapsed=" ++ (decimal hit.collapsed ++ (codes " data=" ++ (quoted hit.payload ++ codes "\n")))
 
+-- `hit` with its rank, id, weight, the number that were collapsed into it, and its payload.
 abbrev pub hit_line : ℕ → Ranked → List ℕ
 hit_line rank hit = (codes "hit rank=" ++ (decimal rank ++ (codes " id=" ++ (decimal hit.id ++ (codes " weight=" ++ decimal hit.weight))))) ++ hit_rest hit
 
@@ -30,6 +34,7 @@ abbrev pub hit_lines : ℕ → List Ranked → List ℕ
 hit_lines rank [] = []
 hit_lines rank (hit ∷ hits) = hit_line rank hit ++ hit_lines (rank + 1) hits
 
+-- A report's line and the lines of its hits.
 abbrev pub found_text : ℕ → Report → List ℕ
 found_text first report = found_line report ++ hit_lines first report.hits
 
@@ -45,6 +50,7 @@ text_of (Found first report) = found_text first report
 abbrev pub texts_of : List Response → List ℕ
 texts_of = flat_map text_of
 
+-- Whether the answer refuses its line.
 abbrev pub is_refusal : Response → Bool
 is_refusal Skipped = false
 is_refusal (Refused why) = true

@@ -3,6 +3,7 @@ use Rattle.std.specs.Prelude.{ℕ}
 use Rattle.sk_engine.specs.declared.status.Status.{Status}
 use Rattle.sk_engine.specs.declared.status.Status.TheVariants.{Done, Refused, Usage, ReadFault, WriteFault, Memory, TooMuch}
 
+-- The number that the process ends with.
 abbrev pub code_of : Status → ℕ
 code_of Done = 0
 code_of Refused = 1

@@ -8,6 +8,7 @@ use Rattle.serde_json.specs.Read.{read}
 abbrev pub line_value : List ℕ → Option Data
 line_value line = if is_utf8 line then read line else None
 
+-- How many members there are.
 abbrev pub count_members : Members → ℕ
 count_members no_members = 0
 count_members (member k d ms) = suc (count_members ms)

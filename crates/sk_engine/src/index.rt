@@ -93,7 +93,7 @@ impl Index {
         } = self;
         let id = highest + 1;
         let words = words_of(alloc, added.values.as_slice())?;
-        note_words(alloc, &mut terms, id, words.as_slice())?;
+        index_words(alloc, &mut terms, id, words.as_slice())?;
         Ok(Index {
             alloc,
             schema,
@@ -207,7 +207,7 @@ fn new_list(
 }
 
 /// Puts the document into the list of each of its words.
-fn note_words(
+fn index_words(
     alloc: Global,
     terms: &mut BTreeMap<String, List>,
     id: DocId,

@@ -3,6 +3,7 @@ ghost use Rattle.std.specs.Prelude.{◌≡◌, Some, None, Ok, Err, IfOk, OnErr,
 ghost use Rattle.std.specs.Option.{option_map, option_copied};
 ghost use Rattle.serde_json.specs.Data.{Data};
 ghost use Rattle.serde_json.specs.View.{view, members_view};
+ghost use Rattle.sk_engine.specs.Faults.{ReadsAs, MayCome};
 ghost use Rattle.sk_engine.specs.Values.{line_value, only_member, only_item, member_count};
 ghost use Rattle.sk_engine.specs.Commands.{is_field_name, is_asked_word, is_plain_text, text_at, is_text, field_of, fields_of, text_field, added_text, added_at, addition_of, first_page, find_of, command_named, command_of, are_letters, are_letters_and_spaces};
 
@@ -49,8 +50,6 @@ pub fn command(alloc: Global, line: &[u8], schema: Option<&Schema>) -> Result<Co
         None => Err(LineFault::BadShape),
     }
 }
-
-ghost use Rattle.sk_engine.specs.Faults.{ReadsAs, MayCome};
 
 fn line_value(alloc: Global, line: &[u8]) -> Result<Value, LineFault>
     ensures ok { IfOk result (λ v. line_value line.now ≡ Some (view v)) }
@@ -136,7 +135,7 @@ fn schema_of(alloc: Global, value: &Value) -> Result<Option<Schema>, AllocError>
 fn field_of(alloc: Global, value: &Value) -> Result<Option<Field>, AllocError>
     ensures { IfOk result (λ f. f ≡ field_of (view value.now)) }
 {
-    if member_count(value) != 2 || !is_text(value) {
+    if member_count(value) != 2 || !has_kind_text(value) {
         return Ok(None);
     }
     match text_at(value, "name") {
@@ -145,7 +144,7 @@ fn field_of(alloc: Global, value: &Value) -> Result<Option<Field>, AllocError>
     }
 }
 
-fn is_text(value: &Value) -> bool
+fn has_kind_text(value: &Value) -> bool
     ensures { result ≡ is_text (codes "text") (text_at (codes "kind") (view value.now)) }
 {
     match text_at(value, "kind") {
@@ -218,13 +217,13 @@ fn find_of(alloc: Global, value: &Value) -> Result<Option<Find>, AllocError>
     ensures { IfOk result (λ f. f ≡ find_of (view value.now)) }
 {
     match value.as_str() {
-        Some(word) => first_page(alloc, word),
+        Some(word) => find_of_word(alloc, word),
         None => Ok(None),
     }
 }
 
 /// The first ten documents with the word.
-fn first_page(alloc: Global, word: &str) -> Result<Option<Find>, AllocError>
+fn find_of_word(alloc: Global, word: &str) -> Result<Option<Find>, AllocError>
     ensures { IfOk result (λ f. f ≡ first_page word.now) }
 {
     if !is_asked_word(word.as_bytes()) {

@@ -62,7 +62,7 @@ fn report_of<L: Ledger>(
     let greatest = greatest_weight(list, find.scheme);
     let count = list.length();
     let mut matches = all_matches(alloc, list, find.scheme, steps)?;
-    put_in_order(&mut matches.ranks);
+    sort_best_first(&mut matches.ranks);
     let hits = page(alloc, &matches.ranks, find.first, find.size)?;
     Ok(Report {
         hits,
@@ -145,7 +145,7 @@ fn compare(a: &Rank, b: &Rank) -> Ordering
 }
 
 /// The best first. It takes no memory.
-fn put_in_order(ranks: &mut [Rank])
+fn sort_best_first(ranks: &mut [Rank])
     ensures { ranks.new ≡ best_first ranks.old }
 {
     ranks.sort_unstable_by(|a, b| compare(a, b));

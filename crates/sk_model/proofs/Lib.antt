@@ -1,3 +1,4 @@
 pub mod OrderLaws
 mod Examples
 pub mod WordLaws
+pub mod CutLaws

@@ -15,6 +15,7 @@ abbrev pub greatest_in : List ℕ → List (ℕ × Document) → ℕ
 greatest_in t [] = 0
 greatest_in t (one ∷ more) = max (wdf_of t one.1) (greatest_in t more)
 
+-- The greatest wdf of the term in any live document.
 abbrev pub greatest_of : List ℕ → Live → ℕ
 greatest_of t live = greatest_in t live.documents
 

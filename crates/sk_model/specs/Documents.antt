@@ -13,7 +13,7 @@ pub record Document : Type 0 where
 abbrev pub is_indexed : List ℕ → Bool
 is_indexed word = nat_lt 0 (length word) && nat_le (length word) 64
 
--- The pieces of a text between spaces. A text has letters and spaces alone as yet, so these are its maximal runs of letters, and empty pieces, which are no words.
+-- The pieces of a text between spaces. A text has letters and spaces alone as yet, so these are the pieces between bytes that are no letters (law `one_cut`): its maximal runs of letters, and empty pieces, which are no words.
 abbrev pub pieces : List ℕ → List (List ℕ)
 pieces text = slice_split (λ c. c == 32) text
 
@@ -21,6 +21,7 @@ pieces text = slice_split (λ c. c == 32) text
 abbrev pub words : List ℕ → List (List ℕ)
 words text = filter is_indexed (pieces text)
 
+-- The indexed words of a field's value.
 abbrev pub words_of_value : FieldValue → List (List ℕ)
 words_of_value (FieldValue.Text text) = words text
 
@@ -33,6 +34,7 @@ words_of_values (entry ∷ entries) = words_of_value entry.value ++ words_of_val
 abbrev pub document_of : Record → Document
 document_of record_given = record { words = words_of_values record_given.values }
 
+-- How many bytes the text of a value has.
 abbrev pub bytes_of_value : FieldValue → ℕ
 bytes_of_value (FieldValue.Text text) = length text
 

@@ -2,6 +2,7 @@
 use Rattle.std.specs.Prelude.{ℕ, List}
 use Rattle.sk_base.specs.declared.find.Ask.{Ask}
 
+-- A query is a term. (Other forms come with the operators.)
 pub data Query : Type 0 where
   -- documents that have the term
   term : List ℕ → Query

@@ -6,8 +6,8 @@ use Rattle.sk_engine.specs.Adding.{NotesWords}
 use Rattle.sk_engine.proofs.HoldsLemmas.{Holds-with_next}
 use Rattle.sk_engine.proofs.index.Index.with_next.Goals as goal
 
-pub note_words-requires-clause-few : goal.note_words-requires-clause-few
-note_words-requires-clause-few c =
+pub index_words-requires-clause-few : goal.index_words-requires-clause-few
+index_words-requires-clause-few c =
     let same : length c.as_slice-2.result.now ≡ length (words_of_values c.args.added.now.values) =
     ap length c.as_slice-2.ensures.value ∙ sym (length-map c.in_ok-words.words.items (λ w. w.now)) ∙ ap length c.in_ok-words.ensures ∙ ap (λ es. length (words_of_values es)) c.as_slice.ensures in
     omega (arith, same, length-words_of_values c.args.added.now.values)
@@ -17,4 +17,4 @@ returns-clause-live c = λ live holds.
     let words : map (λ w. w.now) c.as_slice-2.result.now ≡ words_of_values c.args.added.now.values =
     ap (map (λ w. w.now)) c.as_slice-2.ensures.value ∙ c.in_ok-words.ensures ∙ ap words_of_values c.as_slice.ensures in
     Holds-with_next c.args.self _ live (document_of c.args.added.now) holds refl
-    (subst (λ ws. NotesWords (c.args.self.highest + 1) ws c.args.self.terms c.note_words.new.terms) words c.in_ok-note_words.ensures)
+    (subst (λ ws. NotesWords (c.args.self.highest + 1) ws c.args.self.terms c.index_words.new.terms) words c.in_ok-index_words.ensures)

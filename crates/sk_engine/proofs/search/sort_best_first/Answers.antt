@@ -2,7 +2,7 @@ use Rattle.std.proofs.Common.{rules}
 use Rattle.std.proofs.lemmas.List.Sorted.{answers_always}
 use Rattle.sk_base.specs.Before.{is_before}
 use Rattle.sk_model.proofs.OrderLaws.{before_order, sorted_is}
-use Rattle.sk_engine.proofs.search.put_in_order.Goals as goal
+use Rattle.sk_engine.proofs.search.sort_best_first.Goals as goal
 
 pub returns : goal.returns
 returns c =

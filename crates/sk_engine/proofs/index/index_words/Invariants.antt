@@ -1,6 +1,6 @@
 use Rattle.std.proofs.Common.{◌≡◌, ℕ, take, map, List, count_by, bytes_eq}
 use Rattle.sk_engine.specs.Adding.{count_of, NotesWords}
-use Rattle.sk_engine.proofs.index.note_words.Given as goal
+use Rattle.sk_engine.proofs.index.index_words.Given as goal
 
 abbrev pub invariant-words : goal.invariant-words
 invariant-words l = record {

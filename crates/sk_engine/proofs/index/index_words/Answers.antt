@@ -3,7 +3,7 @@ use Rattle.std.proofs.lemmas.List.{map_more}
 use Rattle.sk_engine.specs.Adding.{count_of, noted}
 use Rattle.sk_engine.specs.Listed.{list_of}
 use Rattle.sk_engine.proofs.AddingLemmas.{more_counts, more_lists}
-use Rattle.sk_engine.proofs.index.note_words.Goals as goal
+use Rattle.sk_engine.proofs.index.index_words.Goals as goal
 
 pub words-preserved : goal.words-preserved
 words-preserved c =

@@ -1,0 +1,2 @@
+-- The modules of the specs.
+pub mod Messages
