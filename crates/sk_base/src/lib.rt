@@ -9,6 +9,7 @@ mod rank;
 mod record;
 mod report;
 mod schema;
+mod term;
 mod text;
 
 pub use bytes::Bytes;
@@ -19,6 +20,7 @@ pub use rank::Rank;
 pub use record::{Edit, Entries, Entry, FieldValue, Record, Reply};
 pub use report::{Hits, Ranked, Report};
 pub use schema::{Field, FieldKind, Schema};
+pub use term::{number_bytes, prefixed};
 pub use text::{Term, Text};
 
 /// The number of a document, from 1.

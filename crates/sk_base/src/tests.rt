@@ -120,3 +120,37 @@ fn texts_bytes_and_lists_keep_what_they_are_given(rt: HostRuntime) -> Result<(),
     assert_eq!(rt; Bytes::empty(alloc).as_slice().len(), 0);
     Ok(())
 }
+
+const TERMS: [(&str, &str, &str); 8] = [
+    ("XCAT", "Dog", "XCAT:Dog"),
+    ("XCAT", "dog", "XCATdog"),
+    ("XCAT", ":x", "XCAT::x"),
+    ("XCAT", "", "XCAT"),
+    ("XCAT", "Étage", "XCATÉtage"),
+    ("L", "En", "LEn"),
+    ("L", ":x", "L:x"),
+    ("", "Dog", "Dog"),
+];
+
+#[test]
+fn a_colon_stands_between_capitals(rt: HostRuntime) -> Result<(), Fail> {
+    for (prefix, text, term) in TERMS {
+        let made = prefixed(rt.alloc(), prefix, text)?;
+        assert_eq!(rt; made.as_str(), term, "{prefix} {text}");
+    }
+    Ok(())
+}
+
+const NUMBERS: [(u64, [u8; 8]); 4] = [
+    (1990, [0, 0, 0, 0, 0, 0, 7, 0xc6]),
+    (0, [0, 0, 0, 0, 0, 0, 0, 0]),
+    (1, [0, 0, 0, 0, 0, 0, 0, 1]),
+    (u64::MAX, [255, 255, 255, 255, 255, 255, 255, 255]),
+];
+
+#[test]
+fn a_number_is_kept_most_significant_byte_first(rt: HostRuntime) {
+    for (n, bytes) in NUMBERS {
+        assert_eq!(rt; number_bytes(n), bytes, "{n}");
+    }
+}

@@ -1,5 +1,5 @@
 //! A text that is kept.
-ghost use Rattle.std.specs.Prelude.{◌≡◌, [], IfOk};
+ghost use Rattle.std.specs.Prelude.{◌≡◌, [], IfOk, string_bytes};
 
 use std::alloc::{AllocError, Global};
 use std::marker::Model;
@@ -27,6 +27,13 @@ impl Text {
     {
         let string = String::from_str(alloc, s)?;
         Ok(Text { string })
+    }
+
+    /// Keeps the string itself. It takes no memory.
+    pub fn from_string(string: String) -> Text
+        ensures { result ≡ string_bytes string }
+    {
+        Text { string }
     }
 
     /// The text without a byte. It takes no memory.
