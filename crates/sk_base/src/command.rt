@@ -1,5 +1,5 @@
 //! What a command line asks for.
-use crate::{Edit, Find, Schema};
+use crate::{Edit, Find, Join, Schema, Text};
 
 /// A command line that was understood.
 #[derive(Debug, Drop)]
@@ -7,4 +7,6 @@ pub enum Command {
     Schema(Schema),
     Edit(Edit),
     Find(Find),
+    /// Prints the query of a text.
+    Show(Text, Join),
 }

@@ -1,5 +1,6 @@
 //! What a find asks for.
-use crate::Text;
+use crate::{Order, Text};
+use serde_json::Value;
 
 /// Which words of a text a document must have.
 #[derive(Clone, Copy, Debug, PartialEq, Eq)]
@@ -13,6 +14,8 @@ pub enum Join {
 pub enum Ask {
     /// A query text, and how its words are joined.
     Text(Text, Join),
+    /// A query tree, as a JSON value.
+    Tree(Value),
 }
 
 /// How a term's wdf weighs: not at all, as one, or as it is.
@@ -21,6 +24,14 @@ pub enum Scheme {
     Bool,
     Coord,
     Nnn,
+}
+
+/// Of the documents that have the same value in a slot, only the best are kept.
+#[derive(Clone, Copy, Debug, PartialEq, Eq)]
+pub struct Collapse {
+    pub slot: u32,
+    /// How many of them are kept.
+    pub max: u32,
 }
 
 /// A find: its query, and which page of the matches is asked for.
@@ -34,4 +45,6 @@ pub struct Find {
     pub size: u32,
     /// How many matches are counted at the least.
     pub check: u32,
+    pub order: Order,
+    pub collapse: Option<Collapse>,
 }

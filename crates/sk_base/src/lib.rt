@@ -1,27 +1,37 @@
-//! The types that all crates share: texts, schemas, records and edits, finds, ranks and reports.
+//! The types that all crates share: texts, schemas, records and edits, documents, finds, ranks and reports.
 #![tactic(auto)]
 
 mod bytes;
 mod command;
+mod doc;
+mod doc_entry;
+mod doc_lists;
 mod find;
 mod items;
+mod positions;
 mod rank;
 mod record;
 mod report;
 mod schema;
+mod stats;
 mod term;
 mod text;
 
 pub use bytes::Bytes;
 pub use command::Command;
-pub use find::{Ask, Find, Join, Scheme};
+pub use doc::Doc;
+pub use doc_entry::{DocTerm, SlotValue};
+pub use doc_lists::{DocTerms, SlotValues};
+pub use find::{Ask, Collapse, Find, Join, Scheme};
 pub use items::Items;
-pub use rank::Rank;
+pub use positions::Positions;
+pub use rank::{Order, Rank, SortKey, total_order};
 pub use record::{Edit, Entries, Entry, FieldValue, Record, Reply};
 pub use report::{Hits, Ranked, Report};
 pub use schema::{Field, FieldKind, Schema};
+pub use stats::Stats;
 pub use term::{number_bytes, prefixed};
-pub use text::{Term, Text};
+pub use text::{Term, Text, Texts};
 
 /// The number of a document, from 1.
 pub type DocId = u32;

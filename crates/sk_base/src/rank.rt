@@ -1,22 +1,84 @@
 //! The place of a match among others.
-ghost use Rattle.std.specs.Prelude.{◌≡◌};
+ghost use Rattle.std.specs.Prelude.{◌≡◌, ℕ};
+ghost use Rattle.std.specs.Cmp.{IsTotalOrder};
+ghost use Rattle.std.specs.Ordering.{nat_cmp};
+ghost use Rattle.std.specs.Cmp.Lexicographic.{slice_cmp};
+ghost use Rattle.std.specs.declared.cmp.Ordering.TheVariants.{Equal};
+ghost use Rattle.sk_base.specs.Before.{rank_cmp, is_before, value_cmp};
 
-use crate::{DocId, Weight};
+use crate::{Bytes, DocId, Weight};
+use std::cmp::Ordering;
 
 /// What decides the place of a match.
-#[derive(Clone, Copy, Debug, PartialEq, Eq)]
+#[derive(Debug, Drop)]
 pub struct Rank {
     pub weight: Weight,
+    /// The value in the slot that the order reads, empty where there is none.
+    pub value: Bytes,
     pub id: DocId,
 }
 
-impl Rank {
-    ghost use Rattle.sk_base.specs.Before.{is_before};
+/// The slot whose values decide, and whether the greater come first.
+#[derive(Clone, Copy, Debug, PartialEq, Eq)]
+pub struct SortKey {
+    pub slot: u32,
+    pub reverse: bool,
+}
 
-    /// Whether this match comes before the other: the heavier first, and of equal weights the lower id.
-    pub fn better(&self, other: &Rank) -> bool
-        ensures { result ≡ is_before self.now other.now }
+/// The order of matches. In each of them the lower id decides last.
+#[derive(Clone, Copy, Debug, PartialEq, Eq)]
+pub enum Order {
+    /// The heavier first.
+    Relevance,
+    /// By value.
+    Value(SortKey),
+    /// By value, and of equal values the heavier first.
+    ValueThenRelevance(SortKey),
+    /// The heavier first, and of equal weights by value.
+    RelevanceThenValue(SortKey),
+}
+
+impl Rank {
+    /// Whether this match comes before the other.
+    pub fn better(&self, other: &Rank, order: &Order) -> bool
+        ensures { result ≡ is_before order.now self.now other.now }
     {
-        self.weight > other.weight || (self.weight == other.weight && self.id < other.id)
+        self.compare(other, order).is_lt()
+    }
+
+    /// How the two are ordered: the lesser is the better.
+    pub fn compare(&self, other: &Rank, order: &Order) -> Ordering
+        ensures { result ≡ rank_cmp order.now self.now other.now }
+    {
+        let weight = other.weight.cmp(&self.weight);
+        let id = self.id.cmp(&other.id);
+        match order {
+            Order::Relevance => weight.then(id),
+            Order::Value(key) => key.compare(&self.value, &other.value).then(id),
+            Order::ValueThenRelevance(key) => key
+                .compare(&self.value, &other.value)
+                .then(weight.then(id)),
+            Order::RelevanceThenValue(key) => weight.then(
+                key.compare(&self.value, &other.value).then(id),
+            ),
+        }
     }
 }
+
+impl SortKey {
+    fn compare(&self, value: &Bytes, other: &Bytes) -> Ordering
+        ensures { result ≡ value_cmp self.now value.now other.now }
+    {
+        if self.reverse {
+            other.as_slice().cmp(value.as_slice())
+        } else {
+            value.as_slice().cmp(other.as_slice())
+        }
+    }
+}
+
+/// Laws: each order of matches is total, and no two documents tie.
+pub fn total_order()
+    ensures total { (order : Order) → IsTotalOrder (rank_cmp order) }
+    ensures no_ties { (order : Order) (x y : Rank) → rank_cmp order x y ≡ Equal → x.id ≡ y.id }
+{}

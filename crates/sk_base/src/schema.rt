@@ -1,9 +1,9 @@
 //! The fields of a document.
-ghost use Rattle.std.specs.Prelude.{◌≡◌, length, Some, None, if◌then◌else◌};
+ghost use Rattle.std.specs.Prelude.{◌≡◌, ◌≤◌, length, not, Some, None, if◌then◌else◌};
 ghost use Rattle.std.specs.List.{list_all};
 ghost use Rattle.std.specs.Char.{is_ascii_uppercase};
 ghost use Rattle.sk_base.specs.Names.{is_name, is_name_byte, is_prefix};
-ghost use Rattle.sk_base.specs.Fields.{are_fields, place_of};
+ghost use Rattle.sk_base.specs.Fields.{IsSchema, is_field, are_fields, are_apart, clash, place_of};
 
 use crate::{Items, Term, Text};
 use std::marker::Model;
@@ -20,6 +20,12 @@ pub struct Field {
 pub enum FieldKind {
     /// Words, with the prefix of their terms and the step that each adds to its wdf.
     Text(Term, u32),
+    /// Texts that are terms as they stand, with the prefix of these.
+    Filter(Term),
+    /// A number, in this slot.
+    Number(u32),
+    /// A text that is a value, in this slot.
+    Word(u32),
 }
 
 /// Fields that were checked. Contracts see it as the list of its fields.
@@ -35,15 +41,20 @@ impl Model for Schema {
     ghost Value = { List Field };
 
     ghost view = { λ s. s.fields };
+
+    ghost use Rattle.sk_base.specs.Fields.{IsSchema};
+
+    ghost invariant = { λ s. IsSchema s.fields };
 }
 
 impl Schema {
     /// The schema of these fields, or none where a rule on fields is broken.
     pub fn check(fields: Vec<Field>) -> Option<Schema>
-        requires one { length fields.items ≡ 1 }
+        requires some { 1 ≤ length fields.items }
+        requires few { length fields.items ≤ 64 }
         ensures { result ≡ (if are_fields fields.items then Some fields.items else None) }
     {
-        if are_sound(fields.as_slice()) {
+        if are_fields(fields.as_slice()) {
             Some(Schema {
                 fields: Items::from_vec(fields),
             })
@@ -53,7 +64,8 @@ impl Schema {
     }
 
     pub fn fields(&self) -> &[Field]
-        ensures { result.now ≡ self.now }
+        ensures value { result.now ≡ self.now }
+        ensures sound { IsSchema self.now }
     {
         self.fields.as_slice()
     }
@@ -70,16 +82,57 @@ impl Schema {
 }
 
 impl Field {
-    ghost use Rattle.sk_base.specs.Fields.{is_field};
-
     fn is_sound(&self) -> bool
         ensures { result ≡ is_field self.now }
     {
-        let FieldKind::Text(prefix, step) = &self.kind;
-        is_name(self.name.as_str().as_bytes())
-            && is_prefix(prefix.as_str().as_bytes())
-            && *step >= 1
-            && *step <= 256
+        is_name(self.name.as_str().as_bytes()) && self.kind.is_sound()
+    }
+
+    /// Whether the two can't stand in one schema.
+    fn clashes(&self, other: &Field) -> bool
+        ensures { result ≡ clash self.now other.now }
+    {
+        self.name.as_str() == other.name.as_str() || self.kind.clashes(&other.kind)
+    }
+}
+
+impl FieldKind {
+    ghost use Rattle.sk_base.specs.Fields.{is_kind, kinds_clash};
+
+    fn is_sound(&self) -> bool
+        ensures { result ≡ is_kind self.now }
+    {
+        match self {
+            FieldKind::Text(prefix, step) => {
+                is_prefix(prefix.as_str().as_bytes()) && *step >= 1 && *step <= 256
+            }
+            FieldKind::Filter(prefix) => {
+                !prefix.as_str().is_empty() && is_prefix(prefix.as_str().as_bytes())
+            }
+            FieldKind::Number(slot) => *slot <= 255,
+            FieldKind::Word(slot) => *slot <= 255,
+        }
+    }
+
+    fn clashes(&self, other: &FieldKind) -> bool
+        ensures { result ≡ kinds_clash self.now other.now }
+    {
+        match (self, other) {
+            (FieldKind::Text(prefix, _), FieldKind::Filter(other)) => {
+                prefix.as_str() == other.as_str()
+            }
+            (FieldKind::Filter(prefix), FieldKind::Text(other, _)) => {
+                prefix.as_str() == other.as_str()
+            }
+            (FieldKind::Filter(prefix), FieldKind::Filter(other)) => {
+                prefix.as_str() == other.as_str()
+            }
+            (FieldKind::Number(slot), FieldKind::Number(other)) => slot == other,
+            (FieldKind::Number(slot), FieldKind::Word(other)) => slot == other,
+            (FieldKind::Word(slot), FieldKind::Number(other)) => slot == other,
+            (FieldKind::Word(slot), FieldKind::Word(other)) => slot == other,
+            _ => false,
+        }
     }
 }
 
@@ -117,8 +170,29 @@ fn are_capitals(bytes: &[u8]) -> bool
     bytes.iter().all(|b| b.is_ascii_uppercase())
 }
 
-fn are_sound(fields: &[Field]) -> bool
+fn are_fields(fields: &[Field]) -> bool
     ensures { result ≡ are_fields fields.now }
 {
+    are_sound(fields) && are_apart(fields)
+}
+
+fn are_sound(fields: &[Field]) -> bool
+    ensures { result ≡ list_all is_field fields.now }
+{
     fields.iter().all(|field| field.is_sound())
+}
+
+fn are_apart(fields: &[Field]) -> bool
+    ensures { result ≡ are_apart fields.now }
+{
+    match fields {
+        [] => true,
+        [first, rest @ ..] => clashes_with_none(first, rest) && are_apart(rest),
+    }
+}
+
+fn clashes_with_none(field: &Field, others: &[Field]) -> bool
+    ensures { result ≡ list_all (λ other. not (clash field.now other)) others.now }
+{
+    others.iter().all(|other| !field.clashes(other))
 }

@@ -1,6 +1,7 @@
 //! A text that is kept.
 ghost use Rattle.std.specs.Prelude.{◌≡◌, [], IfOk, string_bytes};
 
+use crate::Items;
 use std::alloc::{AllocError, Global};
 use std::marker::Model;
 
@@ -12,6 +13,9 @@ pub struct Text {
 
 /// A term of the index: the bytes as they stand, prefix included.
 pub type Term = Text;
+
+/// A list of texts.
+pub type Texts = Items<Text>;
 
 impl Model for Text {
     ghost use Rattle.std.specs.Prelude.{List, ℕ, string_bytes};

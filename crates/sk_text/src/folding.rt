@@ -32,7 +32,7 @@ impl Folded {
 }
 
 /// The term of `word`. A word that folds to nothing keeps its own text.
-pub(crate) fn fold(alloc: Global, word: &str) -> Result<Folded, AllocError>
+pub fn fold(alloc: Global, word: &str) -> Result<Folded, AllocError>
     ensures { IfOk result (λ f. f ≡ term_of word.now) }
 {
     let apart = to_nfd(alloc, word)?;

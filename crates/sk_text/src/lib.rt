@@ -9,7 +9,7 @@ mod word;
 
 pub use characters::is_word;
 pub use cutting::words;
-pub use folding::Folded;
+pub use folding::{Folded, fold};
 pub use word::{Word, Words};
 
 #[cfg(test)]
