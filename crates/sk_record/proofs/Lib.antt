@@ -1,0 +1,7 @@
+mod ValueLemmas
+mod SchemaLemmas
+mod Choices
+mod ByteLemmas
+mod EntryLemmas
+mod ShapeLemmas
+mod CommandLemmas

@@ -1,0 +1,146 @@
+-- What the tests of a row leave of the numbers and texts of a shape.
+use Rattle.std.proofs.Common.{◌≡◌, ◌≤◌, ◌+◌, ◌&&◌, ℕ, true, if◌then◌else◌, nat_le, List, [], ◌∷◌, length, codes, Option, Some, None, IfSome, is_some, option_map, arith, subst}
+use Rattle.std.specs.Option.{option_and_then}
+use Rattle.std.proofs.lemmas.Bool.Decides.{nat_tests}
+use Rattle.serde_json.specs.Data.{Data}
+use Rattle.serde_json.specs.Find.{get, as_str, as_object}
+use Rattle.sk_base.specs.Records.{most_bytes}
+use Rattle.sk_record.specs.Values.{has, has_only, text_at, number_of, between, optional_text, optional_number, bytes_in}
+use Rattle.sk_record.specs.Shapes.{Given, Asked, words, tree, Collapsed, Wanted, Shape, schema, add, replace, replace_by, delete, delete_by, seek, show}
+use Rattle.sk_record.specs.Options.{query_at, join_at, scheme_at, page_at, check_at, sorted_at, collapsed_on, collapsed_by, collapsed_at, wanted_at, option_names, find_row, tree_row}
+use Rattle.sk_record.specs.Rows.{values_of, given_at, id_at, pair_at, add_row, replace_row, replace_by_row, delete_row, delete_by_row, show_row, later_shape}
+use Rattle.sk_record.proofs.Choices.{some_is, chained, mapped, guarded, either, first_true, second_true}
+
+-- a query text is not too long
+abbrev pub FitsAsked : Asked → Type 0
+FitsAsked (words text join) = length text ≤ most_bytes
+FitsAsked (tree d) = Unit {0}
+
+-- the query, the page and the collapsing are in their ranges
+pub record FitsWanted (wanted : Wanted) : Type 0 where
+  pub asked : FitsAsked wanted.asked
+  pub page : wanted.first + wanted.size ≤ 100000
+  pub collapsed : IfSome wanted.collapsed (λ c. 1 ≤ c.max)
+
+-- a shape that is no schema, and is in its ranges
+abbrev pub FitsShape : Shape → Type 0
+FitsShape (schema given) = ⊥
+FitsShape (add given) = bytes_in given.values ≤ most_bytes
+FitsShape (replace id given) = (1 ≤ id) × (bytes_in given.values ≤ most_bytes)
+FitsShape (replace_by pair given) = bytes_in given.values ≤ most_bytes
+FitsShape (delete id) = 1 ≤ id
+FitsShape (delete_by pair) = Unit {0}
+FitsShape (seek wanted) = FitsWanted wanted
+FitsShape (show text join) = length text ≤ most_bytes
+
+tested : (n most : ℕ) → nat_le n most ≡ true → n ≤ most
+tested n most e = grind (arith, nat_tests)
+
+between_least : (least most n m : ℕ) → between least most n ≡ Some m → least ≤ m
+between_least least most n m =
+    guarded (λ k. least ≤ k) (nat_le least n && nat_le n most) (Some n) m
+    (λ both is. subst (λ k. least ≤ k) (some_is n m is) (tested least n (first_true (nat_le least n) (nat_le n most) both)))
+
+values_short : (d values : Data) → values_of d ≡ Some values → bytes_in values ≤ most_bytes
+values_short d values =
+    guarded (λ v. bytes_in v ≤ most_bytes) (is_some (as_object d) && nat_le (bytes_in d) most_bytes) (Some d) values
+    (λ both is. subst (λ v. bytes_in v ≤ most_bytes) (some_is d values is) (tested (bytes_in d) most_bytes (second_true (is_some (as_object d)) (nat_le (bytes_in d) most_bytes) both)))
+
+given_short : (name : List ℕ) (d : Data) (given : Given) → given_at name d ≡ Some given → bytes_in given.values ≤ most_bytes
+given_short name d given =
+    chained (λ (g : Given). bytes_in g.values ≤ most_bytes) (λ values. option_map (λ payload. record { values = values; payload = payload }) (optional_text (codes "data") d))
+    (option_and_then values_of (get name d)) given
+    (λ values is. mapped (λ (g : Given). bytes_in g.values ≤ most_bytes) (λ payload. record { values = values; payload = payload }) (optional_text (codes "data") d) given
+    (λ payload text. chained (λ v. bytes_in v ≤ most_bytes) values_of (get name d) values (λ member there short. values_short member values short) is))
+
+id_from_one : (name : List ℕ) (d : Data) (id : ℕ) → id_at name d ≡ Some id → 1 ≤ id
+id_from_one name d id =
+    chained (λ n. 1 ≤ n) (between 1 4294967295) (option_and_then number_of (get name d)) id (λ n is e. between_least 1 4294967295 n id e)
+
+query_short : (name : List ℕ) (d : Data) (text : List ℕ) → query_at name d ≡ Some text → length text ≤ most_bytes
+query_short name d text =
+    chained (λ t. length t ≤ most_bytes) (λ t. if nat_le (length t) most_bytes then Some t else None) (text_at name d) text
+    (λ t is. guarded (λ u. length u ≤ most_bytes) (nat_le (length t) most_bytes) (Some t) text
+    (λ short same. subst (λ u. length u ≤ most_bytes) (some_is t text same) (tested (length t) most_bytes short)))
+
+page_fits : (d : Data) (page : ℕ × ℕ) → page_at d ≡ Some page → page.0 + page.1 ≤ 100000
+page_fits d page =
+    chained (λ (p : ℕ × ℕ). p.0 + p.1 ≤ 100000) (λ first. option_and_then (λ size. if nat_le (first + size) 100000 then Some (first, size) else None) (optional_number (codes "size") 10 d))
+    (optional_number (codes "first") 0 d) page
+    (λ first is. chained (λ (p : ℕ × ℕ). p.0 + p.1 ≤ 100000) (λ size. if nat_le (first + size) 100000 then Some (first, size) else None) (optional_number (codes "size") 10 d) page
+    (λ size it. guarded (λ (p : ℕ × ℕ). p.0 + p.1 ≤ 100000) (nat_le (first + size) 100000) (Some (first, size)) page
+    (λ few same. subst (λ (p : ℕ × ℕ). p.0 + p.1 ≤ 100000) (some_is (first, size) page same) (tested (first + size) 100000 few))))
+
+abbrev KeepsOne : Option Collapsed → Type 0
+KeepsOne o = IfSome o (λ c. 1 ≤ c.max)
+
+collapsed_keeps_by : (d : Data) (o : Option Data) (collapsed : Option Collapsed) → collapsed_by d o ≡ Some collapsed → KeepsOne collapsed
+collapsed_keeps_by d None collapsed = either KeepsOne (has (codes "max") d) None (Some None) collapsed (λ e. cc) (λ e. subst KeepsOne (some_is None collapsed e) tt)
+collapsed_keeps_by d (Some value) collapsed =
+    chained KeepsOne (collapsed_on d) (as_str value) collapsed
+    (λ field is. mapped KeepsOne (λ max. Some (record { field = field; max = max })) (option_and_then (between 1 100000) (optional_number (codes "max") 1 d)) collapsed
+    (λ max made. chained (λ n. 1 ≤ n) (between 1 100000) (optional_number (codes "max") 1 d) max (λ n it e. between_least 1 100000 n max e) made))
+
+wanted_fits : (d : Data) (asked : Asked) (wanted : Wanted) → FitsAsked asked → wanted_at d asked ≡ Some wanted → FitsWanted wanted
+wanted_fits d asked wanted fits =
+    chained FitsWanted _ (scheme_at d) wanted
+    (λ scheme i. chained FitsWanted _ (page_at d) wanted
+    (λ page j. chained FitsWanted _ (check_at d) wanted
+    (λ check k. chained FitsWanted _ (sorted_at d) wanted
+    (λ sorted l. mapped FitsWanted _ (collapsed_at d) wanted
+    (λ collapsed m. record { asked = fits; page = page_fits d page j; collapsed = collapsed_keeps_by d (get (codes "collapse") d) collapsed m })))))
+
+find_fits : (d : Data) (wanted : Wanted) → find_row d ≡ Some wanted → FitsWanted wanted
+find_fits d wanted =
+    guarded FitsWanted (has_only (codes "find" ∷ codes "op" ∷ option_names) d) _ wanted
+    (λ only. chained FitsWanted _ (query_at (codes "find") d) wanted
+    (λ text is. chained FitsWanted _ (join_at d) wanted
+    (λ join it. wanted_fits d (words text join) wanted (query_short (codes "find") d text is))))
+
+tree_fits : (d : Data) (wanted : Wanted) → tree_row d ≡ Some wanted → FitsWanted wanted
+tree_fits d wanted =
+    guarded FitsWanted (has_only (codes "tree" ∷ option_names) d) _ wanted
+    (λ only. chained FitsWanted _ (get (codes "tree") d) wanted (λ value is. wanted_fits d (tree value) wanted tt))
+
+add_fits : (d : Data) (shape : Shape) → add_row d ≡ Some shape → FitsShape shape
+add_fits d shape =
+    guarded FitsShape (has_only (codes "add" ∷ codes "data" ∷ []) d) _ shape
+    (λ only. mapped FitsShape add (given_at (codes "add") d) shape (λ given is. given_short (codes "add") d given is))
+
+replace_fits : (d : Data) (shape : Shape) → replace_row d ≡ Some shape → FitsShape shape
+replace_fits d shape =
+    guarded FitsShape (has_only (codes "replace" ∷ codes "with" ∷ codes "data" ∷ []) d) _ shape
+    (λ only. chained FitsShape _ (id_at (codes "replace") d) shape
+    (λ id is. mapped FitsShape (replace id) (given_at (codes "with") d) shape (λ given it. (id_from_one (codes "replace") d id is, given_short (codes "with") d given it))))
+
+replace_by_fits : (d : Data) (shape : Shape) → replace_by_row d ≡ Some shape → FitsShape shape
+replace_by_fits d shape =
+    guarded FitsShape (has_only (codes "replace_by" ∷ codes "with" ∷ codes "data" ∷ []) d) _ shape
+    (λ only. chained FitsShape _ (pair_at (codes "replace_by") d) shape
+    (λ pair is. mapped FitsShape (replace_by pair) (given_at (codes "with") d) shape (λ given it. given_short (codes "with") d given it)))
+
+delete_fits : (d : Data) (shape : Shape) → delete_row d ≡ Some shape → FitsShape shape
+delete_fits d shape =
+    guarded FitsShape (has_only (codes "delete" ∷ []) d) _ shape
+    (λ only. mapped FitsShape delete (id_at (codes "delete") d) shape (λ id is. id_from_one (codes "delete") d id is))
+
+delete_by_fits : (d : Data) (shape : Shape) → delete_by_row d ≡ Some shape → FitsShape shape
+delete_by_fits d shape =
+    guarded FitsShape (has_only (codes "delete_by" ∷ []) d) _ shape (λ only. mapped FitsShape delete_by (pair_at (codes "delete_by") d) shape (λ pair is. tt))
+
+show_fits : (d : Data) (shape : Shape) → show_row d ≡ Some shape → FitsShape shape
+show_fits d shape =
+    guarded FitsShape (has_only (codes "show" ∷ codes "op" ∷ []) d) _ shape
+    (λ only. chained FitsShape _ (query_at (codes "show") d) shape
+    (λ text is. mapped FitsShape (show text) (join_at d) shape (λ join it. query_short (codes "show") d text is)))
+
+pub later_fits : (d : Data) (shape : Shape) → later_shape d ≡ Some shape → FitsShape shape
+later_fits d shape =
+    either FitsShape (has (codes "add") d) _ _ shape (add_fits d shape)
+    (either FitsShape (has (codes "replace") d) _ _ shape (replace_fits d shape)
+    (either FitsShape (has (codes "replace_by") d) _ _ shape (replace_by_fits d shape)
+    (either FitsShape (has (codes "delete") d) _ _ shape (delete_fits d shape)
+    (either FitsShape (has (codes "delete_by") d) _ _ shape (delete_by_fits d shape)
+    (either FitsShape (has (codes "find") d) _ _ shape (mapped FitsShape seek (find_row d) shape (find_fits d))
+    (either FitsShape (has (codes "tree") d) _ _ shape (mapped FitsShape seek (tree_row d) shape (tree_fits d))
+    (either FitsShape (has (codes "show") d) _ _ shape (show_fits d shape) (λ e. cc))))))))

@@ -1,0 +1,147 @@
+-- What a shape says under a schema, and none where a rule on fields is broken.
+use Rattle.std.specs.Prelude.{ℕ, suc, Bool, false, List, [], ◌∷◌, bytes_eq, find, Option, Some, None, is_some, if◌then◌else◌, option_map}
+use Rattle.std.specs.Option.{option_and_then}
+use Rattle.serde_json.specs.Data.{Data, null, boolean, number, string, array, object, Items, no_items, item}
+use Rattle.serde_json.specs.Find.{get, as_str}
+use Rattle.sk_base.specs.declared.find.Collapse.{Collapse}
+use Rattle.sk_base.specs.declared.rank.Order.{Order}
+use Rattle.sk_base.specs.declared.rank.SortKey.{SortKey}
+use Rattle.sk_base.specs.declared.record.Edit.{Edit}
+use Rattle.sk_base.specs.declared.record.Entry.{Entry}
+use Rattle.sk_base.specs.declared.record.FieldValue.{FieldValue}
+use Rattle.sk_base.specs.declared.record.Record.{Record}
+use Rattle.sk_base.specs.declared.schema.Field.{Field}
+use Rattle.sk_base.specs.declared.schema.FieldKind.{FieldKind}
+use Rattle.sk_base.specs.Fields.{are_fields}
+use Rattle.sk_base.specs.Terms.{prefixed}
+use Rattle.sk_record.specs.declared.row.Sort.{Sort}
+use Rattle.sk_record.specs.Values.{all_names, number_of}
+use Rattle.sk_record.specs.Shapes.{Given, Sorted, by_relevance, by_field, Collapsed, Wanted, Shape, schema, add, replace, replace_by, delete, delete_by, seek, show}
+use Rattle.sk_record.specs.Told.{Sought, Told, opens, edits, finds, shows}
+
+-- The field with this name.
+abbrev pub field_named : List Field → List ℕ → Option Field
+field_named fields name = find (λ field. bytes_eq field.name name) fields
+
+-- Strings only.
+abbrev pub texts_of : Items → Option (List (List ℕ))
+texts_of no_items = Some []
+texts_of (item d ds) = option_and_then (λ text. option_map (λ texts. text ∷ texts) (texts_of ds)) (as_str d)
+
+-- The texts of a filter: one string, or an array of strings, in order and with repeats.
+abbrev pub filter_texts : Data → Option (List (List ℕ))
+filter_texts (string s) = Some (s ∷ [])
+filter_texts (array ds) = texts_of ds
+filter_texts null = None
+filter_texts (boolean b) = None
+filter_texts (number n) = None
+filter_texts (object ms) = None
+
+-- The value for a field of this kind.
+abbrev pub value_of : FieldKind → Data → Option FieldValue
+value_of (FieldKind.Text prefix step) d = option_map (λ text. FieldValue.Text text) (as_str d)
+value_of (FieldKind.Filter prefix) d = option_map (λ texts. FieldValue.Filter texts) (filter_texts d)
+value_of (FieldKind.Number slot) d = option_map (λ n. FieldValue.Number n) (number_of d)
+value_of (FieldKind.Word slot) d = option_map (λ text. FieldValue.Word text) (as_str d)
+
+-- What a member gives for a field of this kind: nothing where it is absent or null.
+abbrev pub member_value : FieldKind → Option Data → Option (Option FieldValue)
+member_value kind None = Some None
+member_value kind (Some null) = Some None
+member_value kind (Some (boolean b)) = option_map (λ value. Some value) (value_of kind (boolean b))
+member_value kind (Some (number n)) = option_map (λ value. Some value) (value_of kind (number n))
+member_value kind (Some (string s)) = option_map (λ value. Some value) (value_of kind (string s))
+member_value kind (Some (array ds)) = option_map (λ value. Some value) (value_of kind (array ds))
+member_value kind (Some (object ms)) = option_map (λ value. Some value) (value_of kind (object ms))
+
+-- The entries with that of a place before them, if it has a value.
+abbrev pub with_entry : ℕ → Option FieldValue → List Entry → List Entry
+with_entry place None entries = entries
+with_entry place (Some value) entries = record { field = place; value = value } ∷ entries
+
+-- The entries of a values object for these fields, in their order, the first of them at this place.
+abbrev pub entries_from : ℕ → List Field → Data → Option (List Entry)
+entries_from place [] values = Some []
+entries_from place (field ∷ more) values =
+    option_and_then (λ value. option_map (with_entry place value) (entries_from (suc place) more values)) (member_value field.kind (get field.name values))
+
+-- The value is an object, and each of its members names a field.
+abbrev pub names_fields : List Field → Data → Bool
+names_fields fields (object members) = all_names (λ name. is_some (field_named fields name)) members
+names_fields fields null = false
+names_fields fields (boolean b) = false
+names_fields fields (number n) = false
+names_fields fields (string s) = false
+names_fields fields (array ds) = false
+
+-- The entries of a values object.
+abbrev pub entries_of : List Field → Data → Option (List Entry)
+entries_of fields values = if names_fields fields values then entries_from 0 fields values else None
+
+-- The record of a values object and a payload.
+abbrev pub record_of : List Field → Given → Option Record
+record_of fields given = option_map (λ entries. record { values = entries; payload = given.payload }) (entries_of fields given.values)
+
+-- The prefix of a filter.
+abbrev pub kind_prefix : FieldKind → Option (List ℕ)
+kind_prefix (FieldKind.Text prefix step) = None
+kind_prefix (FieldKind.Filter prefix) = Some prefix
+kind_prefix (FieldKind.Number slot) = None
+kind_prefix (FieldKind.Word slot) = None
+
+-- The prefix of the named filter.
+abbrev pub prefix_named : List Field → List ℕ → Option (List ℕ)
+prefix_named fields name = option_and_then (λ field. kind_prefix field.kind) (field_named fields name)
+
+-- The term of a text of the named filter.
+abbrev pub term_of : List Field → List ℕ × List ℕ → Option (List ℕ)
+term_of fields pair = option_map (λ prefix. prefixed prefix pair.1) (prefix_named fields pair.0)
+
+-- The slot of a number or a word.
+abbrev pub kind_slot : FieldKind → Option ℕ
+kind_slot (FieldKind.Text prefix step) = None
+kind_slot (FieldKind.Filter prefix) = None
+kind_slot (FieldKind.Number slot) = Some slot
+kind_slot (FieldKind.Word slot) = Some slot
+
+-- The slot of the named number or word.
+abbrev pub slot_named : List Field → List ℕ → Option ℕ
+slot_named fields name = option_and_then (λ field. kind_slot field.kind) (field_named fields name)
+
+-- The order by this key.
+abbrev pub keyed : Sort → SortKey → Order
+keyed Sort.Value key = Order.Value key
+keyed Sort.ValueThenRelevance key = Order.ValueThenRelevance key
+keyed Sort.RelevanceThenValue key = Order.RelevanceThenValue key
+
+-- The order, with the slot of its field.
+abbrev pub order_of : List Field → Sorted → Option Order
+order_of fields by_relevance = Some Order.Relevance
+order_of fields (by_field sort field reverse) = option_map (λ slot. keyed sort (record { slot = slot; reverse = reverse })) (slot_named fields field)
+
+-- The collapsing, with the slot of its field.
+abbrev pub collapse_of : List Field → Option Collapsed → Option (Option Collapse)
+collapse_of fields None = Some None
+collapse_of fields (Some collapsed) = option_map (λ slot. Some (record { slot = slot; max = collapsed.max })) (slot_named fields collapsed.field)
+
+-- The find, with the slots of its fields.
+abbrev pub sought_of : List Field → Wanted → Option Sought
+sought_of fields wanted =
+    option_and_then (λ order.
+    option_map (λ collapse. record { asked = wanted.asked; scheme = wanted.scheme; first = wanted.first; size = wanted.size; check = wanted.check; order = order; collapse = collapse })
+    (collapse_of fields wanted.collapsed)) (order_of fields wanted.sorted)
+
+-- The edit of a new record.
+abbrev pub replaced_by : List Field → List ℕ × List ℕ → Given → Option Edit
+replaced_by fields pair given = option_and_then (λ term. option_map (λ it. Edit.ReplaceBy term it) (record_of fields given)) (term_of fields pair)
+
+-- What a shape says under the fields that were accepted; a schema stands by itself.
+abbrev pub command_of : List Field → Shape → Option Told
+command_of fields (schema given) = if are_fields given then Some (opens given) else None
+command_of fields (add given) = option_map (λ it. edits (Edit.Add it)) (record_of fields given)
+command_of fields (replace id given) = option_map (λ it. edits (Edit.Replace id it)) (record_of fields given)
+command_of fields (replace_by pair given) = option_map edits (replaced_by fields pair given)
+command_of fields (delete id) = Some (edits (Edit.Delete id))
+command_of fields (delete_by pair) = option_map (λ term. edits (Edit.DeleteBy term)) (term_of fields pair)
+command_of fields (seek wanted) = option_map finds (sought_of fields wanted)
+command_of fields (show text join) = Some (shows text join)

@@ -1,0 +1,9 @@
+pub mod Values
+pub mod Shapes
+pub mod SchemaFields
+pub mod Options
+pub mod Rows
+pub mod Shown
+pub mod Told
+pub mod FieldRules
+pub mod Outcome

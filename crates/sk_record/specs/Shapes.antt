@@ -1,0 +1,48 @@
+-- What a line with the right shape gives, before the rules on fields are asked.
+use Rattle.std.specs.Prelude.{ℕ, Bool, List, Option}
+use Rattle.serde_json.specs.Data.{Data}
+use Rattle.sk_base.specs.declared.find.Join.{Join}
+use Rattle.sk_base.specs.declared.find.Scheme.{Scheme}
+use Rattle.sk_base.specs.declared.schema.Field.{Field}
+use Rattle.sk_record.specs.declared.row.Sort.{Sort}
+
+-- A values object, and the payload.
+pub record Given : Type 0 where
+  pub values : Data
+  pub payload : List ℕ
+
+-- What a find asks for: a text and how its words are joined, or a tree.
+pub data Asked : Type 0 where
+  words : List ℕ → Join → Asked
+  tree : Data → Asked
+
+-- The order of a find: by relevance, or by a named field, whether in reverse.
+pub data Sorted : Type 0 where
+  by_relevance : Sorted
+  by_field : Sort → List ℕ → Bool → Sorted
+
+-- The named field that is collapsed on, and how many are kept of each value.
+pub record Collapsed : Type 0 where
+  pub field : List ℕ
+  pub max : ℕ
+
+-- A find with its options.
+pub record Wanted : Type 0 where
+  pub asked : Asked
+  pub scheme : Scheme
+  pub first : ℕ
+  pub size : ℕ
+  pub check : ℕ
+  pub sorted : Sorted
+  pub collapsed : Option Collapsed
+
+-- The rows. A field and a text are those of `replace_by` and `delete_by`.
+pub data Shape : Type 0 where
+  schema : List Field → Shape
+  add : Given → Shape
+  replace : ℕ → Given → Shape
+  replace_by : List ℕ × List ℕ → Given → Shape
+  delete : ℕ → Shape
+  delete_by : List ℕ × List ℕ → Shape
+  seek : Wanted → Shape
+  show : List ℕ → Join → Shape

@@ -1,0 +1,48 @@
+-- The shapes that the rows of the reader stand for.
+use Rattle.std.specs.Prelude.{ℕ, List, option_map}
+use Rattle.serde_json.specs.View.{view}
+use Rattle.sk_record.specs.declared.row.RecordRow.{RecordRow}
+use Rattle.sk_record.specs.declared.row.AskRow.{AskRow}
+use Rattle.sk_record.specs.declared.row.OrderRow.{OrderRow}
+use Rattle.sk_record.specs.declared.row.CollapseRow.{CollapseRow}
+use Rattle.sk_record.specs.declared.row.FindRow.{FindRow}
+use Rattle.sk_record.specs.declared.row.TextRow.{TextRow}
+use Rattle.sk_record.specs.declared.row.Row.{Row}
+use Rattle.sk_record.specs.Shapes.{Given, Asked, words, tree, Sorted, by_relevance, by_field, Collapsed, Wanted, Shape, add, replace, replace_by, delete, delete_by, seek, show}
+
+-- A field's name and a text.
+abbrev pub pair_shown : TextRow → List ℕ × List ℕ
+pair_shown row = (row.field.now, row.text.now)
+
+-- A values object and a payload.
+abbrev pub given_shown : RecordRow → Given
+given_shown row = record { values = view row.values.now; payload = row.payload.now }
+
+-- A query.
+abbrev pub asked_shown : AskRow → Asked
+asked_shown (AskRow.Text text join) = words text.now join
+asked_shown (AskRow.Tree value) = tree (view value.now)
+
+-- An order.
+abbrev pub sorted_shown : OrderRow → Sorted
+sorted_shown OrderRow.Relevance = by_relevance
+sorted_shown (OrderRow.By sort field reverse) = by_field sort field.now reverse
+
+-- A collapsing.
+abbrev pub collapsed_shown : CollapseRow → Collapsed
+collapsed_shown row = record { field = row.field.now; max = row.max }
+
+-- A find.
+abbrev pub wanted_shown : FindRow → Wanted
+wanted_shown row =
+    record { asked = asked_shown row.ask; scheme = row.scheme; first = row.first; size = row.size; check = row.check; sorted = sorted_shown row.order; collapsed = option_map collapsed_shown row.collapse }
+
+-- A row.
+abbrev pub shape_shown : Row → Shape
+shape_shown (Row.Add given) = add (given_shown given)
+shape_shown (Row.Replace id given) = replace id (given_shown given)
+shape_shown (Row.ReplaceBy pair given) = replace_by (pair_shown pair) (given_shown given)
+shape_shown (Row.Delete id) = delete id
+shape_shown (Row.DeleteBy pair) = delete_by (pair_shown pair)
+shape_shown (Row.Find wanted) = seek (wanted_shown wanted)
+shape_shown (Row.Show text join) = show text.now join

@@ -1,0 +1,365 @@
+//! What a row says under the fields of a schema, none where a rule on fields is broken.
+ghost use Rattle.std.specs.Prelude.{◌≡◌, [], ◌++◌, IfOk, OnOk, is_some, option_map};
+ghost use Rattle.serde_json.specs.View.{view, items_view, members_view};
+ghost use Rattle.serde_json.specs.Find.{as_str};
+ghost use Rattle.sk_record.specs.Values.{all_names};
+ghost use Rattle.sk_record.specs.Shown.{pair_shown, given_shown, asked_shown, sorted_shown, collapsed_shown, wanted_shown, shape_shown};
+ghost use Rattle.sk_record.specs.Told.{asked_by, sought_by, told_by};
+ghost use Rattle.sk_record.specs.FieldRules.{field_named, texts_of, filter_texts, value_of, member_value, with_entry, entries_from, names_fields, entries_of, record_of, prefix_named, kind_prefix, term_of, slot_named, kind_slot, keyed, order_of, collapse_of, sought_of, replaced_by, command_of};
+
+use crate::json::number_of;
+use crate::row::{AskRow, CollapseRow, FindRow, OrderRow, RecordRow, Row, Sort, TextRow};
+use serde_json::{Map, Value};
+use sk_base::{
+    Ask, Collapse, Command, Edit, Entries, Entry, Field, FieldKind, FieldValue, Find, Items, Order,
+    Record, SortKey, Term, Text, Texts, prefixed,
+};
+use std::alloc::{AllocError, Global};
+
+/// The command of a row.
+pub fn command_of(
+    alloc: Global,
+    fields: &[Field],
+    row: Row<'_>,
+) -> Result<Option<Command>, AllocError>
+    ensures { IfOk result (λ c. option_map told_by c ≡ command_of fields.now (shape_shown row.entry)) }
+{
+    match row {
+        Row::Add(given) => match record_of(alloc, fields, given)? {
+            Some(record) => Ok(Some(Command::Edit(Edit::Add(record)))),
+            None => Ok(None),
+        },
+        Row::Replace(id, given) => match record_of(alloc, fields, given)? {
+            Some(record) => Ok(Some(Command::Edit(Edit::Replace(id, record)))),
+            None => Ok(None),
+        },
+        Row::ReplaceBy(pair, given) => match replaced_by(alloc, fields, pair, given)? {
+            Some(edit) => Ok(Some(Command::Edit(edit))),
+            None => Ok(None),
+        },
+        Row::Delete(id) => Ok(Some(Command::Edit(Edit::Delete(id)))),
+        Row::DeleteBy(pair) => match term_of(alloc, fields, pair)? {
+            Some(term) => Ok(Some(Command::Edit(Edit::DeleteBy(term)))),
+            None => Ok(None),
+        },
+        Row::Find(wanted) => match find_of(alloc, fields, wanted)? {
+            Some(find) => Ok(Some(Command::Find(find))),
+            None => Ok(None),
+        },
+        Row::Show(text, join) => {
+            let text = Text::new(alloc, text)?;
+            Ok(Some(Command::Show(text, join)))
+        }
+    }
+}
+
+fn replaced_by(
+    alloc: Global,
+    fields: &[Field],
+    pair: TextRow<'_>,
+    given: RecordRow<'_>,
+) -> Result<Option<Edit>, AllocError>
+    ensures { IfOk result (λ e. e ≡ replaced_by fields.now (pair_shown pair.entry) (given_shown given.entry)) }
+{
+    let Some(term) = term_of(alloc, fields, pair)? else {
+        return Ok(None);
+    };
+    match record_of(alloc, fields, given)? {
+        Some(record) => Ok(Some(Edit::ReplaceBy(term, record))),
+        None => Ok(None),
+    }
+}
+
+/// The field with this name.
+fn field_named<'a>(fields: &'a [Field], name: &str) -> Option<&'a Field>
+    ensures { option_map (λ f. f.now) result ≡ field_named fields.entry.now name.now }
+{
+    fields.iter().find(|field| field.name.as_str() == name)
+}
+
+/// The term of a text of the named filter.
+fn term_of(alloc: Global, fields: &[Field], pair: TextRow<'_>) -> Result<Option<Term>, AllocError>
+    ensures { IfOk result (λ t. t ≡ term_of fields.now (pair_shown pair.entry)) }
+{
+    match prefix_named(fields, pair.field) {
+        Some(prefix) => {
+            let term = prefixed(alloc, prefix, pair.text)?;
+            Ok(Some(term))
+        }
+        None => Ok(None),
+    }
+}
+
+fn prefix_named<'a>(fields: &'a [Field], name: &str) -> Option<&'a str>
+    ensures { option_map (λ s. s.now) result ≡ prefix_named fields.entry.now name.now }
+{
+    kind_prefix(&field_named(fields, name)?.kind)
+}
+
+fn kind_prefix(kind: &FieldKind) -> Option<&str>
+    ensures { option_map (λ s. s.now) result ≡ kind_prefix kind.entry.now }
+{
+    match kind {
+        FieldKind::Filter(prefix) => Some(prefix.as_str()),
+        _ => None,
+    }
+}
+
+fn slot_named(fields: &[Field], name: &str) -> Option<u32>
+    ensures { result ≡ slot_named fields.now name.now }
+{
+    kind_slot(&field_named(fields, name)?.kind)
+}
+
+fn kind_slot(kind: &FieldKind) -> Option<u32>
+    ensures { result ≡ kind_slot kind.now }
+{
+    match kind {
+        FieldKind::Number(slot) => Some(*slot),
+        FieldKind::Word(slot) => Some(*slot),
+        _ => None,
+    }
+}
+
+/// The find, with the slots of its fields.
+fn find_of(alloc: Global, fields: &[Field], wanted: FindRow<'_>) -> Result<Option<Find>, AllocError>
+    ensures { IfOk result (λ f. option_map sought_by f ≡ sought_of fields.now (wanted_shown wanted.entry)) }
+{
+    let Some(order) = order_of(fields, wanted.order) else {
+        return Ok(None);
+    };
+    let Some(collapse) = collapse_of(fields, wanted.collapse) else {
+        return Ok(None);
+    };
+    let ask = ask_of(alloc, wanted.ask)?;
+    Ok(Some(Find {
+        ask,
+        scheme: wanted.scheme,
+        first: wanted.first,
+        size: wanted.size,
+        check: wanted.check,
+        order,
+        collapse,
+    }))
+}
+
+fn ask_of(alloc: Global, ask: AskRow<'_>) -> Result<Ask, AllocError>
+    ensures { IfOk result (λ a. asked_by a ≡ asked_shown ask.entry) }
+{
+    match ask {
+        AskRow::Text(text, join) => {
+            let text = Text::new(alloc, text)?;
+            Ok(Ask::Text(text, join))
+        }
+        AskRow::Tree(value) => {
+            let value = value.clone()?;
+            Ok(Ask::Tree(value))
+        }
+    }
+}
+
+fn order_of(fields: &[Field], order: OrderRow<'_>) -> Option<Order>
+    ensures { result ≡ order_of fields.now (sorted_shown order.entry) }
+{
+    match order {
+        OrderRow::Relevance => Some(Order::Relevance),
+        OrderRow::By(sort, field, reverse) => {
+            let slot = slot_named(fields, field)?;
+            Some(keyed(sort, SortKey { slot, reverse }))
+        }
+    }
+}
+
+fn keyed(sort: Sort, key: SortKey) -> Order
+    ensures { result ≡ keyed sort key }
+{
+    match sort {
+        Sort::Value => Order::Value(key),
+        Sort::ValueThenRelevance => Order::ValueThenRelevance(key),
+        Sort::RelevanceThenValue => Order::RelevanceThenValue(key),
+    }
+}
+
+fn collapse_of(fields: &[Field], collapse: Option<CollapseRow<'_>>) -> Option<Option<Collapse>>
+    ensures { result ≡ collapse_of fields.now (option_map collapsed_shown collapse.entry) }
+{
+    match collapse {
+        Some(row) => {
+            let slot = slot_named(fields, row.field)?;
+            Some(Some(Collapse { slot, max: row.max }))
+        }
+        None => Some(None),
+    }
+}
+
+/// The record of a values object and a payload.
+fn record_of(
+    alloc: Global,
+    fields: &[Field],
+    given: RecordRow<'_>,
+) -> Result<Option<Record>, AllocError>
+    ensures { IfOk result (λ r. r ≡ record_of fields.now (given_shown given.entry)) }
+{
+    let Some(values) = entries_of(alloc, fields, given.values)? else {
+        return Ok(None);
+    };
+    let payload = Text::new(alloc, given.payload)?;
+    Ok(Some(Record { values, payload }))
+}
+
+fn entries_of(
+    alloc: Global,
+    fields: &[Field],
+    values: &Value,
+) -> Result<Option<Entries>, AllocError>
+    ensures { IfOk result (λ e. e ≡ entries_of fields.now (view values.now)) }
+{
+    if !names_fields(fields, values) {
+        return Ok(None);
+    }
+    entries_from(alloc, fields, values)
+}
+
+/// Whether the value is an object, and each of its members names a field.
+fn names_fields(fields: &[Field], values: &Value) -> bool
+    ensures { result ≡ names_fields fields.now (view values.now) }
+{
+    match values {
+        Value::Object(members) => are_fields(fields, members),
+        _ => false,
+    }
+}
+
+fn are_fields(fields: &[Field], members: &Map<String, Value>) -> bool
+    ensures { result ≡ all_names (λ name. is_some (field_named fields.now name)) (members_view members.now.entries) }
+{
+    'members: for (name, _) in members.iter() {
+        if field_named(fields, name.as_str()).is_none() {
+            return false;
+        }
+    }
+    true
+}
+
+/// The entries of the fields in their order, whatever the order of the members.
+fn entries_from(
+    alloc: Global,
+    fields: &[Field],
+    values: &Value,
+) -> Result<Option<Entries>, AllocError>
+    ensures { IfOk result (λ e. e ≡ entries_from 0 fields.now (view values.now)) }
+{
+    let mut entries = Items::new(alloc);
+    'fields: for place in 0..fields.len() {
+        let field = &fields[place];
+        let Some(value) = member_value(alloc, &field.kind, values.get(field.name.as_str()))? else {
+            return Ok(None);
+        };
+        push_entry(&mut entries, place, value)?;
+    }
+    Ok(Some(entries))
+}
+
+fn push_entry(
+    entries: &mut Entries,
+    place: usize,
+    value: Option<FieldValue>,
+) -> Result<(), AllocError>
+    ensures { OnOk result (entries.new ≡ entries.old ++ with_entry place value []) }
+{
+    if let Some(value) = value {
+        entries.push(Entry {
+            field: place,
+            value,
+        })?;
+    }
+    Ok(())
+}
+
+/// What a member gives for a field: nothing where it is absent or null.
+fn member_value(
+    alloc: Global,
+    kind: &FieldKind,
+    member: Option<&Value>,
+) -> Result<Option<Option<FieldValue>>, AllocError>
+    ensures { IfOk result (λ v. v ≡ member_value kind.now (option_map (λ m. view m.now) member.entry)) }
+{
+    let Some(value) = member else {
+        return Ok(Some(None));
+    };
+    if value.is_null() {
+        return Ok(Some(None));
+    }
+    match value_of(alloc, kind, value)? {
+        Some(value) => Ok(Some(Some(value))),
+        None => Ok(None),
+    }
+}
+
+fn value_of(
+    alloc: Global,
+    kind: &FieldKind,
+    value: &Value,
+) -> Result<Option<FieldValue>, AllocError>
+    ensures { IfOk result (λ v. v ≡ value_of kind.now (view value.now)) }
+{
+    match kind {
+        FieldKind::Text(_, _) => match text_of(alloc, value)? {
+            Some(text) => Ok(Some(FieldValue::Text(text))),
+            None => Ok(None),
+        },
+        FieldKind::Filter(_) => match filter_texts(alloc, value)? {
+            Some(texts) => Ok(Some(FieldValue::Filter(texts))),
+            None => Ok(None),
+        },
+        FieldKind::Number(_) => match number_of(value) {
+            Some(n) => Ok(Some(FieldValue::Number(n))),
+            None => Ok(None),
+        },
+        FieldKind::Word(_) => match text_of(alloc, value)? {
+            Some(text) => Ok(Some(FieldValue::Word(text))),
+            None => Ok(None),
+        },
+    }
+}
+
+fn text_of(alloc: Global, value: &Value) -> Result<Option<Text>, AllocError>
+    ensures { IfOk result (λ t. t ≡ as_str (view value.now)) }
+{
+    match value.as_str() {
+        Some(text) => {
+            let text = Text::new(alloc, text)?;
+            Ok(Some(text))
+        }
+        None => Ok(None),
+    }
+}
+
+/// One string, or an array of strings.
+fn filter_texts(alloc: Global, value: &Value) -> Result<Option<Texts>, AllocError>
+    ensures { IfOk result (λ t. t ≡ filter_texts (view value.now)) }
+{
+    match value {
+        Value::String(text) => {
+            let text = Text::new(alloc, text.as_str())?;
+            let mut texts = Items::new(alloc);
+            texts.push(text)?;
+            Ok(Some(texts))
+        }
+        Value::Array(items) => texts_of(alloc, items),
+        _ => Ok(None),
+    }
+}
+
+fn texts_of(alloc: Global, items: &[Value]) -> Result<Option<Texts>, AllocError>
+    ensures { IfOk result (λ t. t ≡ texts_of (items_view items.now)) }
+{
+    let mut texts = Items::new(alloc);
+    'items: for item in items {
+        let Some(text) = text_of(alloc, item)? else {
+            return Ok(None);
+        };
+        texts.push(text)?;
+    }
+    Ok(Some(texts))
+}

@@ -1,0 +1,17 @@
+//! What a command line says: the command, or the first fault of the line.
+#![tactic(auto)]
+
+mod fault;
+mod json;
+mod judge;
+mod options;
+mod reader;
+mod row;
+mod rows;
+mod schema;
+
+pub use fault::LineFault;
+pub use reader::command;
+
+#[cfg(test)]
+mod tests;

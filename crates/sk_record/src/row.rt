@@ -1,0 +1,70 @@
+//! The rows that a line can fit, with what it gives for them.
+use serde_json::Value;
+use sk_base::{Join, Scheme};
+
+/// A field's name and a text of it.
+#[derive(Clone, Copy)]
+pub struct TextRow<'a> {
+    pub field: &'a str,
+    pub text: &'a str,
+}
+
+/// A values object and a payload.
+#[derive(Clone, Copy)]
+pub struct RecordRow<'a> {
+    pub values: &'a Value,
+    pub payload: &'a str,
+}
+
+/// The query of a find.
+#[derive(Clone, Copy)]
+pub enum AskRow<'a> {
+    Text(&'a str, Join),
+    Tree(&'a Value),
+}
+
+/// An order by values.
+#[derive(Clone, Copy, Debug, PartialEq, Eq)]
+pub enum Sort {
+    Value,
+    ValueThenRelevance,
+    RelevanceThenValue,
+}
+
+/// An order, with the name of its field and whether it is in reverse.
+#[derive(Clone, Copy)]
+pub enum OrderRow<'a> {
+    Relevance,
+    By(Sort, &'a str, bool),
+}
+
+/// Which field is collapsed on, and how many are kept of each value.
+#[derive(Clone, Copy)]
+pub struct CollapseRow<'a> {
+    pub field: &'a str,
+    pub max: u32,
+}
+
+/// A find with its options.
+#[derive(Clone, Copy)]
+pub struct FindRow<'a> {
+    pub ask: AskRow<'a>,
+    pub scheme: Scheme,
+    pub first: u32,
+    pub size: u32,
+    pub check: u32,
+    pub order: OrderRow<'a>,
+    pub collapse: Option<CollapseRow<'a>>,
+}
+
+/// A line after the schema, by its row.
+#[derive(Clone, Copy)]
+pub enum Row<'a> {
+    Add(RecordRow<'a>),
+    Replace(u32, RecordRow<'a>),
+    ReplaceBy(TextRow<'a>, RecordRow<'a>),
+    Delete(u32),
+    DeleteBy(TextRow<'a>),
+    Find(FindRow<'a>),
+    Show(&'a str, Join),
+}
