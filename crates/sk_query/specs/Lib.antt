@@ -1,0 +1,4 @@
+pub mod Trees
+pub mod Fits
+pub mod Reading
+pub mod Forms
