@@ -1,4 +1,10 @@
 pub mod OrderLaws
+pub mod DocumentLaws
+pub mod TermLaws
+pub mod KeptLaws
+pub mod HeldLaws
+pub mod CeilLaws
+pub mod StaticLaws
+pub mod CountLaws
+pub mod ReportLaws
 mod Examples
-pub mod WordLaws
-pub mod CutLaws

@@ -1,13 +1,53 @@
 -- The steps that a find may take. One step is one reading in the index.
-use Rattle.std.specs.Prelude.{ℕ, ◌+◌}
-use Rattle.sk_model.specs.Edits.{Live}
-use Rattle.sk_model.specs.Queries.{Query, term}
-use Rattle.sk_model.specs.Bounds.{length_of}
+use Rattle.std.specs.Prelude.{ℕ, ◌+◌, sum_by, Option, Some, None}
+use Rattle.sk_base.specs.declared.find.Collapse.{Collapse}
+use Rattle.sk_base.specs.declared.find.Find.{Find}
+use Rattle.sk_base.specs.declared.rank.Order.{Order}
+use Rattle.sk_base.specs.Numbers.{Docs, live_of, length_of, slot_length_of, terms_with}
+use Rattle.sk_query.specs.Trees.{Tree, nothing, all, term, wildcard, and_of, or_of, xor_of, max_of, and_not, and_maybe, filter_of, near, phrase, synonym, scale, range, Trees, no_trees, tree}
+use Rattle.sk_model.specs.Bounds.{lengths_of}
 
--- Each list of the query's leaves is read once.
-abbrev pub leaf_readings : Query → Live → ℕ
-leaf_readings (term t) live = length_of t live
+abbrev mutual
+  -- The lengths of the lists of all leaves: a wildcard has one for each term that begins so, `all` that of all documents, a range its slot's. Those of near and phrase count twice, for their positions.
+  pub leaf_readings : Tree → Docs → ℕ
+  leaf_readings nothing docs = 0
+  leaf_readings all docs = live_of docs
+  leaf_readings (term t) docs = length_of t docs
+  leaf_readings (wildcard prefix) docs = sum_by (λ t. length_of t docs) (terms_with prefix docs)
+  leaf_readings (and_of ts) docs = leaves_readings ts docs
+  leaf_readings (or_of ts) docs = leaves_readings ts docs
+  leaf_readings (xor_of ts) docs = leaves_readings ts docs
+  leaf_readings (max_of ts) docs = leaves_readings ts docs
+  leaf_readings (and_not ts) docs = leaves_readings ts docs
+  leaf_readings (and_maybe ts) docs = leaves_readings ts docs
+  leaf_readings (filter_of ts) docs = leaves_readings ts docs
+  leaf_readings (near window ts) docs = lengths_of ts docs + lengths_of ts docs
+  leaf_readings (phrase window ts) docs = lengths_of ts docs + lengths_of ts docs
+  leaf_readings (synonym ts) docs = lengths_of ts docs
+  leaf_readings (scale f t) docs = leaf_readings t docs
+  leaf_readings (range slot lo hi) docs = slot_length_of slot docs
 
--- Each list once, and one reading for each hit.
-abbrev pub allowance : Query → Live → ℕ → ℕ
-allowance query live hits = leaf_readings query live + hits
+  -- Those of the parts, added.
+  pub leaves_readings : Trees → Docs → ℕ
+  leaves_readings no_trees docs = 0
+  leaves_readings (tree t ts) docs = leaf_readings t docs + leaves_readings ts docs
+
+-- One reading for each match where a find collapses.
+abbrev pub key_readings : Option Collapse → ℕ → ℕ
+key_readings None matching = 0
+key_readings (Some collapse) matching = matching
+
+-- One reading for each match where the order uses a value.
+abbrev pub value_readings : Order → ℕ → ℕ
+value_readings Order.Relevance matching = 0
+value_readings (Order.Value key) matching = matching
+value_readings (Order.ValueThenRelevance key) matching = matching
+value_readings (Order.RelevanceThenValue key) matching = matching
+
+-- Beside the lists: the keys and the values of matches, and the payloads of hits.
+abbrev pub extra : Find → ℕ → ℕ → ℕ
+extra find matching hits = key_readings find.collapse matching + value_readings find.order matching + hits
+
+-- Each list once, and the extra readings.
+abbrev pub allowance : Tree → Find → Docs → ℕ → ℕ → ℕ
+allowance query find docs matching hits = leaf_readings query docs + extra find matching hits

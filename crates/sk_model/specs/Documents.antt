@@ -1,48 +1,158 @@
--- What a document is, and which document a record makes.
-use Rattle.std.specs.Prelude.{ℕ, ◌+◌, Bool, ◌&&◌, ◌==◌, nat_lt, nat_le, List, [], ◌∷◌, ◌++◌, length, filter}
-use Rattle.std.specs.List.{slice_split}
+-- Which document a record makes under a schema.
+use Rattle.std.specs.Prelude.{ℕ, ◌+◌, ◌*◌, ◌==◌, nat_lt, nat_le, bytes_eq, Bool, false, List, [], ◌∷◌, ◌++◌, length, map, filter, fold, Option, Some, None, if◌then◌else◌}
+use Rattle.std.specs.Ordering.{nat_cmp, match_ordering}
+use Rattle.std.specs.Cmp.Lexicographic.{slice_cmp}
+use Rattle.std.specs.Int.{to_be_bytes, w64}
+use Rattle.std.specs.List.{list_any}
+use Rattle.sk_text.specs.declared.word.Word.{Word}
+use Rattle.sk_text.specs.Words.{words}
+use Rattle.sk_base.specs.declared.doc.Doc.{Doc}
+use Rattle.sk_base.specs.declared.doc_entry.DocTerm.{DocTerm}
+use Rattle.sk_base.specs.declared.doc_entry.SlotValue.{SlotValue}
 use Rattle.sk_base.specs.declared.record.Record.{Record}
 use Rattle.sk_base.specs.declared.record.Entry.{Entry}
 use Rattle.sk_base.specs.declared.record.FieldValue.{FieldValue}
+use Rattle.sk_base.specs.declared.schema.Field.{Field}
+use Rattle.sk_base.specs.declared.schema.FieldKind.{FieldKind}
+use Rattle.sk_base.specs.Terms.{prefixed}
 
--- A document is its indexed words, in order.
-pub record Document : Type 0 where
-  pub words : List (List ℕ)
+-- A document: its terms with wdf and positions, its values by slot, and its payload.
+abbrev pub Document : Type 0
+Document = Doc
 
--- A word of more than 64 bytes is not indexed.
-abbrev pub is_indexed : List ℕ → Bool
-is_indexed word = nat_lt 0 (length word) && nat_le (length word) 64
+-- The value that a record gives for the field at this place, if any.
+abbrev pub value_at : ℕ → List Entry → Option FieldValue
+value_at place [] = None
+value_at place (entry ∷ entries) = if entry.field == place then Some entry.value else value_at place entries
 
--- The pieces of a text between spaces. A text has letters and spaces alone as yet, so these are the pieces between bytes that are no letters (law `one_cut`): its maximal runs of letters, and empty pieces, which are no words.
-abbrev pub pieces : List ℕ → List (List ℕ)
-pieces text = slice_split (λ c. c == 32) text
+-- An occurrence of an indexed word: its term with the prefix of its field, the field's step, and how many text fields of the schema stand before its own.
+pub record Occurrence : Type 0 where
+  pub term : List ℕ
+  pub step : ℕ
+  pub before : ℕ
 
--- The indexed words of a text, in order.
-abbrev pub words : List ℕ → List (List ℕ)
-words text = filter is_indexed (pieces text)
+-- A word is indexed where its term has at most 64 bytes.
+abbrev pub is_indexed : Word → Bool
+is_indexed word = nat_le (length word.term) 64
 
--- The indexed words of a field's value.
-abbrev pub words_of_value : FieldValue → List (List ℕ)
-words_of_value (FieldValue.Text text) = words text
+-- A word as an occurrence in a field.
+abbrev pub occurrence : List ℕ → ℕ → ℕ → Word → Occurrence
+occurrence prefix step before word = record { term = prefixed prefix word.term; step = step; before = before }
 
--- The indexed words of all values, by the order of the fields.
-abbrev pub words_of_values : List Entry → List (List ℕ)
-words_of_values [] = []
-words_of_values (entry ∷ entries) = words_of_value entry.value ++ words_of_values entries
+-- The occurrences in a text: its indexed words, in order.
+abbrev pub occurrences_in : List ℕ → ℕ → ℕ → List ℕ → List Occurrence
+occurrences_in prefix step before text = map (occurrence prefix step before) (filter is_indexed (words text))
 
--- The document that a record makes.
-abbrev pub document_of : Record → Document
-document_of record_given = record { words = words_of_values record_given.values }
+-- The occurrences that a value gives in a field: those of a text in a text field, and else none.
+abbrev pub occurrences_of : FieldKind → ℕ → Option FieldValue → List Occurrence
+occurrences_of (FieldKind.Text prefix step) before (Some (FieldValue.Text text)) = occurrences_in prefix step before text
+occurrences_of _ before _ = []
 
--- How many bytes the text of a value has.
-abbrev pub bytes_of_value : FieldValue → ℕ
-bytes_of_value (FieldValue.Text text) = length text
+-- How many text fields this is: one or none.
+abbrev pub text_fields : FieldKind → ℕ
+text_fields (FieldKind.Text prefix step) = 1
+text_fields (FieldKind.Filter prefix) = 0
+text_fields (FieldKind.Number slot) = 0
+text_fields (FieldKind.Word slot) = 0
 
--- How many bytes the texts of a record have in all.
-abbrev pub bytes_of_values : List Entry → ℕ
-bytes_of_values [] = 0
-bytes_of_values (entry ∷ entries) = bytes_of_value entry.value + bytes_of_values entries
+-- The occurrences in these fields, in the order of the schema; the first of them stands at this place, behind so many text fields.
+abbrev pub occurrences_from : ℕ → ℕ → List Field → List Entry → List Occurrence
+occurrences_from place before [] values = []
+occurrences_from place before (field ∷ fields) values =
+    occurrences_of field.kind before (value_at place values) ++ occurrences_from (place + 1) (before + text_fields field.kind) fields values
 
--- How many bytes the texts of a document may have in all.
-abbrev pub most_bytes : ℕ
-most_bytes = 1048576
+-- An occurrence as the p-th indexed word of the record: its position is p, and 100 more for each text field of the schema before its own, whether or not the record has these.
+abbrev pub placed_at : ℕ → Occurrence → DocTerm
+placed_at p o = record { term = o.term; wdf = o.step; positions = (p + 100 * o.before) ∷ [] }
+
+-- The occurrences with their positions, the first being the p-th indexed word.
+abbrev pub placed_from : ℕ → List Occurrence → List DocTerm
+placed_from p [] = []
+placed_from p (o ∷ os) = placed_at p o ∷ placed_from (p + 1) os
+
+-- The indexed words of a record, each with its position.
+abbrev pub placed_words : List Field → List Entry → List DocTerm
+placed_words fields values = placed_from 1 (occurrences_from 0 0 fields values)
+
+-- A filter's text as a term, with wdf 0 and no position. It is not folded.
+abbrev pub filter_term : List ℕ → List ℕ → DocTerm
+filter_term prefix text = record { term = prefixed prefix text; wdf = 0; positions = [] }
+
+-- The text has a byte.
+abbrev pub is_given : List ℕ → Bool
+is_given text = nat_lt 0 (length text)
+
+-- The terms that a value gives in a filter field: one for each text that is not empty.
+abbrev pub filter_terms_of : FieldKind → Option FieldValue → List DocTerm
+filter_terms_of (FieldKind.Filter prefix) (Some (FieldValue.Filter texts)) = map (filter_term prefix) (filter is_given texts)
+filter_terms_of _ _ = []
+
+-- The terms of the filters among these fields, the first of which stands at this place.
+abbrev pub filter_terms_from : ℕ → List Field → List Entry → List DocTerm
+filter_terms_from place [] values = []
+filter_terms_from place (field ∷ fields) values = filter_terms_of field.kind (value_at place values) ++ filter_terms_from (place + 1) fields values
+
+-- All that a record mentions: its indexed words and the texts of its filters.
+abbrev pub mentions : List Field → List Entry → List DocTerm
+mentions fields values = placed_words fields values ++ filter_terms_from 0 fields values
+
+-- A term with one mention more: the wdfs are added, and its places put last.
+abbrev pub joined : DocTerm → DocTerm → DocTerm
+joined one mention = record { term = one.term; wdf = one.wdf + mention.wdf; positions = one.positions ++ mention.positions }
+
+-- The terms with one mention more, in byte order: a new term in its place, or one that is there joined with it.
+abbrev pub noted : List DocTerm → DocTerm → List DocTerm
+noted [] mention = mention ∷ []
+noted (one ∷ more) mention =
+    match_ordering (slice_cmp nat_cmp mention.term one.term) (mention ∷ one ∷ more) (joined one mention ∷ more) (one ∷ noted more mention)
+
+-- The terms of a document: of all that is mentioned, each term once.
+abbrev pub terms_of : List DocTerm → List DocTerm
+terms_of mentioned = fold noted [] mentioned
+
+-- The mentions of a term.
+abbrev pub mentions_of : List ℕ → List DocTerm → List DocTerm
+mentions_of t mentioned = filter (λ m. bytes_eq m.term t) mentioned
+
+-- A slot with its value, where that is not empty.
+abbrev pub given_value : ℕ → List ℕ → List SlotValue
+given_value slot value = if is_given value then record { slot = slot; value = value } ∷ [] else []
+
+-- The value that a field gives to its slot: a number's eight bytes, the most significant first, or the bytes of a word.
+abbrev pub slot_values_of : FieldKind → Option FieldValue → List SlotValue
+slot_values_of (FieldKind.Number slot) (Some (FieldValue.Number n)) = given_value slot (to_be_bytes w64 n)
+slot_values_of (FieldKind.Word slot) (Some (FieldValue.Word text)) = given_value slot text
+slot_values_of _ _ = []
+
+-- The values of these fields, the first of which stands at this place.
+abbrev pub slot_values_from : ℕ → List Field → List Entry → List SlotValue
+slot_values_from place [] values = []
+slot_values_from place (field ∷ fields) values = slot_values_of field.kind (value_at place values) ++ slot_values_from (place + 1) fields values
+
+-- The values with one more in its place, by rising slot. (No two fields of a schema share a slot.)
+abbrev pub with_value : List SlotValue → SlotValue → List SlotValue
+with_value [] v = v ∷ []
+with_value (one ∷ more) v = if nat_lt v.slot one.slot then v ∷ one ∷ more else one ∷ with_value more v
+
+-- The values of a document, by rising slot.
+abbrev pub values_of : List SlotValue → List SlotValue
+values_of given = fold with_value [] given
+
+-- The document that a record makes under the fields of a schema.
+abbrev pub document_of : List Field → Record → Document
+document_of fields given = record {
+  terms = terms_of (mentions fields given.values);
+  values = values_of (slot_values_from 0 fields given.values);
+  payload = given.payload;
+}
+
+-- A field of this kind keeps its values in the slot.
+abbrev pub keeps_slot : ℕ → FieldKind → Bool
+keeps_slot slot (FieldKind.Text prefix step) = false
+keeps_slot slot (FieldKind.Filter prefix) = false
+keeps_slot slot (FieldKind.Number own) = own == slot
+keeps_slot slot (FieldKind.Word own) = own == slot
+
+-- A field of the schema keeps its values in the slot.
+abbrev pub has_slot : ℕ → List Field → Bool
+has_slot slot fields = list_any (λ field. keeps_slot slot field.kind) fields

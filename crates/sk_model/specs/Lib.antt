@@ -1,10 +1,16 @@
 pub mod Documents
 pub mod Edits
 pub mod Queries
+pub mod Weights
+pub mod Positions
+pub mod Ranges
 pub mod Scores
 pub mod Matches
 pub mod Page
 pub mod Bounds
 pub mod Counts
 pub mod Allowance
+pub mod Settled
+pub mod Sharp
 pub mod Reports
+pub mod Laws

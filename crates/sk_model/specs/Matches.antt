@@ -1,18 +1,39 @@
 -- The live documents that a query matches.
-use Rattle.std.specs.Prelude.{ℕ, List, Option}
+use Rattle.std.specs.Prelude.{ℕ, List, [], Option, Some, None}
 use Rattle.std.specs.List.{filter_map}
 use Rattle.std.specs.Option.{option_map}
+use Rattle.sk_base.specs.declared.find.Collapse.{Collapse}
 use Rattle.sk_base.specs.declared.find.Scheme.{Scheme}
+use Rattle.sk_base.specs.declared.rank.Order.{Order}
 use Rattle.sk_base.specs.declared.rank.Rank.{Rank}
+use Rattle.sk_base.specs.Documents.{value_in}
+use Rattle.sk_base.specs.Numbers.{Docs}
+use Rattle.sk_query.specs.Trees.{Tree}
 use Rattle.sk_model.specs.Documents.{Document}
-use Rattle.sk_model.specs.Edits.{Live}
-use Rattle.sk_model.specs.Queries.{Query}
+use Rattle.sk_model.specs.Edits.{document_at}
 use Rattle.sk_model.specs.Scores.{score}
 
+-- The value that an order reads of a document, and the empty one where it has none.
+abbrev pub value_for : Order → Document → List ℕ
+value_for Order.Relevance document = []
+value_for (Order.Value key) document = value_in key.slot document.values
+value_for (Order.ValueThenRelevance key) document = value_in key.slot document.values
+value_for (Order.RelevanceThenValue key) document = value_in key.slot document.values
+
 -- A document's rank, where the query matches it.
-abbrev pub rank_of : Query → Scheme → ℕ × Document → Option Rank
-rank_of query scheme one = option_map (λ w. record { weight = w; id = one.0 }) (score query scheme one.1)
+abbrev pub rank_of : Tree → Scheme → Order → ℕ × Document → Option Rank
+rank_of query scheme order one = option_map (λ w. record { weight = w; value = value_for order one.1; id = one.0 }) (score query scheme 1 one.1)
 
 -- All live documents that the query matches, each scored by itself, by rising id.
-abbrev pub matches : Query → Scheme → Live → List Rank
-matches query scheme live = filter_map (rank_of query scheme) live.documents
+abbrev pub matches : Tree → Scheme → Order → Docs → List Rank
+matches query scheme order docs = filter_map (rank_of query scheme order) docs
+
+-- The key that a document is collapsed on: its value in the slot, and the empty one where it has none, or where nothing is collapsed.
+abbrev pub key_for : Option Collapse → Option Document → List ℕ
+key_for None document = []
+key_for (Some collapse) None = []
+key_for (Some collapse) (Some document) = value_in collapse.slot document.values
+
+-- The key of a match.
+abbrev pub key_of : Option Collapse → Docs → Rank → List ℕ
+key_of collapse docs rank = key_for collapse (document_at rank.id docs)

@@ -1,30 +1,55 @@
 -- When a report is one that a find may have.
-use Rattle.std.specs.Prelude.{◌≡◌, ◌≤◌, ◌+◌, ◌/◌, List, [], length, map}
+use Rattle.std.specs.Prelude.{◌≡◌, ◌≤◌, ◌+◌, ◌/◌, ℕ, List, [], length, Option, Some, None}
+use Rattle.std.specs.List.{AllZip}
 use Rattle.sk_base.specs.declared.find.Find.{Find}
 use Rattle.sk_base.specs.declared.rank.Rank.{Rank}
 use Rattle.sk_base.specs.declared.report.Ranked.{Ranked}
 use Rattle.sk_base.specs.declared.report.Report.{Report}
-use Rattle.sk_model.specs.Edits.{Live}
+use Rattle.sk_base.specs.Numbers.{Docs}
+use Rattle.sk_query.specs.Trees.{Tree}
+use Rattle.sk_model.specs.Documents.{Document}
+use Rattle.sk_model.specs.Edits.{Live, document_at}
 use Rattle.sk_model.specs.Queries.{query_of}
-use Rattle.sk_model.specs.Matches.{matches}
-use Rattle.sk_model.specs.Page.{kept, slice}
+use Rattle.sk_model.specs.Matches.{matches, key_of}
+use Rattle.sk_model.specs.Page.{slice}
 use Rattle.sk_model.specs.Bounds.{ceil, static_count}
-use Rattle.sk_model.specs.Counts.{Counts}
+use Rattle.sk_model.specs.Counts.{Counts, CollapseCount, kept_by}
 use Rattle.sk_model.specs.Allowance.{allowance}
 
--- A match on the page. Nothing is collapsed, and no document has a payload as yet.
-abbrev pub hit_of : Rank → Ranked
-hit_of rank = record { id = rank.id; weight = rank.weight; collapsed = 0; payload = [] }
+-- The payload of a document, if it is there.
+abbrev pub payload_of : Option Document → List ℕ
+payload_of None = []
+payload_of (Some document) = document.payload
 
 -- All that a find's query matches.
-abbrev pub found_by : Find → Live → List Rank
-found_by find live = matches (query_of find.ask) find.scheme live
+abbrev pub found_by : Tree → Find → Docs → List Rank
+found_by query find docs = matches query find.scheme find.order docs
+
+-- The page that a find asks for.
+abbrev pub page_of : Tree → Find → Docs → List Rank
+page_of query find docs = slice find.first find.size (kept_by find docs (found_by query find docs))
+
+-- A hit is a match of the page: its id and weight, its document's payload, and how many were collapsed into it.
+pub record IsHit (query : Tree) (find : Find) (docs : Docs) (rank : Rank) (hit : Ranked) : Type 0 where
+  pub id : hit.id ≡ rank.id
+  pub weight : hit.weight ≡ rank.weight
+  pub payload : hit.payload ≡ payload_of (document_at rank.id docs)
+  pub collapsed : CollapseCount find docs (found_by query find docs) (key_of find.collapse docs rank) hit.collapsed
 
 -- The hits are the asked page of all matching live documents, in order; the counts enclose the true one; the steps are within the allowance.
-pub record Reports (find : Find) (live : Live) (report : Report) : Type 0 where
-  pub hits : report.hits ≡ map hit_of (slice find.first find.size (kept (found_by find live)))
-  pub counts : Counts find (found_by find live) (static_count (query_of find.ask) live) report.lower report.upper
+pub record ReportsFor (query : Tree) (find : Find) (docs : Docs) (report : Report) : Type 0 where
+  pub hits : AllZip (IsHit query find docs) (page_of query find docs) report.hits
+  pub counts : Counts find docs (found_by query find docs) (static_count query docs) report.lower report.upper
   pub estimate : report.estimate ≡ (report.lower + report.upper) / 2
-  pub greatest : report.greatest ≡ ceil (query_of find.ask) find.scheme live
+  pub greatest : report.greatest ≡ ceil query find.scheme 1 docs
   pub least_steps : length report.hits ≤ report.steps
-  pub most_steps : report.steps ≤ allowance (query_of find.ask) live (length report.hits)
+  pub most_steps : report.steps ≤ allowance query find docs (length (found_by query find docs)) (length report.hits)
+
+-- The report is one that the find may have: one of its query.
+abbrev pub ReportsOn : Option Tree → Find → Docs → Report → Type 0
+ReportsOn None find docs report = ⊥
+ReportsOn (Some query) find docs report = ReportsFor query find docs report
+
+-- The same over the live documents.
+abbrev pub Reports : Find → Live → Report → Type 0
+Reports find live report = ReportsOn (query_of find.ask) find live.documents report

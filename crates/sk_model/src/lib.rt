@@ -1,8 +1,16 @@
 //! The definitions that every answer of the engine is proved against, and their laws.
 #![tactic(auto)]
 
-mod cut;
+mod bounds;
+mod counts;
+mod documents;
 mod order;
+mod page;
+mod reports;
 
-pub use cut::one_cut;
+pub use bounds::{matches_within_static, score_within_ceil};
+pub use counts::{counts_are_there, counts_in_order};
+pub use documents::{slots_of_schema, terms_of_mentions};
 pub use order::one_order;
+pub use page::{kept_by_keys, kept_of_front};
+pub use reports::reports_are_there;

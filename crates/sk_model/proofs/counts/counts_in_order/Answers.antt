@@ -1,0 +1,5 @@
+use Rattle.std.proofs.Common.{arith}
+use Rattle.sk_model.proofs.counts.counts_in_order.Goals as goal
+
+pub returns : goal.returns
+returns c find docs ranks static lower upper so = omega (arith, so.at_least, so.at_most)

@@ -1,0 +1,32 @@
+-- The ids at which a page is settled.
+use Rattle.std.specs.Prelude.{ℕ, ◌+◌, ◌-◌, ◌==◌, ◌&&◌, nat_le, List, [], ◌∷◌, if◌then◌else◌}
+use Rattle.sk_base.specs.declared.find.Find.{Find}
+use Rattle.sk_base.specs.declared.rank.Rank.{Rank}
+use Rattle.sk_base.specs.Numbers.{Docs}
+use Rattle.sk_query.specs.Trees.{Tree}
+use Rattle.sk_model.specs.Bounds.{ceil}
+use Rattle.sk_model.specs.Counts.{wanted}
+use Rattle.sk_model.specs.Edits.{last_id}
+use Rattle.sk_model.specs.Matches.{matches}
+
+-- One less, where the match is at least so heavy.
+abbrev pub less_heavy : ℕ → ℕ → Rank → ℕ
+less_heavy weight m rank = if nat_le weight rank.weight then m - 1 else m
+
+-- The id of the match by which n matches are seen, m of them at least so heavy, and the last id where there are not so many.
+abbrev pub settled_from : ℕ → ℕ → ℕ → List Rank → ℕ
+settled_from n m weight [] = last_id
+settled_from n m weight (rank ∷ ranks) =
+    if ((n - 1) == 0) && (less_heavy weight m rank == 0) then rank.id else settled_from (n - 1) (less_heavy weight m rank) weight ranks
+
+-- The least id up to which there are as many matches as a find wants to see, and as many as its page needs of at least this weight: 0 where it wants none, and the last id where there is no such id.
+abbrev pub settled : Find → List Rank → ℕ → ℕ
+settled find ranks weight = if wanted find == 0 then 0 else settled_from (wanted find) (find.first + find.size) weight ranks
+
+-- The stop point: behind it no document can enter the page, since none weighs more.
+abbrev pub stop_point : Tree → Find → Docs → ℕ
+stop_point query find docs = settled find (matches query find.scheme find.order docs) (ceil query find.scheme 1 docs)
+
+-- The point from which on a part of an or cannot bring a document into the page by itself.
+abbrev pub decay_point : Tree → Tree → Find → Docs → ℕ
+decay_point query part find docs = settled find (matches query find.scheme find.order docs) (ceil part find.scheme 1 docs)

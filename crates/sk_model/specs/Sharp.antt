@@ -1,0 +1,109 @@
+-- The sharper bounds on the steps of a find.
+use Rattle.std.specs.Prelude.{ℕ, ◌+◌, ◌*◌, ◌&&◌, min, nat_le, nat_lt, Bool, true, false, List, [], ◌∷◌, length, count_by, is_none, Option, Some, None, if◌then◌else◌}
+use Rattle.std.specs.Option.{option_map}
+use Rattle.sk_base.specs.declared.find.Find.{Find}
+use Rattle.sk_base.specs.declared.rank.Order.{Order}
+use Rattle.sk_base.specs.Documents.{has_term}
+use Rattle.sk_base.specs.Numbers.{Docs, length_of, terms_with}
+use Rattle.sk_query.specs.Trees.{Tree, term, wildcard, and_of, or_of, max_of, and_not, and_maybe, filter_of, synonym, Trees, no_trees, tree}
+use Rattle.sk_model.specs.Allowance.{allowance, extra}
+use Rattle.sk_model.specs.Bounds.{least_length}
+use Rattle.sk_model.specs.Matches.{matches}
+use Rattle.sk_model.specs.Settled.{stop_point, decay_point}
+
+-- The postings of a term up to an id.
+abbrev pub up : List ℕ → ℕ → Docs → ℕ
+up t id docs = count_by (λ one. has_term t one.1.terms && nat_le one.0 id) docs
+
+-- The postings of a term behind an id.
+abbrev pub past : List ℕ → ℕ → Docs → ℕ
+past t id docs = count_by (λ one. has_term t one.1.terms && nat_lt id one.0) docs
+
+-- The terms, where all parts are terms.
+abbrev pub terms_in : Trees → Option (List (List ℕ))
+terms_in no_trees = Some []
+terms_in (tree (term t) ts) = option_map (λ more. t ∷ more) (terms_in ts)
+terms_in (tree _ ts) = None
+
+-- The lists of a flat query: a term, a synonym, a wildcard, or an or or a max of terms alone.
+abbrev pub flat_lists : Tree → Docs → Option (List (List ℕ))
+flat_lists (term t) docs = Some (t ∷ [])
+flat_lists (synonym ts) docs = Some ts
+flat_lists (wildcard prefix) docs = Some (terms_with prefix docs)
+flat_lists (or_of ts) docs = terms_in ts
+flat_lists (max_of ts) docs = terms_in ts
+flat_lists _ docs = None
+
+-- Of each list its postings up to an id and one more.
+abbrev pub ups : List (List ℕ) → ℕ → Docs → ℕ
+ups [] id docs = 0
+ups (t ∷ ts) id docs = (up t id docs + 1) + ups ts id docs
+
+-- The heavier first, and nothing collapsed.
+abbrev pub is_plain : Find → Bool
+is_plain find = is_relevance find.order && is_none find.collapse
+  where
+    is_relevance : Order → Bool
+    is_relevance Order.Relevance = true
+    is_relevance (Order.Value key) = false
+    is_relevance (Order.ValueThenRelevance key) = false
+    is_relevance (Order.RelevanceThenValue key) = false
+
+-- The stop number: each list up to the stop point and one more, and the hits. It applies to flat queries, by relevance and without collapsing.
+abbrev pub stop_number : Tree → Find → Docs → ℕ → Option ℕ
+stop_number query find docs hits =
+    if is_plain find then option_map (λ lists. ups lists (stop_point query find docs) docs + hits) (flat_lists query docs) else None
+
+-- The terms, and the length of the first one's list.
+abbrev pub led_by_first : Option (List (List ℕ)) → Docs → Option (List (List ℕ) × ℕ)
+led_by_first None docs = None
+led_by_first (Some []) docs = None
+led_by_first (Some (t ∷ ts)) docs = Some (t ∷ ts, length_of t docs)
+
+-- The terms, where there are two.
+abbrev pub of_two : Option (List (List ℕ)) → Option (List (List ℕ))
+of_two (Some (a ∷ b ∷ [])) = Some (a ∷ b ∷ [])
+of_two _ = None
+
+-- The terms of a query with a rare side, and the length that leads: the shortest list of an and of terms, the first list of an and_not or a filter of terms or of an and_maybe of two.
+abbrev pub rare_lists : Tree → Docs → Option (List (List ℕ) × ℕ)
+rare_lists (and_of ts) docs = option_map (λ lists. (lists, least_length lists docs)) (terms_in ts)
+rare_lists (and_not ts) docs = led_by_first (terms_in ts) docs
+rare_lists (filter_of ts) docs = led_by_first (terms_in ts) docs
+rare_lists (and_maybe ts) docs = led_by_first (of_two (terms_in ts)) docs
+rare_lists _ docs = None
+
+-- Of each list its length, or 128 readings for each posting of the leading one and 128 more, where that is less.
+abbrev pub rare_readings : List (List ℕ) → ℕ → Docs → ℕ
+rare_readings [] m docs = 0
+rare_readings (t ∷ ts) m docs = min (length_of t docs) (128 * (m + 1)) + rare_readings ts m docs
+
+-- The rare number.
+abbrev pub rare_number : Tree → Find → Docs → ℕ → ℕ → Option ℕ
+rare_number query find docs matching hits = option_map (λ p. rare_readings p.0 p.1 docs + extra find matching hits) (rare_lists query docs)
+
+-- The decay number of an or of two terms, the first of which is read out: the second is read up to the point at which it cannot matter alone, and behind that sought at most twice for each posting of the first.
+abbrev pub decay_readings : List ℕ → List ℕ → ℕ → Docs → ℕ → ℕ
+decay_readings a b point docs hits = length_of a docs + up b point docs + 256 * (1 + past a point docs) + hits
+
+-- The lesser of the two.
+abbrev pub decay_of : Tree → Find → Docs → ℕ → Option (List (List ℕ)) → Option ℕ
+decay_of query find docs hits (Some (a ∷ b ∷ [])) =
+    Some (min (decay_readings a b (decay_point query (term b) find docs) docs hits) (decay_readings b a (decay_point query (term a) find docs) docs hits))
+decay_of query find docs hits _ = None
+
+-- The decay number: of an or of exactly two terms, by relevance and without collapsing.
+abbrev pub decay_number : Tree → Find → Docs → ℕ → Option ℕ
+decay_number (or_of ts) find docs hits = if is_plain find then decay_of (or_of ts) find docs hits (of_two (terms_in ts)) else None
+decay_number _ find docs hits = None
+
+-- The lesser of a number and one that may apply.
+abbrev pub at_most : ℕ → Option ℕ → ℕ
+at_most n None = n
+at_most n (Some m) = min n m
+
+-- The least of the allowance and of the numbers that apply.
+abbrev pub sharp : Tree → Find → Docs → ℕ → ℕ
+sharp query find docs hits =
+    at_most (at_most (at_most (allowance query find docs (length (matches query find.scheme find.order docs)) hits) (stop_number query find docs hits))
+    (rare_number query find docs (length (matches query find.scheme find.order docs)) hits)) (decay_number query find docs hits)
