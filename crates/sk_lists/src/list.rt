@@ -1,6 +1,6 @@
 //! A posting list: entries in order of their ids, with the greatest wdf kept.
 
-ghost use Rattle.std.specs.Prelude.{◌≡◌, ◌≤◌, [], length, max, true, IfOk, IfErr, IsOk, OnOk, OnErr};
+ghost use Rattle.std.specs.Prelude.{◌≡◌, ◌≤◌, [], length, map, max, true, IfOk, IfErr, IsOk, OnOk, OnErr};
 ghost use Rattle.sk_lists.specs.Postings.{ArePostings, put, without, has, greatest_wdf};
 ghost use Rattle.sk_lists.specs.Places.{IsAt, IsGapFor};
 
@@ -92,6 +92,14 @@ impl List {
         self.greatest
     }
 
+    /// The ids of all entries, for one who changes the list. It is no reading: a shared reference to a list does not show them.
+    pub fn ids(&mut self, alloc: Global) -> Result<Vec<u32>, AllocError>
+        ensures ok { IfOk result (λ ids. ids.items ≡ map (λ p. p.id) self.old) }
+        ensures same { self.new ≡ self.old }
+    {
+        self.entries.iter().map(|p| p.id).collect(alloc)
+    }
+
     // Where the id is, or where it would go. An id above all others is placed without a search.
     fn place_of(&self, id: u32) -> Result<usize, usize>
         ensures found { IfOk result (IsAt self.now id) }
@@ -122,16 +130,20 @@ fn greatest_without(entries: &[Posting], greatest: u32, gone: u32) -> u32
     if gone < greatest {
         return greatest;
     }
-    greatest_of(entries)
+    greatest_of(entries, greatest)
 }
 
-// The greatest wdf, by a scan.
-fn greatest_of(entries: &[Posting]) -> u32
+// The greatest wdf, by a scan that stops at the first entry that has the most that one can have.
+fn greatest_of(entries: &[Posting], bound: u32) -> u32
+    requires { greatest_wdf entries.now ≤ bound }
     ensures { result ≡ greatest_wdf entries.now }
 {
     let mut most = 0u32;
     'entries: for entry in entries {
         most = most.max(entry.wdf);
+        if most == bound {
+            return most;
+        }
     }
     most
 }

@@ -133,6 +133,12 @@ fn edits_leave_these_entries(rt: HostRuntime) -> Result<(), Fail> {
         let found = read_all::<Brand>(Blank::new(1), rt.alloc(), &list)?;
         assert_eq!(rt; found.as_slice(), want, "after {id}");
         assert_eq!(rt; list.length() as usize, want.len(), "length after {id}");
+        let ids = want.iter().map(|p| p.id).collect::<Vec<_>>(rt.alloc())?;
+        assert_eq!(rt;
+            list.ids(rt.alloc())?.as_slice(),
+            ids.as_slice(),
+            "ids after {id}"
+        );
         assert_eq!(rt; list.greatest(), greatest, "greatest after {id}");
     }
     Ok(())
