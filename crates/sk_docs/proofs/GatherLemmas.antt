@@ -1,0 +1,302 @@
+-- What is gathered, word by word and field by field.
+use Rattle.std.proofs.Common.{◌≡◌, ◌<◌, ◌≤◌, ◌+◌, ◌*◌, ℕ, suc, Bool, true, false, ◌&&◌, ◌==◌, nat_le, List, [], ◌∷◌, ◌++◌, length, map, filter, fold, cond, refl, sym, ap, subst, ◌∙◌, true≢false, All, arith, drop, drop-cons, get_or}
+use Rattle.std.specs.List.{list_all}
+use Rattle.std.proofs.lemmas.Bool.Decides.{nat_tests}
+use Rattle.std.proofs.lemmas.List.Elements.{All-head, All-tail, All-cons, All-append, All-weaker}
+use Rattle.std.proofs.lemmas.List.Sums.{sum_by-cons, fold-append, AllPass-from_list_all}
+use Rattle.std.specs.Prelude.{Option, Some}
+use Rattle.std.specs.Ordering.{match_ordering, nat_cmp}
+use Rattle.std.specs.Cmp.Lexicographic.{slice_cmp}
+use Rattle.std.specs.declared.cmp.Ordering.{Ordering}
+use Rattle.std.specs.declared.cmp.Ordering.TheVariants.{Less, Equal, Greater}
+use Rattle.sk_text.specs.declared.word.Word.{Word}
+use Rattle.sk_text.specs.Words.{words}
+use Rattle.sk_base.specs.declared.doc_entry.DocTerm.{DocTerm}
+use Rattle.sk_base.specs.declared.record.Entry.{Entry}
+use Rattle.sk_base.specs.declared.record.FieldValue.{FieldValue}
+use Rattle.sk_base.specs.declared.schema.Field.{Field}
+use Rattle.sk_base.specs.declared.schema.FieldKind.{FieldKind}
+use Rattle.sk_base.specs.Fields.{is_kind, is_field}
+use Rattle.sk_base.specs.Names.{is_prefix, is_name}
+use Rattle.sk_base.specs.Records.{bytes_of_value, bytes_of_values, most_bytes}
+use Rattle.sk_model.specs.Documents.{Occurrence, occurrence, is_indexed, placed_at, placed_from, joined, noted, value_at, occurrences_of, occurrences_from, text_fields, filter_term, is_given, filter_terms_of, filter_terms_from}
+use Rattle.sk_docs.specs.Gathered.{Gathered, after, weight_of, LieBelow, HasRoom, occurrences_among, bytes_of_given, bytes_from}
+
+-- ---- one mention more
+
+weight_step : (one m : DocTerm) (more put : List DocTerm) (r : Ordering) → weight_of put ≡ weight_of more + m.wdf
+    → weight_of (match_ordering r (m ∷ one ∷ more) (joined one m ∷ more) (one ∷ put)) ≡ weight_of (one ∷ more) + m.wdf
+weight_step one m more put Less h = omega (arith, sum_by-cons (λ (t : DocTerm). t.wdf) m (one ∷ more))
+weight_step one m more put Equal h = omega (arith, sum_by-cons (λ (t : DocTerm). t.wdf) (joined one m) more, sum_by-cons (λ (t : DocTerm). t.wdf) one more)
+weight_step one m more put Greater h = omega (arith, h, sum_by-cons (λ (t : DocTerm). t.wdf) one put, sum_by-cons (λ (t : DocTerm). t.wdf) one more)
+
+-- its wdf is added to the sum
+pub weight-noted : (terms : List DocTerm) (m : DocTerm) → weight_of (noted terms m) ≡ weight_of terms + m.wdf
+weight-noted [] m = omega (arith, sum_by-cons (λ (t : DocTerm). t.wdf) m [])
+weight-noted (one ∷ more) m = weight_step one m more (noted more m) (slice_cmp nat_cmp m.term one.term) (weight-noted more m)
+
+-- the places of one term lie below
+abbrev Below : ℕ → DocTerm → Type 0
+Below bound t = All (λ p. p < bound) t.positions
+
+below_step : (bound : ℕ) (one m : DocTerm) (more put : List DocTerm) (r : Ordering) → Below bound m → LieBelow bound (one ∷ more) → LieBelow bound put
+    → LieBelow bound (match_ordering r (m ∷ one ∷ more) (joined one m ∷ more) (one ∷ put))
+below_step bound one m more put Less own all h = All-cons (Below bound) m (one ∷ more) own all
+below_step bound one m more put Equal own all h =
+    All-cons (Below bound) (joined one m) more (All-append (λ p. p < bound) one.positions m.positions (All-head (Below bound) one more all) own) (All-tail (Below bound) one more all)
+below_step bound one m more put Greater own all h = All-cons (Below bound) one put (All-head (Below bound) one more all) h
+
+-- its places are the only new ones
+below-noted : (bound : ℕ) (terms : List DocTerm) (m : DocTerm) → Below bound m → LieBelow bound terms → LieBelow bound (noted terms m)
+below-noted bound [] m own all = All-cons (Below bound) m [] own all
+below-noted bound (one ∷ more) m own all =
+    below_step bound one m more (noted more m) (slice_cmp nat_cmp m.term one.term) own all (below-noted bound more m own (All-tail (Below bound) one more all))
+
+below_weaker : (a b : ℕ) (terms : List DocTerm) → a ≤ b → LieBelow a terms → LieBelow b terms
+below_weaker a b terms h all = All-weaker (Below a) (Below b) (λ t own. All-weaker (λ p. p < a) (λ p. p < b) (λ p lt. omega arith) t.positions own) terms all
+
+-- ---- occurrences
+
+after_one : (g : Gathered) (o : Occurrence) (os : List Occurrence) → after g (o ∷ os) ≡ after (after g (o ∷ [])) os
+after_one g o os =
+    let next : g.next + suc (length os) ≡ g.next + 1 + length os = omega arith in
+    λ i. record { terms = fold noted (noted g.terms (placed_at g.next o)) (placed_from (g.next + 1) os); next = next i }
+
+pub after_none : (g : Gathered) → after g [] ≡ g
+after_none g =
+    let next : g.next + 0 ≡ g.next = omega arith in
+    λ i. record { terms = g.terms; next = next i }
+
+pub after-append : (g : Gathered) (os more : List Occurrence) → after g (os ++ more) ≡ after (after g os) more
+after-append g [] more = ap (λ h. after h more) (sym (after_none g))
+after-append g (o ∷ os) more =
+    after_one g o (os ++ more) ∙ after-append (after g (o ∷ [])) os more ∙ ap (λ h. after h more) (sym (after_one g o os))
+
+-- all of them are of a field with a step that is allowed, behind so many text fields
+abbrev pub OfField : ℕ → List Occurrence → Type 0
+OfField before [] = Unit {0}
+OfField before (o ∷ os) = ((o.step ≤ 256) × (o.before ≡ before)) × OfField before os
+
+room_one : (g : Gathered) (before more rest : ℕ) (o : Occurrence) → HasRoom g before more → o.step ≤ 256 → o.before ≡ before → g.next + 1 + rest ≤ most_bytes + 1
+    → HasRoom (after g (o ∷ [])) before rest
+room_one g before more rest o room step same few = record {
+  weights = omega (arith, weight-noted g.terms (placed_at g.next o), room.weights);
+  places = below-noted (g.next + 1 + 100 * before) g.terms (placed_at g.next o)
+      (All-cons (λ p. p < g.next + 1 + 100 * before) (g.next + 100 * o.before) [] (omega (arith, same)) (λ k d lt. absurd (omega arith)))
+      (below_weaker (g.next + 100 * before) (g.next + 1 + 100 * before) g.terms (omega arith) room.places);
+  few = few;
+  fields = room.fields;
+}
+
+room_less : (g : Gathered) (before more rest : ℕ) → HasRoom g before more → g.next + rest ≤ most_bytes + 1 → HasRoom g before rest
+room_less g before more rest room few = record { weights = room.weights; places = room.places; few = few; fields = room.fields }
+
+-- so many words later there is room for the rest
+pub room_after : (g : Gathered) (before more rest : ℕ) (os : List Occurrence) → HasRoom g before more → OfField before os → g.next + length os + rest ≤ most_bytes + 1
+    → HasRoom (after g os) before rest
+room_after g before more rest [] room own few = room_less (after g []) before more rest (subst (λ h. HasRoom h before more) (sym (after_none g)) room) few
+room_after g before more rest (o ∷ os) room own few =
+    subst (λ h. HasRoom h before rest) (sym (after_one g o os))
+    (room_after (after g (o ∷ [])) before (length os + rest) rest os (room_one g before more (length os + rest) o room own.0.0 own.0.1 (omega arith)) own.1 (omega arith))
+
+-- ---- the words of a text
+
+among_step : (prefix : List ℕ) (step before : ℕ) (w : Word) (ws : List Word) (b : Bool)
+    → map (occurrence prefix step before) (cond b (w ∷ filter is_indexed ws) (filter is_indexed ws))
+    ≡ map (occurrence prefix step before) (cond b (w ∷ []) []) ++ occurrences_among prefix step before ws
+among_step prefix step before w ws true = refl
+among_step prefix step before w ws false = refl
+
+among_more : (prefix : List ℕ) (step before : ℕ) (w : Word) (ws : List Word)
+    → occurrences_among prefix step before (w ∷ ws) ≡ occurrences_among prefix step before (w ∷ []) ++ occurrences_among prefix step before ws
+among_more prefix step before w ws = among_step prefix step before w ws (is_indexed w)
+
+of_field_step : (prefix : List ℕ) (step before : ℕ) (w : Word) (ws : List Word) (b : Bool) → step ≤ 256 → OfField before (occurrences_among prefix step before ws)
+    → OfField before (map (occurrence prefix step before) (cond b (w ∷ filter is_indexed ws) (filter is_indexed ws)))
+of_field_step prefix step before w ws true h rest = ((h, refl), rest)
+of_field_step prefix step before w ws false h rest = rest
+
+pub among_of_field : (prefix : List ℕ) (step before : ℕ) (ws : List Word) → step ≤ 256 → OfField before (occurrences_among prefix step before ws)
+among_of_field prefix step before [] h = tt
+among_of_field prefix step before (w ∷ ws) h = of_field_step prefix step before w ws (is_indexed w) h (among_of_field prefix step before ws h)
+
+among_length_step : (prefix : List ℕ) (step before : ℕ) (w : Word) (ws : List Word) (b : Bool) → length (occurrences_among prefix step before ws) ≤ length ws
+    → length (map (occurrence prefix step before) (cond b (w ∷ filter is_indexed ws) (filter is_indexed ws))) ≤ suc (length ws)
+among_length_step prefix step before w ws true h = omega arith
+among_length_step prefix step before w ws false h = omega arith
+
+pub among_length : (prefix : List ℕ) (step before : ℕ) (ws : List Word) → length (occurrences_among prefix step before ws) ≤ length ws
+among_length prefix step before [] = omega arith
+among_length prefix step before (w ∷ ws) = among_length_step prefix step before w ws (is_indexed w) (among_length prefix step before ws)
+
+-- what is gathered of the words of a text, the rest of which is still to come
+pub record InText (prefix : List ℕ) (step before : ℕ) (start now : Gathered) (rest all : List Word) : Type 0 where
+  pub left : after now (occurrences_among prefix step before rest) ≡ after start (occurrences_among prefix step before all)
+  pub room : HasRoom now before (length rest)
+
+pub text_starts : (prefix : List ℕ) (step before more : ℕ) (start : Gathered) (all : List Word) → HasRoom start before more → length all ≤ more
+    → InText prefix step before start start all all
+text_starts prefix step before more start all room few = record { left = refl; room = room_less start before more (length all) room (omega (arith, room.few, few)) }
+
+pub text_goes_on : (prefix : List ℕ) (step before : ℕ) (start now new : Gathered) (w : Word) (rest all : List Word) → step ≤ 256
+    → InText prefix step before start now (w ∷ rest) all → new ≡ after now (occurrences_among prefix step before (w ∷ []))
+    → InText prefix step before start new rest all
+text_goes_on prefix step before start now new w rest all small far put =
+    let one = occurrences_among prefix step before (w ∷ []) in
+    record {
+      left = ap (λ g. after g (occurrences_among prefix step before rest)) put ∙ sym (after-append now one (occurrences_among prefix step before rest))
+          ∙ ap (after now) (sym (among_more prefix step before w rest)) ∙ far.left;
+      room = subst (λ g. HasRoom g before (length rest)) (sym put)
+          (room_after now before (length (w ∷ rest)) (length rest) one far.room (among_of_field prefix step before (w ∷ []) small)
+          (omega (arith, far.room.few, among_length prefix step before (w ∷ []))));
+    }
+
+-- the item at a place stands before those that follow
+pub drop_here : {X : Type 0} (xs : List X) (i : ℕ) (d : X) → i < length xs → drop i xs ≡ get_or xs i d ∷ drop (i + 1) xs
+drop_here xs i d lt =
+    let next : suc i ≡ i + 1 = omega arith in
+    drop-cons xs i d lt ∙ ap (λ k. get_or xs i d ∷ drop k xs) next
+
+pub text_ends : (prefix : List ℕ) (step before : ℕ) (start now : Gathered) (rest all : List Word) → InText prefix step before start now rest all → rest ≡ []
+    → now ≡ after start (occurrences_among prefix step before all)
+text_ends prefix step before start now rest all far done =
+    sym (after_none now) ∙ ap (λ ws. after now (occurrences_among prefix step before ws)) (sym done) ∙ far.left
+
+-- ---- the fields
+
+both : (a b : Bool) → (a && b) ≡ true → (a ≡ true) × (b ≡ true)
+both true b e = (refl, e)
+both false b e = absurd (true≢false (sym e))
+
+pub step_of_kind : (prefix : List ℕ) (step : ℕ) → is_kind (FieldKind.Text prefix step) ≡ true → step ≤ 256
+step_of_kind prefix step h =
+    let last = (both (is_prefix prefix && nat_le 1 step) (nat_le step 256) h).1 in
+    grind (arith, nat_tests)
+
+pub of_field : (kind : FieldKind) (before : ℕ) (value : Option FieldValue) → is_kind kind ≡ true → OfField before (occurrences_of kind before value)
+of_field (FieldKind.Text prefix step) before (Some (FieldValue.Text text)) h = among_of_field prefix step before (words text) (step_of_kind prefix step h)
+of_field _ before _ h = tt
+
+one_text_field : (kind : FieldKind) → text_fields kind ≤ 1
+one_text_field (FieldKind.Text prefix step) = omega arith
+one_text_field (FieldKind.Filter prefix) = omega arith
+one_text_field (FieldKind.Number slot) = omega arith
+one_text_field (FieldKind.Word slot) = omega arith
+
+bytes_later_step : (a b : Bool) (n later here : ℕ) → (b ≡ true → a ≡ true) → later ≤ here → cond b n 0 + later ≤ cond a n 0 + here
+bytes_later_step true true n later here f h = omega arith
+bytes_later_step true false n later here f h = omega arith
+bytes_later_step false true n later here f h = absurd (true≢false (sym (f refl)))
+bytes_later_step false false n later here f h = omega arith
+
+bytes_later : (place : ℕ) (values : List Entry) → bytes_from (place + 1) values ≤ bytes_from place values
+bytes_later place [] = omega arith
+bytes_later place (entry ∷ entries) =
+    bytes_later_step (nat_le place entry.field) (nat_le (place + 1) entry.field) (bytes_of_value entry.value) (bytes_from (place + 1) entries) (bytes_from place entries)
+    (λ h. grind (arith, nat_tests)) (bytes_later place entries)
+
+bytes_step : (own here behind : Bool) (value : FieldValue) (found : Option FieldValue) (now later : ℕ)
+    → (own ≡ true → here ≡ true) → (own ≡ true → behind ≡ false) → (behind ≡ true → here ≡ true) → later ≤ now → bytes_of_given found + later ≤ now
+    → bytes_of_given (cond own (Some value) found) + (cond behind (bytes_of_value value) 0 + later) ≤ cond here (bytes_of_value value) 0 + now
+bytes_step true true true value found now later f g h less more = absurd (true≢false (g refl))
+bytes_step true true false value found now later f g h less more = omega arith
+bytes_step true false behind value found now later f g h less more = absurd (true≢false (sym (f refl)))
+bytes_step false true true value found now later f g h less more = omega arith
+bytes_step false true false value found now later f g h less more = omega arith
+bytes_step false false true value found now later f g h less more = absurd (true≢false (sym (h refl)))
+bytes_step false false false value found now later f g h less more = omega arith
+
+-- the bytes of the value at a place are not among those that follow
+pub bytes_here : (place : ℕ) (values : List Entry) → bytes_of_given (value_at place values) + bytes_from (place + 1) values ≤ bytes_from place values
+bytes_here place [] = omega arith
+bytes_here place (entry ∷ entries) =
+    bytes_step (entry.field == place) (nat_le place entry.field) (nat_le (place + 1) entry.field) entry.value (value_at place entries) (bytes_from place entries) (bytes_from (place + 1) entries)
+    (λ h. grind (arith, nat_tests)) (λ h. grind (arith, nat_tests)) (λ h. grind (arith, nat_tests)) (bytes_later place entries) (bytes_here place entries)
+
+pub bytes_all : (values : List Entry) → bytes_from 0 values ≡ bytes_of_values values
+bytes_all [] = refl
+bytes_all (entry ∷ entries) =
+    let whole : nat_le 0 entry.field ≡ true = grind (arith, nat_tests) in
+    ap (λ b. cond b (bytes_of_value entry.value) 0 + bytes_from 0 entries) whole ∙ ap (λ n. bytes_of_value entry.value + n) (bytes_all entries)
+
+-- what is gathered of the fields, the rest of which is still to come
+pub record InFields (values : List Entry) (start now : Gathered) (place before : ℕ) (rest all : List Field) : Type 0 where
+  pub left : after now (occurrences_from place before rest values) ≡ after start (occurrences_from 0 0 all values)
+  pub room : HasRoom now before (bytes_from place values)
+  pub few : before ≤ place
+
+pub fields_start : (values : List Entry) (start : Gathered) (all : List Field) → HasRoom start 0 (bytes_of_values values) → InFields values start start 0 0 all all
+fields_start values start all room = record { left = refl; room = subst (HasRoom start 0) (sym (bytes_all values)) room; few = omega arith }
+
+pub room_here : (values : List Entry) (start now : Gathered) (place before : ℕ) (rest all : List Field) → InFields values start now place before rest all
+    → HasRoom now before (bytes_of_given (value_at place values))
+room_here values start now place before rest all far =
+    room_less now before (bytes_from place values) (bytes_of_given (value_at place values)) far.room (omega (arith, far.room.few, bytes_here place values))
+
+room_next : (g : Gathered) (before more fields : ℕ) → HasRoom g before more → before + fields ≤ 64 → HasRoom g (before + fields) more
+room_next g before more fields room few = record {
+  weights = room.weights;
+  places = below_weaker (g.next + 100 * before) (g.next + 100 * (before + fields)) g.terms (omega arith) room.places;
+  few = room.few;
+  fields = few;
+}
+
+pub fields_go_on : (values : List Entry) (start now new : Gathered) (place before : ℕ) (field : Field) (rest all : List Field)
+    → is_kind field.kind ≡ true → place < 64
+    → InFields values start now place before (field ∷ rest) all
+    → new ≡ after now (occurrences_of field.kind before (value_at place values)) → new.next ≤ now.next + bytes_of_given (value_at place values)
+    → InFields values start new (place + 1) (before + text_fields field.kind) rest all
+fields_go_on values start now new place before field rest all sound here far put count =
+    let own = occurrences_of field.kind before (value_at place values) in
+    let more = occurrences_from (place + 1) (before + text_fields field.kind) rest values in
+    let next : new.next ≡ now.next + length own = ap (λ g. g.next) put in
+    record {
+      left = ap (λ g. after g more) put ∙ sym (after-append now own more) ∙ far.left;
+      room = room_next new before (bytes_from (place + 1) values) (text_fields field.kind)
+          (subst (λ g. HasRoom g before (bytes_from (place + 1) values)) (sym put)
+          (room_after now before (bytes_from place values) (bytes_from (place + 1) values) own far.room (of_field field.kind before (value_at place values) sound)
+          (omega (arith, next, count, far.room.few, bytes_here place values))))
+          (omega (arith, far.few, one_text_field field.kind));
+      few = omega (arith, far.few, one_text_field field.kind);
+    }
+
+-- a field of a schema keeps the rules of its kind
+pub kind_is_sound : (fields : List Field) (i : ℕ) (d : Field) → list_all is_field fields ≡ true → i < length fields → is_kind (get_or fields i d).kind ≡ true
+kind_is_sound fields i d sound lt =
+    let field = get_or fields i d in
+    (both (is_name field.name) (is_kind field.kind) (AllPass-from_list_all is_field fields sound i d lt)).1
+
+-- ---- filters
+
+filters_step : (prefix text : List ℕ) (texts : List (List ℕ)) (b : Bool)
+    → map (filter_term prefix) (cond b (text ∷ filter is_given texts) (filter is_given texts))
+    ≡ map (filter_term prefix) (cond b (text ∷ []) []) ++ map (filter_term prefix) (filter is_given texts)
+filters_step prefix text texts true = refl
+filters_step prefix text texts false = refl
+
+-- the texts of a filter, the first noted before the others
+pub filters_go_on : (prefix : List ℕ) (terms new : List DocTerm) (text : List ℕ) (texts : List (List ℕ))
+    → new ≡ fold noted terms (map (filter_term prefix) (filter is_given (text ∷ [])))
+    → fold noted new (map (filter_term prefix) (filter is_given texts)) ≡ fold noted terms (map (filter_term prefix) (filter is_given (text ∷ texts)))
+filters_go_on prefix terms new text texts put =
+    ap (λ ts. fold noted ts (map (filter_term prefix) (filter is_given texts))) put
+    ∙ sym (fold-append noted terms (map (filter_term prefix) (filter is_given (text ∷ []))) (map (filter_term prefix) (filter is_given texts)))
+    ∙ ap (fold noted terms) (sym (filters_step prefix text texts (is_given text)))
+
+filter_weight_step : (prefix : List ℕ) (terms : List DocTerm) (texts : List (List ℕ)) → weight_of (fold noted terms (map (filter_term prefix) texts)) ≡ weight_of terms
+filter_weight_step prefix terms [] = refl
+filter_weight_step prefix terms (text ∷ texts) =
+    let one : weight_of (noted terms (filter_term prefix text)) ≡ weight_of terms = omega (arith, weight-noted terms (filter_term prefix text)) in
+    filter_weight_step prefix (noted terms (filter_term prefix text)) texts ∙ one
+
+filter_weight_of : (kind : FieldKind) (value : Option FieldValue) (terms : List DocTerm) → weight_of (fold noted terms (filter_terms_of kind value)) ≡ weight_of terms
+filter_weight_of (FieldKind.Filter prefix) (Some (FieldValue.Filter texts)) terms = filter_weight_step prefix terms (filter is_given texts)
+filter_weight_of _ _ terms = refl
+
+-- what filters give adds nothing to the wdfs
+pub filter_weight : (place : ℕ) (fields : List Field) (values : List Entry) (terms : List DocTerm) → weight_of (fold noted terms (filter_terms_from place fields values)) ≡ weight_of terms
+filter_weight place [] values terms = refl
+filter_weight place (field ∷ fields) values terms =
+    let own = filter_terms_of field.kind (value_at place values) in
+    let more = filter_terms_from (place + 1) fields values in
+    ap weight_of (fold-append noted terms own more) ∙ filter_weight (place + 1) fields values (fold noted terms own) ∙ filter_weight_of field.kind (value_at place values) terms

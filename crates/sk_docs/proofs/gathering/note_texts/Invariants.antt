@@ -1,0 +1,6 @@
+use Rattle.std.proofs.Common.{drop}
+use Rattle.sk_docs.proofs.GatherLemmas.{InFields}
+use Rattle.sk_docs.proofs.gathering.note_texts.Given as goal
+
+abbrev pub invariant-fields : goal.invariant-fields
+invariant-fields l = InFields l.values l.initial.tally l.tally l.place l.before (drop l.place l.fields) l.fields

@@ -1,0 +1,46 @@
+-- How the terms of a document are gathered, word by word.
+use Rattle.std.specs.Prelude.{◌<◌, ◌≤◌, ◌+◌, ◌*◌, ℕ, nat_le, List, [], ◌∷◌, length, map, filter, fold, sum_by, All, Option, Some, None, if◌then◌else◌}
+use Rattle.sk_text.specs.declared.word.Word.{Word}
+use Rattle.sk_base.specs.declared.record.Entry.{Entry}
+use Rattle.sk_base.specs.declared.record.FieldValue.{FieldValue}
+use Rattle.sk_base.specs.declared.doc_entry.DocTerm.{DocTerm}
+use Rattle.sk_base.specs.Records.{bytes_of_value, most_bytes}
+use Rattle.sk_model.specs.Documents.{Occurrence, occurrence, is_indexed, placed_from, noted}
+
+-- What was gathered: the terms, and which indexed word of the record comes next, from 1.
+pub record Gathered : Type 0 where
+  pub terms : List DocTerm
+  pub next : ℕ
+
+-- What is gathered with these occurrences more.
+abbrev pub after : Gathered → List Occurrence → Gathered
+after g os = record { terms = fold noted g.terms (placed_from g.next os); next = g.next + length os }
+
+-- The sum of the wdfs.
+abbrev pub weight_of : List DocTerm → ℕ
+weight_of terms = sum_by (λ t. t.wdf) terms
+
+-- All places are less than this one.
+abbrev pub LieBelow : ℕ → List DocTerm → Type 0
+LieBelow bound terms = All (λ t. All (λ p. p < bound) t.positions) terms
+
+-- So many words more can be gathered from a field behind so many text fields: each has a place behind all others, and no sum is too great.
+pub record HasRoom (g : Gathered) (before more : ℕ) : Type 0 where
+  pub weights : weight_of g.terms + 256 ≤ 256 * g.next
+  pub places : LieBelow (g.next + 100 * before) g.terms
+  pub few : g.next + more ≤ most_bytes + 1
+  pub fields : before ≤ 64
+
+-- The occurrences in these words.
+abbrev pub occurrences_among : List ℕ → ℕ → ℕ → List Word → List Occurrence
+occurrences_among prefix step before words = map (occurrence prefix step before) (filter is_indexed words)
+
+-- How many bytes the texts of a value have, if there is one.
+abbrev pub bytes_of_given : Option FieldValue → ℕ
+bytes_of_given None = 0
+bytes_of_given (Some value) = bytes_of_value value
+
+-- How many bytes the texts of the entries from this place on have.
+abbrev pub bytes_from : ℕ → List Entry → ℕ
+bytes_from place [] = 0
+bytes_from place (entry ∷ entries) = (if nat_le place entry.field then bytes_of_value entry.value else 0) + bytes_from place entries

@@ -1,0 +1,23 @@
+//! Builds the document of a record.
+ghost use Rattle.std.specs.Prelude.{◌≡◌, ◌<◌, ◌^◌, sum_by, IfOk};
+ghost use Rattle.sk_base.specs.Records.{FitsValues};
+ghost use Rattle.sk_model.specs.Documents.{document_of};
+
+use crate::{gathering, slots};
+use sk_base::{Doc, Record, Schema, Text};
+use std::alloc::{AllocError, Global};
+
+/// The document that the record makes under the schema.
+pub fn build(alloc: Global, schema: &Schema, given: &Record) -> Result<Doc, AllocError>
+    requires fits { FitsValues schema.now given.now.values }
+    ensures value { IfOk result (λ doc. doc ≡ document_of schema.now given.now) }
+    ensures small { IfOk result (λ doc. sum_by (λ t. t.wdf) doc.terms < 2 ^ 29) }
+{
+    let fields = schema.fields();
+    let values = given.values.as_slice();
+    Ok(Doc {
+        terms: gathering::terms(alloc, fields, values)?,
+        values: slots::values(alloc, fields, values)?,
+        payload: Text::new(alloc, given.payload.as_str())?,
+    })
+}

@@ -1,0 +1,212 @@
+//! Gathers the terms of a record, field by field.
+ghost use Rattle.std.specs.Prelude.{◌≡◌, ◌<◌, ◌≤◌, ◌+◌, ◌^◌, true, [], ◌∷◌, length, fold, map, filter, IfOk, OnOk};
+ghost use Rattle.std.specs.Option.{option_copied};
+ghost use Rattle.std.specs.List.{list_all};
+ghost use Rattle.sk_base.specs.Fields.{is_field, is_kind};
+ghost use Rattle.sk_base.specs.Records.{bytes_of_values, most_bytes};
+ghost use Rattle.sk_model.specs.Documents.{
+  value_at,
+  occurrences_in,
+  occurrences_of,
+  text_fields,
+  occurrences_from,
+  filter_term,
+  is_given,
+  filter_terms_of,
+  filter_terms_from,
+  mentions,
+  noted,
+  terms_of,
+};
+ghost use Rattle.sk_docs.specs.Gathered.{HasRoom, after, weight_of, occurrences_among, bytes_of_given};
+
+use crate::tally::Tally;
+use sk_base::{DocTerms, Entry, Field, FieldKind, FieldValue, Text, prefixed};
+use sk_text::{Word, words};
+use std::alloc::{AllocError, Global};
+
+/// The terms that the texts and the filters of a record give.
+pub fn terms(alloc: Global, fields: &[Field], values: &[Entry]) -> Result<DocTerms, AllocError>
+    requires sound { list_all is_field fields.now ≡ true }
+    requires few { length fields.now ≤ 64 }
+    requires small { bytes_of_values values.now ≤ most_bytes }
+    ensures value { IfOk result (λ terms. terms ≡ terms_of (mentions fields.now values.now)) }
+    ensures small { IfOk result (λ terms. weight_of terms < 2 ^ 29) }
+{
+    let mut tally = Tally::new(alloc);
+    note_texts(alloc, &mut tally, fields, values)?;
+    note_filters(alloc, &mut tally, fields, values)?;
+    tally.into_terms(alloc)
+}
+
+/// The value that is given for the field at this place.
+pub fn value_at(place: usize, values: &[Entry]) -> Option<&FieldValue>
+    ensures { option_copied result ≡ value_at place values.now }
+{
+    'values: for entry in values {
+        if entry.field == place {
+            return Some(&entry.value);
+        }
+    }
+    None
+}
+
+/// Notes the words of all texts, in the order of the schema.
+fn note_texts(
+    alloc: Global,
+    tally: &mut Tally,
+    fields: &[Field],
+    values: &[Entry],
+) -> Result<(), AllocError>
+    requires sound { list_all is_field fields.now ≡ true }
+    requires few { length fields.now ≤ 64 }
+    requires room { HasRoom tally.old 0 (bytes_of_values values.now) }
+    ensures value { OnOk result (tally.new ≡ after tally.old (occurrences_from 0 0 fields.now values.now)) }
+    ensures small { OnOk result (weight_of tally.new.terms < 2 ^ 29) }
+{
+    let mut before = 0;
+    'fields: for place in 0..fields.len() {
+        let kind = &fields[place].kind;
+        note_value(alloc, tally, kind, before, value_at(place, values))?;
+        let own = text_fields(kind);
+        before += own;
+    }
+    Ok(())
+}
+
+/// How many text fields this is: one or none.
+fn text_fields(kind: &FieldKind) -> u32
+    ensures { result ≡ text_fields kind.now }
+{
+    match kind {
+        FieldKind::Text(_, _) => 1,
+        _ => 0,
+    }
+}
+
+/// Notes the words of a value, where it is a text.
+fn note_value(
+    alloc: Global,
+    tally: &mut Tally,
+    kind: &FieldKind,
+    before: u32,
+    value: Option<&FieldValue>,
+) -> Result<(), AllocError>
+    requires sound { is_kind kind.now ≡ true }
+    requires room { HasRoom tally.old before (bytes_of_given (option_copied value)) }
+    ensures value { OnOk result (tally.new ≡ after tally.old (occurrences_of kind.now before (option_copied value.entry))) }
+    ensures count { OnOk result (tally.new.next ≤ tally.old.next + bytes_of_given (option_copied value.entry)) }
+{
+    match (kind, value) {
+        (FieldKind::Text(prefix, step), Some(FieldValue::Text(text))) => {
+            note_text(alloc, tally, prefix.as_str(), *step, before, text.as_str())
+        }
+        _ => Ok(()),
+    }
+}
+
+/// Notes the words of a text.
+fn note_text(
+    alloc: Global,
+    tally: &mut Tally,
+    prefix: &str,
+    step: u32,
+    before: u32,
+    text: &str,
+) -> Result<(), AllocError>
+    requires step { step ≤ 256 }
+    requires room { HasRoom tally.old before (length text.now) }
+    ensures value { OnOk result (tally.new ≡ after tally.old (occurrences_in prefix.now step before text.now)) }
+    ensures count { OnOk result (tally.new.next ≤ tally.old.next + length text.now) }
+{
+    let found = words(alloc, text)?;
+    'words: for word in found.as_slice() {
+        note_word(alloc, tally, prefix, step, before, word)?;
+    }
+    Ok(())
+}
+
+/// Notes a word, if it is indexed.
+fn note_word(
+    alloc: Global,
+    tally: &mut Tally,
+    prefix: &str,
+    step: u32,
+    before: u32,
+    word: &Word,
+) -> Result<(), AllocError>
+    requires step { step ≤ 256 }
+    requires room { HasRoom tally.old before 1 }
+    ensures { OnOk result (tally.new ≡ after tally.old (occurrences_among prefix.now step before (word.now ∷ []))) }
+{
+    let text = word.term.as_str();
+    if text.len() > 64 {
+        return Ok(());
+    }
+    let term = prefixed(alloc, prefix, text)?;
+    tally.note_word(alloc, term.as_str(), step, before)
+}
+
+/// Notes the texts of all filters, in the order of the schema.
+fn note_filters(
+    alloc: Global,
+    tally: &mut Tally,
+    fields: &[Field],
+    values: &[Entry],
+) -> Result<(), AllocError>
+    ensures value { OnOk result (tally.new.terms ≡ fold noted tally.old.terms (filter_terms_from 0 fields.now values.now)) }
+    ensures weight { OnOk result (weight_of tally.new.terms ≡ weight_of tally.old.terms) }
+{
+    'fields: for place in 0..fields.len() {
+        note_filter(alloc, tally, &fields[place].kind, value_at(place, values))?;
+    }
+    Ok(())
+}
+
+/// Notes the texts of a value, where it is that of a filter.
+fn note_filter(
+    alloc: Global,
+    tally: &mut Tally,
+    kind: &FieldKind,
+    value: Option<&FieldValue>,
+) -> Result<(), AllocError>
+    ensures { OnOk result (tally.new.terms ≡ fold noted tally.old.terms (filter_terms_of kind.now (option_copied value.entry))) }
+{
+    match (kind, value) {
+        (FieldKind::Filter(prefix), Some(FieldValue::Filter(texts))) => {
+            note_filter_texts(alloc, tally, prefix.as_str(), texts.as_slice())
+        }
+        _ => Ok(()),
+    }
+}
+
+/// Notes those of the texts that are not empty.
+fn note_filter_texts(
+    alloc: Global,
+    tally: &mut Tally,
+    prefix: &str,
+    texts: &[Text],
+) -> Result<(), AllocError>
+    ensures { OnOk result (tally.new.terms ≡ fold noted tally.old.terms (map (filter_term prefix.now) (filter is_given texts.now))) }
+{
+    'texts: for text in texts {
+        note_filter_text(alloc, tally, prefix, text.as_str())?;
+    }
+    Ok(())
+}
+
+/// Notes a text of a filter, if it is not empty.
+fn note_filter_text(
+    alloc: Global,
+    tally: &mut Tally,
+    prefix: &str,
+    text: &str,
+) -> Result<(), AllocError>
+    ensures { OnOk result (tally.new.terms ≡ fold noted tally.old.terms (map (filter_term prefix.now) (filter is_given (text.now ∷ [])))) }
+{
+    if text.is_empty() {
+        return Ok(());
+    }
+    let term = prefixed(alloc, prefix, text)?;
+    tally.note_filter(alloc, term.as_str())
+}
