@@ -1,0 +1,8 @@
+-- Lemmas.
+mod ListedLemmas
+mod SlottedLemmas
+mod DocsLemmas
+mod KeptLemmas
+mod NumberLemmas
+mod WildLemmas
+mod EditLemmas

@@ -1,0 +1,7 @@
+-- The list of the term has an entry for each document that has it.
+use Rattle.std.proofs.Common.{ap, ◌∙◌, length}
+use Rattle.sk_index.proofs.NumberLemmas.{length-postings}
+use Rattle.sk_index.proofs.stats.IndexStats.length.Goals as goal
+
+pub returns : goal.returns
+returns c = rw (← c.self.view_is) (c.tally.ensures ∙ ap length (c.self.invariant.lists c.args.term.now) ∙ length-postings c.args.term.now c.self.inside.documents.entries)

@@ -1,0 +1,12 @@
+-- Each term has its number.
+use Rattle.std.proofs.Common.{◌<◌, [], length, sym, ◌∙◌, subst, arith}
+use Rattle.std.proofs.lemmas.List.{get_or_default}
+use Rattle.sk_index.specs.Listed.{Listed}
+use Rattle.sk_index.proofs.ListedLemmas.{list_of-number}
+use Rattle.sk_index.proofs.term_lists.TermLists.list.Goals as goal
+
+pub returns : goal.returns
+returns c =
+    let there : c.args.number < length c.self.inside.dict = subst (λ (l : Listed). c.args.number < length l.terms) (sym c.self.view_is) c.requires.there in
+    rw (← c.self.view_is) (c.index.ensures ∙ get_or_default c.self.inside.lists.items c.args.number c.index.result.now [] (omega (arith, c.self.invariant.sizes, there))
+    ∙ sym (list_of-number (record { terms = c.self.inside.dict; lists = c.self.inside.lists.items }) c.args.number c.self.invariant there))

@@ -1,0 +1,10 @@
+-- The list at the number of the term is changed.
+use Rattle.std.proofs.Common.{ap, ◌∙◌, bytes_eq, if◌then◌else◌}
+use Rattle.sk_lists.specs.Postings.{Postings, put}
+use Rattle.sk_index.proofs.ListedLemmas.{changed_at}
+use Rattle.sk_index.proofs.term_lists.TermLists.put.Goals as goal
+
+pub returns : goal.returns
+returns c =
+    let changed = changed_at (put c.args.id c.args.wdf) c.number_for.new.self c.put_at.new.self c.args.term.now c.in_ok-number.number c.put_at.ensures.sound c.in_ok-number.ensures.there c.in_ok-number.ensures.found c.in_ok-put_at.ensures.terms c.in_ok-put_at.ensures.lists in
+    λ t. changed t ∙ ap (λ (p : Postings). if bytes_eq c.args.term.now t then put c.args.id c.args.wdf p else p) (c.in_ok-number.ensures.same t)

@@ -1,0 +1,11 @@
+-- One term more.
+use Rattle.std.proofs.Common.{◌≡◌, arith, ◌∙◌, subst}
+use Rattle.sk_index.specs.Listed.{TakesOut}
+use Rattle.sk_index.proofs.ListedLemmas.{takes_on}
+use Rattle.sk_index.proofs.term_lists.TermLists.take_out_all.Goals as goal
+
+pub terms-preserved : goal.terms-preserved
+terms-preserved c =
+    let term : c.as_bytes.result.now ≡ c.one-item.result.term = c.as_bytes.ensures.value ∙ c.as_str.ensures in
+    takes_on c.args.id c.terms.one-index c.args.terms.now c.one-item.result c.args.self.now c.terms.self c.take_out.new.self c.requires.rising (omega arith) c.one-item.is c.terms.invariant
+    (subst (λ w. TakesOut c.args.id w c.terms.self c.take_out.new.self) term c.take_out.ensures)

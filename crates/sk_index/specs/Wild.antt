@@ -1,0 +1,29 @@
+-- Sums over the terms that begin with a prefix.
+use Rattle.std.specs.Prelude.{ℕ, ◌+◌, Bool, true, ◌&&◌, List, [], ◌∷◌, length, Option, Some, None, if◌then◌else◌}
+use Rattle.std.specs.Ordering.{is_lt}
+use Rattle.sk_dict.specs.Terms.{term_at, term_cmp, begins_with}
+use Rattle.sk_lists.specs.Postings.{Postings, greatest_wdf}
+use Rattle.sk_index.specs.declared.term_lists.Tally.{Tally}
+
+-- A number of a list.
+abbrev pub tallied : Tally → Postings → ℕ
+tallied Tally.Length list = length list
+tallied Tally.Greatest list = greatest_wdf list
+
+-- The sum of a number over these terms.
+abbrev pub over : (List ℕ → ℕ) → List (List ℕ) → ℕ
+over f [] = 0
+over f (t ∷ ts) = f t + over f ts
+
+-- The term stands behind the one with the number `after`, if one is given.
+abbrev pub is_behind : List (List ℕ) → Option ℕ → List ℕ → Bool
+is_behind terms None t = true
+is_behind terms (Some a) t = is_lt (term_cmp (term_at terms a) t)
+
+-- The number of a term that begins with the prefix and stands behind, and 0 of another.
+abbrev pub counted : (List ℕ → ℕ) → List (List ℕ) → List ℕ → Option ℕ → List ℕ → ℕ
+counted f terms prefix after t = if begins_with t prefix && is_behind terms after t then f t else 0
+
+-- The sum over the terms that begin with the prefix and stand behind.
+abbrev pub left : (List ℕ → ℕ) → List (List ℕ) → List ℕ → Option ℕ → ℕ
+left f terms prefix after = over (counted f terms prefix after) terms

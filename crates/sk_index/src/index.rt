@@ -1,0 +1,167 @@
+//! The index: the live documents, with a list for each term and each slot.
+ghost use Rattle.std.specs.Prelude.{◌≡◌, ◌<◌, ◌+◌, [], length, true, false, IfOk, MatchOption, IsSome};
+ghost use Rattle.std.specs.Option.{option_map};
+ghost use Rattle.sk_base.specs.Records.{FitsEdit};
+ghost use Rattle.sk_base.specs.Numbers.{some_has};
+ghost use Rattle.sk_dict.specs.Terms.{term_at, number_of};
+ghost use Rattle.sk_model.specs.Documents.{keeps_slot, has_slot};
+ghost use Rattle.sk_model.specs.Edits.{nothing_live, edited, reply_to, document_at, IsLive};
+ghost use Rattle.sk_index.specs.Indexed.{Indexed, postings, all_postings, slot_values, value_of};
+
+use crate::slot_lists::SlotLists;
+use crate::term_lists::TermLists;
+use sk_base::{Doc, DocId, Edit, Field, FieldKind, Reply, Schema};
+use sk_lists::List;
+use sk_steps::Steps;
+use sk_values::SlotList;
+use std::alloc::{AllocError, Global};
+use std::collections::BTreeMap;
+use std::marker::Model;
+use std::sync::ledger::Ledger;
+
+/// Documents under one schema. Contracts see it as what it holds.
+#[derive(Debug, Drop)]
+pub struct Index {
+    pub(crate) alloc: Global,
+    pub(crate) schema: Schema,
+    pub(crate) documents: BTreeMap<DocId, Doc>,
+    pub(crate) highest: DocId,
+    /// All documents.
+    pub(crate) all: List,
+    pub(crate) terms: TermLists,
+    pub(crate) slots: SlotLists,
+}
+
+impl Model for Index {
+    ghost use Rattle.sk_index.specs.Indexed.{Indexed};
+    ghost use Rattle.sk_index.specs.Kept.{IsKept};
+
+    ghost Value = { Indexed };
+
+    ghost view = { λ i. record { fields = i.schema; live = record { documents = i.documents.entries; highest = i.highest }; terms = i.terms.terms } };
+
+    ghost invariant = { λ i. IsKept i.documents.entries i.highest i.all i.terms i.slots };
+}
+
+impl Index {
+    /// An index without documents.
+    pub fn new(alloc: Global, schema: Schema) -> Result<Index, AllocError>
+        ensures { IfOk result (λ index. index ≡ record { fields = schema; live = nothing_live; terms = [] }) }
+    {
+        let slots = SlotLists::new(alloc, schema.fields().len())?;
+        Ok(Index {
+            alloc,
+            schema,
+            documents: BTreeMap::new(alloc),
+            highest: 0,
+            all: List::new(alloc),
+            terms: TermLists::new(alloc),
+            slots,
+        })
+    }
+
+    pub fn schema(&self) -> &Schema
+        ensures { result.now ≡ self.now.fields }
+    {
+        &self.schema
+    }
+
+    /// The allocator that it keeps.
+    pub fn allocator(&self) -> Global {
+        self.alloc
+    }
+
+    /// The highest id that was ever used, 0 at first.
+    pub fn highest(&self) -> DocId
+        ensures value { result ≡ self.now.live.highest }
+        ensures sound { IsLive self.now.live }
+    {
+        self.highest
+    }
+
+    /// Changes the documents. Where memory runs out the index is given up.
+    pub fn apply(self, edit: Edit) -> Result<(Index, Reply), AllocError>
+        requires fits { FitsEdit self.fields edit }
+        ensures live { IfOk result (λ p. p.0.live ≡ edited self.fields self.live edit) }
+        ensures reply { IfOk result (λ p. p.1 ≡ reply_to self.live edit) }
+        ensures schema { IfOk result (λ p. p.0.fields ≡ self.fields) }
+    {
+        match edit {
+            Edit::Add(given) => self.add(&given),
+            Edit::Replace(id, given) => self.replace(id, &given),
+            Edit::ReplaceBy(term, given) => self.replace_by(term.as_str().as_bytes(), &given),
+            Edit::Delete(id) => Ok(self.delete(id)),
+            Edit::DeleteBy(term) => self.delete_by(term.as_str().as_bytes()),
+        }
+    }
+
+    /// The number of the term. Where there is none, no live document has the term. It takes no memory.
+    pub fn number_of(&self, term: &[u8]) -> Option<usize>
+        ensures value { result ≡ number_of term.now self.now.terms }
+        ensures found { MatchOption result (some_has term.now self.now.live.documents ≡ false) (λ n. (n < length self.now.terms) × (term_at self.now.terms n ≡ term.now)) }
+    {
+        self.terms.find(term)
+    }
+
+    /// The live documents that have the term with this number, with its wdf in each.
+    pub fn list(&self, number: usize) -> &List
+        requires there { number < length self.now.terms }
+        ensures { result.now ≡ postings (term_at self.now.terms number) self.now.live.documents }
+    {
+        self.terms.list(number)
+    }
+
+    /// All live documents.
+    pub fn all(&self) -> &List
+        ensures { result.now ≡ all_postings self.now.live.documents }
+    {
+        &self.all
+    }
+
+    /// The values of a slot of the schema.
+    pub fn slot(&self, slot: u32) -> Option<&SlotList>
+        ensures value { MatchOption result (has_slot slot self.now.fields ≡ false) (λ list. list.now ≡ slot_values slot self.now.live.documents) }
+        ensures found { has_slot slot self.now.fields ≡ true → IsSome result }
+    {
+        if has_slot(self.schema.fields(), slot) {
+            Some(self.slots.list(slot))
+        } else {
+            None
+        }
+    }
+
+    /// The document's value in the slot, empty where it has none. It is one reading.
+    pub fn value<L: Ledger>(&self, slot: u32, id: DocId, steps: &mut Steps<L>) -> &[u8]
+        ensures value { result.now ≡ value_of slot (document_at id self.now.live.documents) }
+        ensures cost { steps.new ≡ steps.old + 1 }
+    {
+        self.slots.list(slot).get(id, steps)
+    }
+
+    /// The document's payload, none where it is not live. It is one reading.
+    pub fn payload<L: Ledger>(&self, id: DocId, steps: &mut Steps<L>) -> Option<&str>
+        ensures value { option_map (λ s. s.now) result ≡ option_map (λ d. d.payload) (document_at id self.now.live.documents) }
+        ensures cost { steps.new ≡ steps.old + 1 }
+    {
+        steps.tick();
+        let doc = self.documents.get(&id)?;
+        Some(doc.payload.as_str())
+    }
+}
+
+fn has_slot(fields: &[Field], slot: u32) -> bool
+    ensures { result ≡ has_slot slot fields.now }
+{
+    fields.iter().any(|field| keeps_slot(&field.kind, slot))
+}
+
+fn keeps_slot(kind: &FieldKind, slot: u32) -> bool
+    ensures { result ≡ keeps_slot slot kind.now }
+{
+    match kind {
+        FieldKind::Text(_, _) => false,
+        FieldKind::Filter(_) => false,
+        FieldKind::Number(own) => *own == slot,
+        FieldKind::Word(own) => *own == slot,
+    }
+}

@@ -1,0 +1,117 @@
+//! The lists of the slots' values.
+ghost use Rattle.std.specs.Prelude.{◌≡◌, ◌≤◌, ◌<◌, ◌==◌, [], length, position, IfOk, OnOk, IfSome};
+ghost use Rattle.sk_base.specs.Documents.{AreValues};
+ghost use Rattle.sk_index.specs.Slotted.{slot_list, Sets, Clears, SetsAll, ClearsAll};
+
+use sk_base::{Bytes, DocId, SlotValue};
+use sk_values::SlotList;
+use std::alloc::{AllocError, Global};
+use std::marker::Model;
+
+/// A slot, and who has a value in it.
+#[derive(Debug, Drop)]
+pub(crate) struct Slot {
+    pub slot: u32,
+    pub list: SlotList,
+}
+
+/// A list for each slot in which a document has a value, or had one.
+#[derive(Debug, Drop)]
+pub(crate) struct SlotLists {
+    alloc: Global,
+    slots: Vec<Slot>,
+    /// The list of all other slots, without an entry.
+    none: SlotList,
+}
+
+impl Model for SlotLists {
+    ghost use Rattle.std.specs.Prelude.{◌≡◌, List, []};
+    ghost use Rattle.sk_index.specs.declared.slot_lists.Slot.{Slot};
+
+    ghost Value = { List Slot };
+
+    ghost view = { λ l. l.slots.items };
+
+    ghost invariant = { λ l. l.none ≡ [] };
+}
+
+impl SlotLists {
+    /// No value, and room for the lists of so many slots.
+    pub fn new(alloc: Global, room: usize) -> Result<SlotLists, AllocError>
+        ensures { IfOk result (λ lists. lists ≡ []) }
+    {
+        let slots = Vec::with_capacity(alloc, room)?;
+        Ok(SlotLists {
+            alloc,
+            slots,
+            none: SlotList::new(alloc),
+        })
+    }
+
+    /// The list of the slot.
+    pub fn list(&self, slot: u32) -> &SlotList
+        ensures { result.now ≡ slot_list slot self.now }
+    {
+        match self.place_of(slot) {
+            Some(at) => &self.slots[at].list,
+            None => &self.none,
+        }
+    }
+
+    /// Gives the document these values.
+    pub fn set_all(&mut self, id: DocId, values: &[SlotValue]) -> Result<(), AllocError>
+        requires id { 1 ≤ id }
+        requires sound { AreValues values.now }
+        ensures { OnOk result (SetsAll id values.now self.old self.new) }
+    {
+        'values: for one in values {
+            let value = Bytes::new(self.alloc, one.value.as_slice())?;
+            self.set(id, one.slot, value)?;
+        }
+        Ok(())
+    }
+
+    /// Takes the document out of the lists of these values. It takes no memory.
+    pub fn clear_all(&mut self, id: DocId, values: &[SlotValue])
+        requires sound { AreValues values.now }
+        ensures { ClearsAll id values.now self.old self.new }
+    {
+        'values: for one in values {
+            self.clear(id, one.slot);
+        }
+    }
+
+    fn place_of(&self, slot: u32) -> Option<usize>
+        ensures value { result ≡ position (λ one. one.slot == slot) self.now }
+        ensures there { IfSome result (λ at. at < length self.now) }
+    {
+        self.slots.iter().position(|one| one.slot == slot)
+    }
+
+    fn set(&mut self, id: DocId, slot: u32, value: Bytes) -> Result<(), AllocError>
+        requires id { 1 ≤ id }
+        requires some { 1 ≤ length value }
+        ensures { OnOk result (Sets id slot value self.old self.new) }
+    {
+        match self.place_of(slot) {
+            Some(at) => {
+                self.slots[at].list.set(id, value)?;
+                Ok(())
+            }
+            None => {
+                let mut list = SlotList::new(self.alloc);
+                list.set(id, value)?;
+                self.slots.push(Slot { slot, list })?;
+                Ok(())
+            }
+        }
+    }
+
+    fn clear(&mut self, id: DocId, slot: u32)
+        ensures { Clears id slot self.old self.new }
+    {
+        if let Some(at) = self.place_of(slot) {
+            self.slots[at].list.clear(id);
+        }
+    }
+}

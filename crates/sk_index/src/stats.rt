@@ -1,0 +1,38 @@
+//! The numbers of an index that are known without a reading.
+ghost use Rattle.std.specs.Prelude.{◌≡◌};
+ghost use Rattle.sk_base.specs.Numbers.{live_of, length_of, greatest_of, wild_length_of, wild_greatest_of, slot_length_of};
+
+use crate::Index;
+use crate::term_lists::Tally;
+use sk_base::Stats;
+
+// No wdf is greater.
+const MOST_WDF: u32 = 536870911;
+
+impl Stats for Index {
+    ghost documents = { λ i. i.live.documents };
+
+    fn live(&self) -> u32 {
+        self.all.length()
+    }
+
+    fn length(&self, term: &[u8]) -> u32 {
+        self.terms.tally(term, Tally::Length)
+    }
+
+    fn greatest(&self, term: &[u8]) -> u32 {
+        self.terms.tally(term, Tally::Greatest)
+    }
+
+    fn wild_length(&self, prefix: &[u8]) -> u32 {
+        self.terms.sum(prefix, Tally::Length, self.all.length())
+    }
+
+    fn wild_greatest(&self, prefix: &[u8]) -> u32 {
+        self.terms.sum(prefix, Tally::Greatest, MOST_WDF)
+    }
+
+    fn slot_length(&self, slot: u32) -> u32 {
+        self.slots.list(slot).length()
+    }
+}

@@ -1,0 +1,217 @@
+//! The posting lists of all terms.
+ghost use Rattle.std.specs.Prelude.{◌≡◌, ◌≤◌, ◌<◌, ◌+◌, [], length, min, set, slice_index_or, Some, None, true, IfOk, OnOk, IfSome, MatchOption};
+ghost use Rattle.sk_base.specs.Documents.{AreTerms};
+ghost use Rattle.sk_dict.specs.Terms.{term_at, number_of, begins_with, IsNext, HasNoNext};
+ghost use Rattle.sk_lists.specs.Postings.{put, without};
+ghost use Rattle.sk_index.specs.Listed.{list_of, IsListed, SameLists, Puts, TakesOut, PutsAll, TakesOutAll};
+ghost use Rattle.sk_index.specs.Removing.{ids_of};
+ghost use Rattle.sk_index.specs.Wild.{tallied, left};
+
+use sk_base::{DocId, DocTerm, Term};
+use sk_dict::Dict;
+use sk_lists::List;
+use std::alloc::{AllocError, Global};
+use std::marker::Model;
+
+/// Terms, and for each the documents that have it. A term that was given a number keeps it; its list may become empty.
+#[derive(Debug, Drop)]
+pub(crate) struct TermLists {
+    alloc: Global,
+    dict: Dict,
+    lists: Vec<List>,
+}
+
+/// A number of a list that is known without a reading.
+#[derive(Clone, Copy, Debug)]
+pub(crate) enum Tally {
+    Length,
+    Greatest,
+}
+
+impl Model for TermLists {
+    ghost use Rattle.sk_index.specs.Listed.{Listed, IsListed};
+
+    ghost Value = { Listed };
+
+    ghost view = { λ l. record { terms = l.dict; lists = l.lists.items } };
+
+    ghost invariant = { λ l. IsListed (record { terms = l.dict; lists = l.lists.items }) };
+}
+
+impl TermLists {
+    /// No term. It takes no memory.
+    pub fn new(alloc: Global) -> TermLists
+        ensures { result ≡ record { terms = []; lists = [] } }
+    {
+        TermLists {
+            alloc,
+            dict: Dict::new(alloc),
+            lists: Vec::new(alloc),
+        }
+    }
+
+    /// The number of the term.
+    pub fn find(&self, term: &[u8]) -> Option<usize>
+        ensures value { result ≡ number_of term.now self.now.terms }
+        ensures found { MatchOption result (list_of term.now self.now ≡ []) (λ n. (n < length self.now.terms) × (term_at self.now.terms n ≡ term.now)) }
+    {
+        self.dict.find(term)
+    }
+
+    /// The list with this number.
+    pub fn list(&self, number: usize) -> &List
+        requires there { number < length self.now.terms }
+        ensures { result.now ≡ list_of (term_at self.now.terms number) self.now }
+    {
+        &self.lists[number]
+    }
+
+    /// A number of the term's list, 0 where it has none.
+    pub fn tally(&self, term: &[u8], tally: Tally) -> u32
+        ensures { result ≡ tallied tally (list_of term.now self.now) }
+    {
+        match self.dict.find(term) {
+            Some(number) => tally_of(&self.lists[number], tally),
+            None => 0,
+        }
+    }
+
+    /// The sum of a number of the lists of all terms that begin with the prefix, or `most` where that is less.
+    pub fn sum(&self, prefix: &[u8], tally: Tally, most: u32) -> u32
+        ensures value { result ≡ min most (left (λ t. tallied tally (list_of t self.now)) self.now.terms prefix.now None) }
+        ensures sound { IsListed self.now }
+    {
+        let mut total = 0;
+        let mut after = None;
+        'walk: loop {
+            let Some(number) = self.next(prefix, after) else {
+                return total;
+            };
+            total = capped(total, tally_of(self.list(number), tally), most);
+            after = Some(number);
+        }
+    }
+
+    fn next(&self, prefix: &[u8], after: Option<usize>) -> Option<usize>
+        requires there { IfSome after (λ a. a < length self.now.terms) }
+        requires begins { IfSome after (λ a. begins_with (term_at self.now.terms a) prefix.now ≡ true) }
+        ensures next { MatchOption result (HasNoNext self.now.terms prefix.now after) (λ n. IsNext self.now.terms prefix.now after n) }
+        ensures sound { IsListed self.now }
+    {
+        self.dict.next_with_prefix(prefix, after)
+    }
+
+    /// The ids in the list of the term.
+    pub fn ids(&mut self, term: &[u8]) -> Result<Vec<DocId>, AllocError>
+        ensures ok { IfOk result (λ ids. ids.items ≡ ids_of (list_of term.now self.old)) }
+        ensures same { self.new ≡ self.old }
+    {
+        match self.dict.find(term) {
+            Some(number) => self.lists[number].ids(self.alloc),
+            None => Ok(Vec::new(self.alloc)),
+        }
+    }
+
+    /// Puts the document into the list of each term.
+    pub fn put_all(&mut self, id: DocId, terms: &[DocTerm]) -> Result<(), AllocError>
+        requires id { 1 ≤ id }
+        requires rising { AreTerms terms.now }
+        ensures { OnOk result (PutsAll id terms.now self.old self.new) }
+    {
+        'terms: for one in terms {
+            self.put(id, one.term.as_str(), one.wdf)?;
+        }
+        Ok(())
+    }
+
+    /// Takes the document out of the list of each term. It takes no memory.
+    pub fn take_out_all(&mut self, id: DocId, terms: &[DocTerm])
+        requires rising { AreTerms terms.now }
+        ensures { TakesOutAll id terms.now self.old self.new }
+    {
+        'terms: for one in terms {
+            self.take_out(id, one.term.as_str().as_bytes());
+        }
+    }
+
+    fn put(&mut self, id: DocId, term: &str, wdf: u32) -> Result<(), AllocError>
+        requires { 1 ≤ id }
+        ensures { OnOk result (Puts id term.now wdf self.old self.new) }
+    {
+        let number = self.number_for(term)?;
+        self.put_at(number, id, wdf)?;
+        Ok(())
+    }
+
+    fn take_out(&mut self, id: DocId, term: &[u8])
+        ensures { TakesOut id term.now self.old self.new }
+    {
+        if let Some(number) = self.find(term) {
+            self.take_out_at(number, id);
+        }
+    }
+
+    fn put_at(&mut self, number: usize, id: DocId, wdf: u32) -> Result<(), AllocError>
+        requires there { number < length self.old.terms }
+        requires id { 1 ≤ id }
+        ensures sound { IsListed self.old }
+        ensures terms { self.new.terms ≡ self.old.terms }
+        ensures lists { OnOk result (self.new.lists ≡ set self.old.lists number (put id wdf (slice_index_or self.old.lists number []))) }
+    {
+        self.lists[number].insert(id, wdf)?;
+        Ok(())
+    }
+
+    fn take_out_at(&mut self, number: usize, id: DocId)
+        requires there { number < length self.old.terms }
+        ensures sound { IsListed self.old }
+        ensures terms { self.new.terms ≡ self.old.terms }
+        ensures lists { self.new.lists ≡ set self.old.lists number (without id (slice_index_or self.old.lists number [])) }
+    {
+        self.lists[number].remove(id);
+    }
+
+    // The number of the term, which is given the next one and an empty list where it has none.
+    fn number_for(&mut self, term: &str) -> Result<usize, AllocError>
+        ensures found { IfOk result (λ n. number_of term.now self.new.terms ≡ Some n) }
+        ensures there { IfOk result (λ n. n < length self.new.terms) }
+        ensures same { OnOk result (SameLists self.old self.new) }
+    {
+        match self.dict.find(term.as_bytes()) {
+            Some(number) => Ok(number),
+            None => self.add(term),
+        }
+    }
+
+    fn add(&mut self, term: &str) -> Result<usize, AllocError>
+        requires { number_of term.now self.old.terms ≡ None }
+        ensures found { IfOk result (λ n. number_of term.now self.new.terms ≡ Some n) }
+        ensures there { IfOk result (λ n. n < length self.new.terms) }
+        ensures same { OnOk result (SameLists self.old self.new) }
+    {
+        let term = Term::new(self.alloc, term)?;
+        self.lists.push(List::new(self.alloc))?;
+        match self.dict.add(term) {
+            Ok(number) => Ok(number),
+            Err(fault) => {
+                self.lists.pop();
+                Err(fault)
+            }
+        }
+    }
+}
+
+fn tally_of(list: &List, tally: Tally) -> u32
+    ensures { result ≡ tallied tally list.now }
+{
+    match tally {
+        Tally::Length => list.length(),
+        Tally::Greatest => list.greatest(),
+    }
+}
+
+fn capped(total: u32, more: u32, most: u32) -> u32
+    ensures { result ≡ min most (total + more) }
+{
+    total.saturating_add(more).min(most)
+}
