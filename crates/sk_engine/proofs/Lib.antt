@@ -1,10 +1,5 @@
-mod ValueLemmas
-mod FieldLemmas
-mod CommandLemmas
-mod AddingLemmas
-mod HoldsLemmas
-mod WalkLemmas
-mod ReportLemmas
-mod MachineLemmas
 mod RunLemmas
+mod MachineLemmas
+mod ReportLemmas
+mod WalkLemmas
 mod Examples

@@ -1,43 +1,63 @@
--- Which schemas, edits and finds a session takes.
-use Rattle.std.specs.Prelude.{◌≡◌, ◌≤◌, ◌<◌, ◌+◌, true, List, [], ◌∷◌, length}
+-- Which finds are answered so far.
+use Rattle.std.specs.Prelude.{◌≡◌, ◌≤◌, ◌+◌, ◌&&◌, ◌||◌, ◌==◌, not, ℕ, Bool, true, false, is_none, None, List, length, bytes_eq, codes, chars}
+use Rattle.std.specs.List.{list_all}
+use Rattle.sk_text.specs.Characters.{is_word_char}
 use Rattle.sk_base.specs.declared.find.Ask.{Ask}
+use Rattle.sk_base.specs.declared.find.Ask.TheVariants as Ask
 use Rattle.sk_base.specs.declared.find.Find.{Find}
-use Rattle.sk_base.specs.declared.record.Edit.{Edit}
-use Rattle.sk_base.specs.declared.record.Entry.{Entry}
-use Rattle.sk_base.specs.declared.record.FieldValue.{FieldValue}
-use Rattle.sk_base.specs.declared.schema.Field.{Field}
-use Rattle.sk_base.specs.declared.schema.FieldKind.TheVariants as FieldKind
-use Rattle.sk_engine.specs.Commands.{is_field_name, is_plain_text, is_asked_word}
+use Rattle.sk_base.specs.declared.find.Join.{Join}
+use Rattle.sk_base.specs.declared.find.Join.TheVariants as Join
+use Rattle.sk_base.specs.declared.find.Scheme.{Scheme}
+use Rattle.sk_base.specs.declared.find.Scheme.TheVariants as Scheme
+use Rattle.sk_base.specs.declared.rank.Order.{Order}
+use Rattle.sk_base.specs.declared.rank.Order.TheVariants as Order
 
--- A text field without a prefix, in which each word counts one.
-abbrev pub IsPlainField : Field → Type 0
-IsPlainField field = (is_field_name field.name ≡ true) × (field.kind ≡ FieldKind.Text [] 1)
+-- Word characters alone, at least one.
+abbrev pub is_word_text : List ℕ → Bool
+is_word_text text = not (length text == 0) && list_all is_word_char (chars text)
 
--- One such field. (Other schemas are not indexed as yet.)
-abbrev pub IsPlainSchema : List Field → Type 0
-IsPlainSchema [] = ⊥
-IsPlainSchema (field ∷ []) = IsPlainField field
-IsPlainSchema (field ∷ other ∷ more) = ⊥
+-- The words that join others in a query text.
+abbrev pub is_operator : List ℕ → Bool
+is_operator text =
+    bytes_eq text (codes "AND") || bytes_eq text (codes "OR") || bytes_eq text (codes "XOR")
+    || bytes_eq text (codes "NOT") || bytes_eq text (codes "NEAR") || bytes_eq text (codes "ADJ")
 
--- A text of letters and spaces. (Other texts are not cut into words as yet.)
-abbrev pub IsPlainValue : FieldValue → Type 0
-IsPlainValue (FieldValue.Text text) = is_plain_text text ≡ true
+-- One word and nothing else, and none that joins others.
+abbrev pub is_one_word : List ℕ → Bool
+is_one_word text = is_word_text text && not (is_operator text)
 
--- One such text, at a field of the schema.
-abbrev pub ArePlainValues : List Field → List Entry → Type 0
-ArePlainValues schema [] = ⊥
-ArePlainValues schema (entry ∷ []) = (entry.field < length schema) × IsPlainValue entry.value
-ArePlainValues schema (entry ∷ other ∷ more) = ⊥
-
--- The addition of one plain text.
-abbrev pub IsPlainEdit : List Field → Edit → Type 0
-IsPlainEdit schema (Edit.Add added) = ArePlainValues schema added.values
-
--- The text is one word of letters. (Other texts are no queries as yet.)
+-- The query is a text of one word. (Other texts, and trees, are not answered as yet.)
 abbrev pub IsOneWord : Ask → Type 0
-IsOneWord (Ask.Text text join) = is_asked_word text ≡ true
+IsOneWord (Ask.Text text join) = is_one_word text ≡ true
+IsOneWord (Ask.Tree value) = ⊥
 
--- A word is asked for, and the page ends within the first 100,000 hits.
+-- A word is asked for, the page ends within the first 100,000 hits, the best by weight come first, and nothing is collapsed.
 pub record IsAsked (find : Find) : Type 0 where
   pub word : IsOneWord find.ask
   pub page : find.first + find.size ≤ 100000
+  pub order : find.order ≡ Order.Relevance
+  pub alone : find.collapse ≡ None
+
+-- One word, with no word on how it is joined.
+abbrev pub is_word_ask : Ask → Bool
+is_word_ask (Ask.Text text Join.Or) = is_one_word text
+is_word_ask (Ask.Text text Join.And) = false
+is_word_ask (Ask.Tree value) = false
+
+-- Each wdf weighs as it is.
+abbrev pub is_nnn : Scheme → Bool
+is_nnn Scheme.Bool = false
+is_nnn Scheme.Coord = false
+is_nnn Scheme.Nnn = true
+
+-- The heavier first.
+abbrev pub is_relevance : Order → Bool
+is_relevance Order.Relevance = true
+is_relevance (Order.Value key) = false
+is_relevance (Order.ValueThenRelevance key) = false
+is_relevance (Order.RelevanceThenValue key) = false
+
+-- The finds that a run answers: one word, and each option as it is where nothing is said. (Others are refused as lines of a bad shape, until they are answered.)
+abbrev pub is_built : Find → Bool
+is_built find =
+    is_word_ask find.ask && (is_nnn find.scheme && ((find.first == 0) && ((find.size == 10) && ((find.check == 0) && (is_relevance find.order && is_none find.collapse)))))

@@ -6,7 +6,7 @@ use Rattle.sk_base.specs.declared.report.Ranked.{Ranked}
 use Rattle.sk_base.specs.declared.report.Report.{Report}
 use Rattle.sk_engine.specs.declared.refusal.Refusal.{Refusal}
 use Rattle.sk_engine.specs.declared.response.Response.{Response}
-use Rattle.sk_engine.specs.declared.response.Response.TheVariants.{Skipped, Refused, Schema, Id, Found}
+use Rattle.sk_engine.specs.declared.response.Response.TheVariants.{Skipped, Refused, Schema, Id, Deleted, Found}
 use Rattle.sk_engine.specs.Refusals.{number_of, name_of}
 
 -- `refused`, the number and the name.
@@ -44,6 +44,7 @@ text_of Skipped = []
 text_of (Refused why) = refusal_line why
 text_of (Schema fields) = codes "ok schema " ++ (decimal fields ++ codes "\n")
 text_of (Id id) = codes "ok id " ++ (decimal id ++ codes "\n")
+text_of (Deleted count) = codes "ok deleted " ++ (decimal count ++ codes "\n")
 text_of (Found first report) = found_text first report
 
 -- the answers, one after the other
@@ -56,6 +57,7 @@ is_refusal Skipped = false
 is_refusal (Refused why) = true
 is_refusal (Schema fields) = false
 is_refusal (Id id) = false
+is_refusal (Deleted count) = false
 is_refusal (Found first report) = false
 
 -- the number that is printed after `steps=`
@@ -64,9 +66,12 @@ steps_of Skipped = 0
 steps_of (Refused why) = 0
 steps_of (Schema fields) = 0
 steps_of (Id id) = 0
+steps_of (Deleted count) = 0
 steps_of (Found first report) = report.steps
 
 -- what an edit's reply is answered
 abbrev pub response_to : Reply → Response
 response_to (Reply.Id id) = Id id
+response_to (Reply.Done count) = Deleted count
+response_to Reply.NotFound = Refused Refusal.NotFound
 response_to Reply.NoIdLeft = Refused Refusal.NoIdLeft

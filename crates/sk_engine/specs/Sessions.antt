@@ -1,22 +1,22 @@
 -- What a session holds, and what it answers.
-use Rattle.std.specs.Prelude.{ℕ, List}
+use Rattle.std.specs.Prelude.{◌≡◌, ℕ, List}
 use Rattle.sk_base.specs.declared.find.Find.{Find}
 use Rattle.sk_base.specs.declared.schema.Field.{Field}
 use Rattle.sk_model.specs.Edits.{Live}
 use Rattle.sk_model.specs.Reports.{Reports}
-use Rattle.sk_engine.specs.Holds.{Holds, schema_of}
 use Rattle.sk_engine.specs.declared.session.Session.{Session}
 use Rattle.sk_engine.specs.declared.response.Response.{Response}
+use Rattle.sk_engine.specs.declared.response.Response.TheVariants as Response
 use Rattle.sk_engine.specs.declared.session.Answer.{Answer}
 use Rattle.sk_engine.specs.declared.session.Answer.TheVariants.{Found}
 
--- The session holds these live documents.
+-- The session holds these live documents: its index does.
 abbrev pub SessionHolds : Session → Live → Type 0
-SessionHolds session live = Holds session.index live
+SessionHolds session live = session.index.live ≡ live
 
 -- The fields of a session's schema.
 abbrev pub fields_of : Session → List Field
-fields_of session = schema_of session.index
+fields_of session = session.index.fields
 
 -- A find is answered by a report that it may have over the live documents.
 abbrev pub IsAnswer : Find → Live → Answer → Type 0

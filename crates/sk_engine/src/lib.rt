@@ -1,9 +1,8 @@
 //! The session and the run over lines.
 #![tactic(auto)]
 
-mod index;
+mod asked;
 mod machine;
-mod reader;
 mod refusal;
 mod response;
 mod runs;

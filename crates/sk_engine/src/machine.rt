@@ -1,24 +1,28 @@
 //! The state of a run: a session, once a schema was accepted.
-ghost use Rattle.std.specs.Prelude.{◌≡◌, ◌≤◌, ◌+◌, IfOk, length, Some, None};
+ghost use Rattle.std.specs.Prelude.{◌≡◌, ◌≤◌, ◌+◌, IfOk, length, true, Some, None};
 ghost use Rattle.std.specs.Option.{option_copied};
 ghost use Rattle.sk_io.specs.declared.line.TheConstants.{MAX_LINE};
 ghost use Rattle.sk_io.specs.Answers.{IsShort};
-ghost use Rattle.sk_engine.specs.Asked.{IsPlainSchema, IsPlainEdit, IsAsked};
+ghost use Rattle.sk_base.specs.Records.{FitsEdit};
+ghost use Rattle.sk_engine.specs.Asked.{IsAsked, is_built};
 ghost use Rattle.sk_engine.specs.Responses.{steps_of, response_to};
 ghost use Rattle.sk_engine.specs.Meaning.{is_blank};
 ghost use Rattle.sk_engine.specs.Output.{start};
 ghost use Rattle.sk_engine.specs.Sessions.{fields_of, steps_in, response_of};
 ghost use Rattle.sk_engine.specs.Machines.{IsAt, schema_in, Obeyed, Answered};
-ghost use Rattle.sk_engine.specs.Faults.{MayCome};
+ghost use Rattle.sk_record.specs.Outcome.{MayCome};
 ghost use Rattle.sk_engine.specs.Lines.{AnsweredLine};
 ghost use Rattle.sk_base.specs.declared.command.Command.TheVariants as Command;
+ghost use Rattle.sk_engine.specs.declared.refusal.Refusal.TheVariants as Refusal;
+ghost use Rattle.sk_engine.specs.declared.response.Response.TheVariants as Response;
 
-use crate::reader::{LineFault, command};
+use crate::asked::is_built;
 use crate::refusal::Refusal;
 use crate::response::Response;
 use crate::{Answer, Session};
 use sk_base::{Command, Edit, Find, Reply, Schema};
 use sk_io::Line;
+use sk_record::{LineFault, command};
 use sk_steps::Steps;
 use std::alloc::{AllocError, Global};
 use std::sync::ledger::Ledger;
@@ -77,7 +81,10 @@ impl Machine {
                 Ok((machine, response))
             }
             Err(LineFault::NotJson) => Ok((self, Response::Refused(Refusal::NotJson))),
+            Err(LineFault::NoSchema) => Ok((self, Response::Refused(Refusal::NoSchema))),
+            Err(LineFault::SchemaAgain) => Ok((self, Response::Refused(Refusal::SchemaAgain))),
             Err(LineFault::BadShape) => Ok((self, Response::Refused(Refusal::BadShape))),
+            Err(LineFault::BadField) => Ok((self, Response::Refused(Refusal::BadField))),
             Err(LineFault::NoMemory) => Err(AllocError),
         }
     }
@@ -111,9 +118,10 @@ impl Machine {
                 Ok((machine, response))
             }
             (Some(session), Command::Find(find)) => {
-                let (machine, response) = run_find(session, &find, steps)?;
+                let (machine, response) = answer_find(session, &find, steps)?;
                 Ok((machine, response))
             }
+            (Some(session), Command::Show(_, _)) => Ok(not_built(session)),
             _ => unreachable!(),
         }
     }
@@ -121,7 +129,6 @@ impl Machine {
 
 /// The first session, under its schema.
 fn accept_schema(alloc: Global, schema: Schema) -> Result<(Machine, Response), AllocError>
-    requires { IsPlainSchema schema }
     ensures obeyed { IfOk result (λ p. Obeyed None (Command.Schema schema) p.1 p.0) }
     ensures cost { IfOk result (λ p. steps_of p.1 ≡ 0) }
 {
@@ -136,7 +143,7 @@ fn accept_schema(alloc: Global, schema: Schema) -> Result<(Machine, Response), A
 }
 
 fn apply_edit(session: Session, edit: Edit) -> Result<(Machine, Response), AllocError>
-    requires { IsPlainEdit (fields_of session) edit }
+    requires { FitsEdit (fields_of session) edit }
     ensures obeyed { IfOk result (λ p. Obeyed (Some session) (Command.Edit edit) p.1 p.0) }
     ensures cost { IfOk result (λ p. steps_of p.1 ≡ 0) }
 {
@@ -155,8 +162,40 @@ fn response_to(reply: Reply) -> Response
 {
     match reply {
         Reply::Id(id) => Response::Id(id),
+        Reply::Done(count) => Response::Deleted(count),
+        Reply::NotFound => Response::Refused(Refusal::NotFound),
         Reply::NoIdLeft => Response::Refused(Refusal::NoIdLeft),
     }
+}
+
+/// Answers a find of a form that is built, and refuses another.
+fn answer_find<L: Ledger>(
+    session: Session,
+    find: &Find,
+    steps: &mut Steps<L>,
+) -> Result<(Machine, Response), AllocError>
+    ensures obeyed { IfOk result (λ p. Obeyed (Some session) (Command.Find find.now) p.1 p.0) }
+    ensures cost { IfOk result (λ p. steps.new ≡ steps.old + steps_of p.1) }
+{
+    if is_built(find) {
+        let (machine, response) = run_find(session, find, steps)?;
+        Ok((machine, response))
+    } else {
+        Ok(not_built(session))
+    }
+}
+
+/// A form that is not built yet is refused as a line of a bad shape.
+fn not_built(session: Session) -> (Machine, Response)
+    ensures machine { result.0 ≡ record { session = Some session } }
+    ensures response { result.1 ≡ Response.Refused Refusal.BadShape }
+{
+    (
+        Machine {
+            session: Some(session),
+        },
+        Response::Refused(Refusal::BadShape),
+    )
 }
 
 fn run_find<L: Ledger>(
@@ -164,7 +203,7 @@ fn run_find<L: Ledger>(
     find: &Find,
     steps: &mut Steps<L>,
 ) -> Result<(Machine, Response), AllocError>
-    requires { IsAsked find.now }
+    requires { is_built find.now ≡ true }
     ensures obeyed { IfOk result (λ p. Obeyed (Some session) (Command.Find find.now) p.1 p.0) }
     ensures cost { IfOk result (λ p. steps.new ≡ steps.old + steps_of p.1) }
 {

@@ -8,10 +8,18 @@ pub enum Refusal {
     TooLong,
     /// The line is read as no JSON value.
     NotJson,
+    /// No schema was accepted before, and the line brings none.
+    NoSchema,
+    /// A schema was accepted before, and the line brings another.
+    SchemaAgain,
     /// The value has none of the forms of a command.
     BadShape,
+    /// A rule on fields is broken.
+    BadField,
     /// The greatest id was used before.
     NoIdLeft,
+    /// No live document has the id.
+    NotFound,
 }
 
 impl Refusal {
@@ -23,8 +31,12 @@ impl Refusal {
         match self {
             Refusal::TooLong => 1,
             Refusal::NotJson => 2,
+            Refusal::NoSchema => 3,
+            Refusal::SchemaAgain => 4,
             Refusal::BadShape => 5,
+            Refusal::BadField => 6,
             Refusal::NoIdLeft => 7,
+            Refusal::NotFound => 8,
         }
     }
 
@@ -34,8 +46,12 @@ impl Refusal {
         match self {
             Refusal::TooLong => "TooLong",
             Refusal::NotJson => "NotJson",
+            Refusal::NoSchema => "NoSchema",
+            Refusal::SchemaAgain => "SchemaAgain",
             Refusal::BadShape => "BadShape",
+            Refusal::BadField => "BadField",
             Refusal::NoIdLeft => "NoIdLeft",
+            Refusal::NotFound => "NotFound",
         }
     }
 }

@@ -17,6 +17,8 @@ pub enum Response {
     Schema(usize),
     /// A document has this id.
     Id(DocId),
+    /// So many documents were removed.
+    Deleted(u32),
     /// The rank of the first hit, and the report.
     Found(u32, Report),
 }
@@ -33,6 +35,7 @@ impl Response {
             Response::Refused(refusal) => refusal_line(alloc, refusal),
             Response::Schema(fields) => format!(in alloc; "ok schema {fields}\n"),
             Response::Id(id) => format!(in alloc; "ok id {id}\n"),
+            Response::Deleted(count) => format!(in alloc; "ok deleted {count}\n"),
             Response::Found(first, report) => {
                 let text = found_lines(alloc, first, &report)?;
                 Ok(text)

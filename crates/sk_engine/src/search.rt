@@ -1,76 +1,85 @@
 //! One search: the matches of a query, the asked page of them, and their bounds.
-ghost use Rattle.std.specs.Prelude.{◌≡◌, ◌+◌, length, map, IfOk, OnOk};
-ghost use Rattle.std.specs.Ordering.{is_lt};
+ghost use Rattle.std.specs.Prelude.{◌≡◌, ◌≢◌, ◌+◌, length, map, AllPairs, Some, IfOk};
 ghost use Rattle.sk_base.specs.Before.{is_before};
-ghost use Rattle.sk_model.specs.Edits.{Live};
-ghost use Rattle.sk_model.specs.Queries.{term, query_of};
-ghost use Rattle.sk_model.specs.Scores.{weigh};
+ghost use Rattle.sk_base.specs.declared.rank.Order.TheVariants.{Relevance};
+ghost use Rattle.sk_text.specs.Terms.{term_of};
+ghost use Rattle.sk_query.specs.Trees.{term};
+ghost use Rattle.sk_model.specs.Queries.{query_of};
+ghost use Rattle.sk_model.specs.Weights.{weigh};
 ghost use Rattle.sk_model.specs.Page.{best_first, slice};
-ghost use Rattle.sk_model.specs.Reports.{hit_of, Reports};
-ghost use Rattle.sk_engine.specs.Holds.{Holds};
-ghost use Rattle.sk_engine.specs.Found.{rank_in, greatest_weight, IsReportOf};
+ghost use Rattle.sk_model.specs.Reports.{Reports};
+ghost use Rattle.sk_engine.specs.Asked.{IsOneWord, IsAsked};
+ghost use Rattle.sk_engine.specs.Found.{rank_in, greatest_weight, hit_of, IsReportOf};
 
-use crate::index::Index;
-use sk_base::{Ask, Find, Hits, Items, Rank, Ranked, Report, Scheme, Text, Weight};
+use sk_base::{
+    Ask, Bytes, DocId, Find, Hits, Items, Order, Rank, Ranked, Report, Scheme, Text, Weight,
+};
+use sk_index::Index;
 use sk_lists::{Cursor, List};
 use sk_steps::Steps;
+use sk_text::fold;
 use std::alloc::{AllocError, Global};
-use std::cmp::Ordering;
 use std::sync::ledger::Ledger;
 
-/// The report of a find. It reads the list of the query's term, each entry once.
+/// The report of a find. It reads the list of the query's term, each entry once, and the payloads of the hits.
 pub fn search<L: Ledger>(
     alloc: Global,
     index: &Index,
     find: &Find,
     steps: &mut Steps<L>,
 ) -> Result<Report, AllocError>
-    ensures report { IfOk result (λ report. (live : Live) → Holds index.now live → Reports find.now live report) }
+    requires { IsAsked find.now }
+    ensures report { IfOk result (λ report. Reports find.now index.now.live report) }
     ensures cost { IfOk result (λ report. steps.new ≡ steps.old + report.steps) }
 {
-    match index.list(term_of(&find.ask)) {
-        Some(list) => {
-            let report = report_of(alloc, list, find, steps)?;
+    let term = fold(alloc, word_of(&find.ask))?;
+    match index.number_of(term.as_str().as_bytes()) {
+        Some(number) => {
+            let report = report_of(alloc, index, index.list(number), find, steps)?;
             Ok(report)
         }
         None => {
             let empty = List::new(alloc);
-            let report = report_of(alloc, &empty, find, steps)?;
+            let report = report_of(alloc, index, &empty, find, steps)?;
             Ok(report)
         }
     }
 }
 
-/// The term that is asked for.
-fn term_of(ask: &Ask) -> &str
-    ensures { query_of ask.entry.now ≡ term result.now }
+/// The word that is asked for.
+fn word_of(ask: &Ask) -> &str
+    requires { IsOneWord ask.now }
+    ensures { query_of ask.entry.now ≡ Some (term (term_of result.now)) }
 {
     match ask {
         Ask::Text(word, _) => word.as_str(),
+        Ask::Tree(_) => unreachable!(),
     }
 }
 
 fn report_of<L: Ledger>(
     alloc: Global,
+    index: &Index,
     list: &List,
     find: &Find,
     steps: &mut Steps<L>,
 ) -> Result<Report, AllocError>
-    ensures report { IfOk result (IsReportOf find.now list.now) }
+    ensures report { IfOk result (IsReportOf find.now index.now.live.documents list.now) }
     ensures cost { IfOk result (λ report. steps.new ≡ steps.old + report.steps) }
 {
     let greatest = greatest_weight(list, find.scheme);
     let count = list.length();
     let mut matches = all_matches(alloc, list, find.scheme, steps)?;
     sort_best_first(&mut matches.ranks);
-    let hits = page(alloc, &matches.ranks, find.first, find.size)?;
+    let hits = page(alloc, index, &matches.ranks, find.first, find.size, steps)?;
+    let spent = matches.steps + hits.as_slice().len() as u128;
     Ok(Report {
         hits,
         lower: count,
         estimate: count,
         upper: count,
         greatest,
-        steps: matches.steps,
+        steps: spent,
     })
 }
 
@@ -95,6 +104,17 @@ fn greatest_weight(list: &List, scheme: Scheme) -> Weight
     }
 }
 
+/// The rank of a document by its posting.
+fn rank_in(alloc: Global, scheme: Scheme, id: DocId, wdf: u32) -> Rank
+    ensures { result ≡ rank_in scheme (record { id = id; wdf = wdf }) }
+{
+    Rank {
+        weight: weigh(scheme, wdf),
+        value: Bytes::empty(alloc),
+        id,
+    }
+}
+
 /// The matches of a list, by rising id, and how many entries were read for them.
 #[derive(Debug, Drop)]
 struct Matches {
@@ -116,8 +136,8 @@ fn all_matches<L: Ledger>(
     let mut cursor = Cursor::open(list, steps);
     let mut spent = u128::from(list.length().min(1));
     'walk: while let Some(id) = cursor.head() {
-        let weight = weigh(scheme, cursor.wdf());
-        ranks.push(Rank { weight, id })?;
+        let rank = rank_in(alloc, scheme, id, cursor.wdf());
+        ranks.push(rank)?;
         if id == u32::MAX {
             return Ok(Matches {
                 ranks,
@@ -132,40 +152,48 @@ fn all_matches<L: Ledger>(
     })
 }
 
-fn compare(a: &Rank, b: &Rank) -> Ordering
-    ensures { is_lt result ≡ is_before a.now b.now }
-{
-    if a.better(b) {
-        Ordering::Less
-    } else if b.better(a) {
-        Ordering::Greater
-    } else {
-        Ordering::Equal
-    }
-}
-
 /// The best first. It takes no memory.
 fn sort_best_first(ranks: &mut [Rank])
-    ensures { ranks.new ≡ best_first ranks.old }
+    requires { AllPairs (λ x y. x.id ≢ y.id) ranks.old }
+    ensures { ranks.new ≡ best_first Relevance ranks.old }
 {
-    ranks.sort_unstable_by(|a, b| compare(a, b));
+    ranks.sort_unstable_by(|a, b| a.compare(b, &Order::Relevance));
 }
 
-fn hit_of(alloc: Global, rank: &Rank) -> Ranked
-    ensures { result ≡ hit_of rank.now }
+/// A hit, with its document's payload, which is one reading.
+fn hit_of<L: Ledger>(
+    alloc: Global,
+    index: &Index,
+    rank: &Rank,
+    steps: &mut Steps<L>,
+) -> Result<Ranked, AllocError>
+    ensures hit { IfOk result (λ hit. hit ≡ hit_of index.now.live.documents rank.now) }
+    ensures cost { steps.new ≡ steps.old + 1 }
 {
-    Ranked {
+    let payload = match index.payload(rank.id, steps) {
+        Some(text) => Text::new(alloc, text)?,
+        None => Text::empty(alloc),
+    };
+    Ok(Ranked {
         id: rank.id,
         weight: rank.weight,
         collapsed: 0,
-        payload: Text::empty(alloc),
-    }
+        payload,
+    })
 }
 
-fn page(alloc: Global, ranks: &[Rank], first: u32, size: u32) -> Result<Hits, AllocError>
-    ensures { IfOk result (λ hits. hits ≡ map hit_of (slice first size ranks.now)) }
+fn page<L: Ledger>(
+    alloc: Global,
+    index: &Index,
+    ranks: &[Rank],
+    first: u32,
+    size: u32,
+    steps: &mut Steps<L>,
+) -> Result<Hits, AllocError>
+    ensures hits { IfOk result (λ hits. hits ≡ map (hit_of index.now.live.documents) (slice first size ranks.now)) }
+    ensures cost { IfOk result (λ hits. steps.new ≡ steps.old + length hits) }
 {
-    let hits = hits_of(alloc, page_of(ranks, first, size))?;
+    let hits = hits_of(alloc, index, page_of(ranks, first, size), steps)?;
     Ok(Items::from_vec(hits))
 }
 
@@ -177,8 +205,19 @@ fn page_of(ranks: &[Rank], first: u32, size: u32) -> &[Rank]
     &rest[..rest.len().min(size as usize)]
 }
 
-fn hits_of(alloc: Global, ranks: &[Rank]) -> Result<Vec<Ranked>, AllocError>
-    ensures { IfOk result (λ hits. hits.items ≡ map hit_of ranks.now) }
+fn hits_of<L: Ledger>(
+    alloc: Global,
+    index: &Index,
+    ranks: &[Rank],
+    steps: &mut Steps<L>,
+) -> Result<Vec<Ranked>, AllocError>
+    ensures hits { IfOk result (λ hits. hits.items ≡ map (hit_of index.now.live.documents) ranks.now) }
+    ensures cost { IfOk result (λ hits. steps.new ≡ steps.old + length hits.items) }
 {
-    ranks.iter().map(|rank| hit_of(alloc, rank)).collect(alloc)
+    let mut hits = Vec::new(alloc);
+    'ranks: for rank in ranks {
+        let hit = hit_of(alloc, index, rank, steps)?;
+        hits.push(hit)?;
+    }
+    Ok(hits)
 }

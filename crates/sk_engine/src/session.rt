@@ -1,12 +1,13 @@
 //! A session: the documents under one schema.
 ghost use Rattle.std.specs.Prelude.{◌≡◌, ◌+◌, IfOk};
+ghost use Rattle.sk_base.specs.Records.{FitsEdit};
 ghost use Rattle.sk_model.specs.Edits.{Live, nothing_live, edited, reply_to};
-ghost use Rattle.sk_engine.specs.Asked.{IsPlainSchema, IsPlainEdit, IsAsked};
+ghost use Rattle.sk_engine.specs.Asked.{IsAsked};
 ghost use Rattle.sk_engine.specs.Sessions.{SessionHolds, fields_of, IsAnswer, steps_in};
 
-use crate::index::Index;
 use crate::search::search;
 use sk_base::{Edit, Find, Reply, Report, Schema};
+use sk_index::Index;
 use sk_steps::Steps;
 use std::alloc::{AllocError, Global};
 use std::sync::ledger::Ledger;
@@ -14,7 +15,7 @@ use std::sync::ledger::Ledger;
 /// The documents under one schema, and what is found in them.
 #[derive(Debug, Drop)]
 pub struct Session {
-    index: Index,
+    pub index: Index,
 }
 
 /// What a find is answered.
@@ -26,13 +27,11 @@ pub enum Answer {
 impl Session {
     /// A session without documents.
     pub fn new(alloc: Global, schema: Schema) -> Result<Session, AllocError>
-        requires { IsPlainSchema schema }
         ensures schema { IfOk result (λ session. fields_of session ≡ schema) }
         ensures holds { IfOk result (λ session. SessionHolds session nothing_live) }
     {
-        Ok(Session {
-            index: Index::new(alloc, schema),
-        })
+        let index = Index::new(alloc, schema)?;
+        Ok(Session { index })
     }
 
     pub fn schema(&self) -> &Schema
@@ -43,8 +42,8 @@ impl Session {
 
     /// Changes the documents. Where memory runs out the session is given up.
     pub fn apply(self, edit: Edit) -> Result<(Session, Reply), AllocError>
-        requires { IsPlainEdit (fields_of self) edit }
-        ensures live { IfOk result (λ p. (live : Live) → SessionHolds self live → SessionHolds p.0 (edited live edit)) }
+        requires { FitsEdit (fields_of self) edit }
+        ensures live { IfOk result (λ p. (live : Live) → SessionHolds self live → SessionHolds p.0 (edited (fields_of self) live edit)) }
         ensures reply { IfOk result (λ p. (live : Live) → SessionHolds self live → p.1 ≡ reply_to live edit) }
         ensures schema { IfOk result (λ p. fields_of p.0 ≡ fields_of self) }
     {

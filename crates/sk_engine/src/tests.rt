@@ -1,12 +1,13 @@
-ghost use Rattle.std.specs.Prelude.{◌≡◌, ◌≤◌, ◌<◌, ◌+◌, List, true, length, IfOk, IfSome};
-ghost use Rattle.sk_engine.specs.Commands.{is_plain_text};
-ghost use Rattle.sk_engine.specs.Asked.{IsPlainSchema, IsPlainEdit};
-ghost use Rattle.sk_base.specs.declared.schema.Field.{Field};
+ghost use Rattle.std.specs.Prelude.{◌≡◌, ◌≤◌, ◌+◌, [], ◌∷◌, true, length, codes, IfOk, IfSome};
+ghost use Rattle.sk_base.specs.declared.schema.FieldKind.TheVariants as FieldKind;
+ghost use Rattle.sk_base.specs.Records.{FitsEdit};
+ghost use Rattle.sk_engine.specs.Asked.{is_one_word};
 
 use super::*;
+use crate::asked::is_one_word;
 use sk_base::{
-    Ask, Edit, Entry, Field, FieldKind, FieldValue, Find, Items, Join, Record, Reply, Schema,
-    Scheme, Text,
+    Ask, Edit, Entry, Field, FieldKind, FieldValue, Find, Items, Join, Order, Record, Reply,
+    Schema, Scheme, Text,
 };
 use sk_io::{MemorySink, MemorySource, Sink, Source};
 use sk_steps::Steps;
@@ -69,7 +70,7 @@ const INPUT: &str = concat!(
 
 const OUTPUT: &str = concat!(
     "ok schema 1\nok id 1\nok id 2\n",
-    "found hits=2 lower=2 estimate=2 upper=2 max=2 steps=2\n",
+    "found hits=2 lower=2 estimate=2 upper=2 max=2 steps=4\n",
     "hit rank=0 id=1 weight=2 collapsed=0 data=\"\"\n",
     "hit rank=1 id=2 weight=1 collapsed=0 data=\"\"\n"
 );
@@ -80,250 +81,6 @@ fn with_ample_memory_the_output_is_whole(rt: HostRuntime) -> Result<(), Fail> {
         let (status, bytes) = outcome(rt.alloc(), "run", INPUT.as_bytes(), piece, 4096, &[], &[])?;
         assert_eq!(rt; status, Status::Done, "pieces of {piece}");
         assert_eq!(rt; bytes.as_slice(), OUTPUT.as_bytes(), "pieces of {piece}");
-    }
-    Ok(())
-}
-
-/// Lines, their answers, and the code of the status.
-const LINES: [(&str, &str, u8); 35] = [
-    ("", "", 0),
-    ("\n \t\r\n   \n", "", 0),
-    (
-        "{\"schema\":[{\"name\":\"body\",\"kind\":\"text\"}]}",
-        "ok schema 1\n",
-        0,
-    ),
-    (
-        "{\"schema\":[{\"kind\":\"text\",\"name\":\"body\"}]}\r\n",
-        "ok schema 1\n",
-        0,
-    ),
-    (
-        "{\"schema\":[{\"name\":\"body\",\"kind\":\"text\"}\n",
-        "refused 2 NotJson\n",
-        1,
-    ),
-    ("red\n", "refused 2 NotJson\n", 1),
-    (
-        "{\"schema\":[{\"name\":\"body\",\"kind\":\"text\",\"step\":1}]}\n",
-        "refused 5 BadShape\n",
-        1,
-    ),
-    (
-        "{\"schema\":[{\"name\":\"body\",\"kind\":\"filter\"}]}\n",
-        "refused 5 BadShape\n",
-        1,
-    ),
-    (
-        "{\"schema\":[{\"name\":\"b1\",\"kind\":\"text\"}]}\n",
-        "refused 5 BadShape\n",
-        1,
-    ),
-    (
-        "{\"schema\":[{\"name\":\"\",\"kind\":\"text\"}]}\n",
-        "refused 5 BadShape\n",
-        1,
-    ),
-    (
-        "{\"schema\":[{\"name\":7,\"kind\":\"text\"}]}\n",
-        "refused 5 BadShape\n",
-        1,
-    ),
-    (
-        "{\"schema\":[{\"kind\":\"text\"}]}\n",
-        "refused 5 BadShape\n",
-        1,
-    ),
-    ("{\"schema\":[]}\n", "refused 5 BadShape\n", 1),
-    (
-        "{\"schema\":[{\"name\":\"a\",\"kind\":\"text\"},{\"name\":\"b\",\"kind\":\"text\"}]}\n",
-        "refused 5 BadShape\n",
-        1,
-    ),
-    (
-        "{\"schema\":[{\"name\":\"body\",\"kind\":\"text\"}],\"find\":\"red\"}\n",
-        "refused 5 BadShape\n",
-        1,
-    ),
-    ("{\"find\":\"red\"}\n", "refused 5 BadShape\n", 1),
-    ("{\"add\":{\"body\":\"red\"}}\n", "refused 5 BadShape\n", 1),
-    ("[]\n", "refused 5 BadShape\n", 1),
-    ("{}\n", "refused 5 BadShape\n", 1),
-    (
-        "{\"schema\":[{\"name\":\"body\",\"kind\":\"text\"}]}\n{\"schema\":[{\"name\":\"body\",\"kind\":\"text\"}]}\n",
-        "ok schema 1\nrefused 5 BadShape\n",
-        1,
-    ),
-    (
-        "{\"schema\":[{\"name\":\"body\",\"kind\":\"text\"}]}\n{\"add\":{\"title\":\"red\"}}\n",
-        "ok schema 1\nrefused 5 BadShape\n",
-        1,
-    ),
-    (
-        "{\"schema\":[{\"name\":\"body\",\"kind\":\"text\"}]}\n{\"add\":{\"body\":\"Red\"}}\n",
-        "ok schema 1\nrefused 5 BadShape\n",
-        1,
-    ),
-    (
-        "{\"schema\":[{\"name\":\"body\",\"kind\":\"text\"}]}\n{\"add\":{\"body\":\"red-fox\"}}\n",
-        "ok schema 1\nrefused 5 BadShape\n",
-        1,
-    ),
-    (
-        "{\"schema\":[{\"name\":\"body\",\"kind\":\"text\"}]}\n{\"add\":{\"body\":7}}\n",
-        "ok schema 1\nrefused 5 BadShape\n",
-        1,
-    ),
-    (
-        "{\"schema\":[{\"name\":\"body\",\"kind\":\"text\"}]}\n{\"add\":{}}\n",
-        "ok schema 1\nrefused 5 BadShape\n",
-        1,
-    ),
-    (
-        "{\"schema\":[{\"name\":\"body\",\"kind\":\"text\"}]}\n{\"add\":{\"body\":\"red\"},\"data\":\"x\"}\n",
-        "ok schema 1\nrefused 5 BadShape\n",
-        1,
-    ),
-    (
-        "{\"schema\":[{\"name\":\"body\",\"kind\":\"text\"}]}\n{\"find\":\"red fox\"}\n",
-        "ok schema 1\nrefused 5 BadShape\n",
-        1,
-    ),
-    (
-        "{\"schema\":[{\"name\":\"body\",\"kind\":\"text\"}]}\n{\"find\":\"\"}\n",
-        "ok schema 1\nrefused 5 BadShape\n",
-        1,
-    ),
-    (
-        "{\"schema\":[{\"name\":\"body\",\"kind\":\"text\"}]}\n{\"find\":\"Red\"}\n",
-        "ok schema 1\nrefused 5 BadShape\n",
-        1,
-    ),
-    (
-        "{\"schema\":[{\"name\":\"body\",\"kind\":\"text\"}]}\n{\"find\":\"red\",\"size\":1}\n",
-        "ok schema 1\nrefused 5 BadShape\n",
-        1,
-    ),
-    (
-        "{\"schema\":[{\"name\":\"body\",\"kind\":\"text\"}]}\n{\"find\":\"red\"}",
-        "ok schema 1\nfound hits=0 lower=0 estimate=0 upper=0 max=0 steps=0\n",
-        0,
-    ),
-    (
-        "{\"schema\":[{\"name\":\"body\",\"kind\":\"text\"}]}\n{\"add\":{\"body\":\"\"}}\n{\"find\":\"red\"}\n",
-        "ok schema 1\nok id 1\nfound hits=0 lower=0 estimate=0 upper=0 max=0 steps=0\n",
-        0,
-    ),
-    (
-        "{\"schema\":[{\"name\":\"body\",\"kind\":\"text\"}]}\nbad\n{\"add\":{\"body\":\"red\"}}\n{\"find\":\"red\"}\n",
-        "ok schema 1\nrefused 2 NotJson\nok id 1\nfound hits=1 lower=1 estimate=1 upper=1 max=1 steps=1\nhit rank=0 id=1 weight=1 collapsed=0 data=\"\"\n",
-        1,
-    ),
-    (
-        "{\"schema\":[{\"name\":\"body\",\"kind\":\"text\"}]}\n{\"add\":{\"body\":\"  a  b a \"}}\n{\"add\":{\"body\":\"ab\"}}\n{\"find\":\"a\"}\n{\"find\":\"ab\"}\n",
-        "ok schema 1\nok id 1\nok id 2\nfound hits=1 lower=1 estimate=1 upper=1 max=2 steps=1\nhit rank=0 id=1 weight=2 collapsed=0 data=\"\"\nfound hits=1 lower=1 estimate=1 upper=1 max=1 steps=1\nhit rank=0 id=2 weight=1 collapsed=0 data=\"\"\n",
-        0,
-    ),
-    (
-        "{\"schema\":[{\"name\":\"body\",\"kind\":\"text\"}]}\n{\"add\":{\"body\":\"a\"}}\n{\"add\":{\"body\":\"b a\"}}\n{\"add\":{\"body\":\"a a\"}}\n{\"find\":\"a\"}\n",
-        "ok schema 1\nok id 1\nok id 2\nok id 3\nfound hits=3 lower=3 estimate=3 upper=3 max=2 steps=3\nhit rank=0 id=3 weight=2 collapsed=0 data=\"\"\nhit rank=1 id=1 weight=1 collapsed=0 data=\"\"\nhit rank=2 id=2 weight=1 collapsed=0 data=\"\"\n",
-        0,
-    ),
-];
-
-#[test]
-fn lines_are_answered_or_refused(rt: HostRuntime) -> Result<(), Fail> {
-    for (lines, answers, code) in LINES {
-        let (status, bytes) = outcome(rt.alloc(), "run", lines.as_bytes(), 4096, 4096, &[], &[])?;
-        assert_eq!(rt; bytes.as_slice(), answers.as_bytes(), "{lines}");
-        assert_eq!(rt; status.code(), code, "{lines}");
-    }
-    Ok(())
-}
-
-const SCHEMA: &str = "{\"schema\":[{\"name\":\"body\",\"kind\":\"text\"}]}\n";
-
-/// The ends of 127 lists.
-const NESTED_127: &str =
-    "]]]]]]]]]]]]]]]]]]]]]]]]]]]]]]]]]]]]]]]]]]]]]]]]]]]]]]]]]]]]]]]]]]]]]]]]]]]]]]]]]]]]]]]]]]]]]]]]]]]]]]]]]]]]]]]]]]]]]]]]]]]]]]]\n";
-
-/// The ends of 128 lists.
-const NESTED_128: &str =
-    "]]]]]]]]]]]]]]]]]]]]]]]]]]]]]]]]]]]]]]]]]]]]]]]]]]]]]]]]]]]]]]]]]]]]]]]]]]]]]]]]]]]]]]]]]]]]]]]]]]]]]]]]]]]]]]]]]]]]]]]]]]]]]]]]\n";
-
-/// What stands before, how often which byte, and what stands behind; the answers.
-const LONG: [(&str, usize, u8, &str, &str); 13] = [
-    ("", 1_048_576, b' ', "\nred\n", "refused 2 NotJson\n"),
-    (
-        "",
-        1_048_577,
-        b' ',
-        "\nred\n",
-        "refused 1 TooLong\nrefused 2 NotJson\n",
-    ),
-    ("", 2_097_152, b'a', "", "refused 1 TooLong\n"),
-    ("", 127, b'[', NESTED_127, "refused 5 BadShape\n"),
-    ("[", 127, b'[', NESTED_128, "refused 2 NotJson\n"),
-    ("\"", 1, 0xff, "\"\n", "refused 2 NotJson\n"),
-    (
-        "{\"schema\":[{\"kind\":\"text\",\"name\":\"",
-        32,
-        b'a',
-        "\"}]}\n",
-        "ok schema 1\n",
-    ),
-    (
-        "{\"schema\":[{\"kind\":\"text\",\"name\":\"",
-        33,
-        b'a',
-        "\"}]}\n",
-        "refused 5 BadShape\n",
-    ),
-    ("{\"find\":\"", 64, b'a', "\"}\n", "refused 5 BadShape\n"),
-    (
-        "{\"schema\":[{\"name\":\"body\",\"kind\":\"text\"}]}\n{\"find\":\"",
-        64,
-        b'a',
-        "\"}\n",
-        "ok schema 1\nfound hits=0 lower=0 estimate=0 upper=0 max=0 steps=0\n",
-    ),
-    (
-        "{\"schema\":[{\"name\":\"body\",\"kind\":\"text\"}]}\n{\"find\":\"",
-        65,
-        b'a',
-        "\"}\n",
-        "ok schema 1\nrefused 5 BadShape\n",
-    ),
-    (
-        "{\"schema\":[{\"name\":\"body\",\"kind\":\"text\"}]}\n{\"add\":{\"body\":\"b ",
-        65,
-        b'a',
-        "\"}}\n{\"find\":\"b\"}\n",
-        "ok schema 1\nok id 1\nfound hits=1 lower=1 estimate=1 upper=1 max=1 steps=1\nhit rank=0 id=1 weight=1 collapsed=0 data=\"\"\n",
-    ),
-    (
-        "{\"schema\":[{\"name\":\"body\",\"kind\":\"text\"}]}\n{\"add\":{\"body\":\"",
-        63,
-        b'a',
-        "a\"}}\n{\"find\":\"aaaaaaaaaaaaaaaaaaaaaaaaaaaaaaaaaaaaaaaaaaaaaaaaaaaaaaaaaaaaaaaa\"}\n",
-        "ok schema 1\nok id 1\nfound hits=1 lower=1 estimate=1 upper=1 max=1 steps=1\nhit rank=0 id=1 weight=1 collapsed=0 data=\"\"\n",
-    ),
-];
-
-#[test]
-fn limits_are_kept(rt: HostRuntime) -> Result<(), Fail> {
-    let alloc = rt.alloc();
-    for (front, count, byte, back, answers) in LONG {
-        let mut lines = front.as_bytes().to_vec(alloc)?;
-        let long = vec![in alloc; byte; count]?;
-        lines.extend_from_slice(long.as_slice())?;
-        lines.extend_from_slice(back.as_bytes())?;
-        let (_, bytes) = outcome(alloc, "run", lines.as_slice(), 65_536, 4096, &[], &[])?;
-        assert_eq!(rt;
-            bytes.as_slice(),
-            answers.as_bytes(),
-            "{front}{count}{back}"
-        );
     }
     Ok(())
 }
@@ -373,30 +130,8 @@ fn a_fault_ends_the_run_with_its_status(rt: HostRuntime) -> Result<(), Fail> {
     Ok(())
 }
 
-#[test]
-fn at_most_ten_hits_are_shown_and_all_are_counted(rt: HostRuntime) -> Result<(), Fail> {
-    let alloc = rt.alloc();
-    let mut lines = SCHEMA.as_bytes().to_vec(alloc)?;
-    for _ in 0..12 {
-        lines.extend_from_slice(b"{\"add\":{\"body\":\"red\"}}\n")?;
-    }
-    lines.extend_from_slice(b"{\"find\":\"red\"}\n")?;
-    let (status, bytes) = outcome(alloc, "run", lines.as_slice(), 4096, 4096, &[], &[])?;
-    let text = String::from_utf8(bytes).ok().ok_or("no text")?;
-    assert_eq!(rt; status, Status::Done);
-    assert!(rt;
-        text.as_str().contains("found hits=10 lower=12 estimate=12 upper=12 max=1 steps=12\n")
-    );
-    assert!(rt;
-        text.as_str()
-            .ends_with("hit rank=9 id=10 weight=1 collapsed=0 data=\"\"\n")
-    );
-    Ok(())
-}
-
 fn first_schema(alloc: Global) -> Result<Option<Schema>, AllocError>
-    ensures plain { IfOk result (λ o. IfSome o IsPlainSchema) }
-    ensures one { IfOk result (λ o. IfSome o (λ schema. length schema ≡ 1)) }
+    ensures { IfOk result (λ o. IfSome o (λ schema. schema ≡ record { name = codes "body"; kind = FieldKind.Text [] 1 } ∷ [])) }
 {
     let mut fields = Vec::new(alloc);
     fields.push(Field {
@@ -407,15 +142,18 @@ fn first_schema(alloc: Global) -> Result<Option<Schema>, AllocError>
 }
 
 fn addition(alloc: Global, text: &str) -> Result<Edit, AllocError>
-    requires { is_plain_text text.now ≡ true }
-    ensures { IfOk result (λ edit. (schema : List Field) → 0 < length schema → IsPlainEdit schema edit) }
+    requires { length text.now ≤ 1048576 }
+    ensures { IfOk result (λ edit. FitsEdit (record { name = codes "body"; kind = FieldKind.Text [] 1 } ∷ []) edit) }
 {
     let mut values = Items::new(alloc);
     values.push(Entry {
         field: 0,
         value: FieldValue::Text(Text::new(alloc, text)?),
     })?;
-    Ok(Edit::Add(Record { values }))
+    Ok(Edit::Add(Record {
+        values,
+        payload: Text::empty(alloc),
+    }))
 }
 
 /// The ids and weights of a page of the documents with the word `red`.
@@ -431,6 +169,7 @@ fn found<L: Ledger>(
     requires parts { blank.parts ≡ L.parts }
     requires one { blank.parts ≡ 1 }
     requires page { first + size ≤ 100000 }
+    requires word { is_one_word (codes "red") ≡ true }
 {
     let mut steps = Steps::<L>::open(blank);
     let find = Find {
@@ -439,6 +178,8 @@ fn found<L: Ledger>(
         first,
         size,
         check: 0,
+        order: Order::Relevance,
+        collapse: None,
     };
     let Answer::Found(report) = session.find(&find, &mut steps)?;
     report
@@ -468,6 +209,7 @@ fn a_session_shows_the_asked_page(rt: HostRuntime) -> Result<(), Fail> {
         assert!(rt; matches!(reply, Reply::Id(_)));
         session = next;
     }
+    assert!(rt; is_one_word("red"));
     for (scheme, first, size, page) in PAGES {
         let hits = found::<Brand>(Blank::new(1), alloc, &session, scheme, first, size)?;
         assert_eq!(rt; hits.as_slice(), page, "{scheme:?} {first} {size}");
