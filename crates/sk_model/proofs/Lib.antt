@@ -7,4 +7,5 @@ pub mod CeilLaws
 pub mod StaticLaws
 pub mod CountLaws
 pub mod ReportLaws
+pub mod SettledLaws
 mod Examples

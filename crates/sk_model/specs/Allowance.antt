@@ -1,4 +1,5 @@
 -- The steps that a find may take. One step is one reading in the index.
+-- Source: Own.
 use Rattle.std.specs.Prelude.{ℕ, ◌+◌, sum_by, Option, Some, None}
 use Rattle.sk_base.specs.declared.find.Collapse.{Collapse}
 use Rattle.sk_base.specs.declared.find.Find.{Find}

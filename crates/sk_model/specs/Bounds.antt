@@ -1,4 +1,5 @@
 -- How much a document can weigh, and how many can match, by numbers that are known without reading a list.
+-- Source: What they bound is Xapian's `MSet::get_max_possible` and `MSet::get_matches_upper_bound`; the recursions are own.
 use Rattle.std.specs.Prelude.{ℕ, ◌+◌, ◌-◌, ◌*◌, ◌^◌, min, max, nat_lt, List, [], ◌∷◌, if◌then◌else◌}
 use Rattle.sk_base.specs.declared.find.Scheme.{Scheme}
 use Rattle.sk_base.specs.Numbers.{Docs, live_of, length_of, greatest_of, wild_length_of, wild_greatest_of, slot_length_of}

@@ -1,4 +1,5 @@
 -- What the bounds on the number of matches say.
+-- Source: Xapian's API documentation (`MSet::get_matches_lower_bound` and its kin, `checkatleast` of `Enquire::get_mset`, `MSetIterator::get_collapse_count`). How far the bounds may lie apart, which matches must be seen, and where they are exact is own.
 use Rattle.std.specs.Prelude.{◌≡◌, ◌≤◌, ◌<◌, ℕ, ◌+◌, ◌-◌, max, List, length, take}
 use Rattle.sk_base.specs.declared.find.Find.{Find}
 use Rattle.sk_base.specs.declared.rank.Rank.{Rank}

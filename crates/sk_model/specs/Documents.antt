@@ -1,4 +1,5 @@
 -- Which document a record makes under a schema.
+-- Source: Xapian's API documentation (`Document`, `TermGenerator` with `increase_termpos`, boolean terms, `add_value`). That a schema decides which field gives what, and the limit of 64 bytes on a word's term, are own.
 use Rattle.std.specs.Prelude.{ℕ, ◌+◌, ◌*◌, ◌==◌, nat_lt, nat_le, bytes_eq, Bool, false, List, [], ◌∷◌, ◌++◌, length, map, filter, fold, Option, Some, None, if◌then◌else◌}
 use Rattle.std.specs.Ordering.{nat_cmp, match_ordering}
 use Rattle.std.specs.Cmp.Lexicographic.{slice_cmp}

@@ -1,4 +1,5 @@
 -- The live documents after any list of edits.
+-- Source: Xapian's API documentation (`WritableDatabase`: `add_document`, `replace_document` and `delete_document` by id and by term). The replies and the last id are own.
 use Rattle.std.specs.Prelude.{ℕ, ◌+◌, ◌≤◌, ◌<◌, max, not, nat_lt, is_some, List, [], ◌∷◌, filter, find, AllPairs, All, Option, Some, None, option_map, if◌then◌else◌}
 use Rattle.std.specs.Ordering.{nat_cmp}
 use Rattle.std.specs.BTreeMap.{insert_entry, is_at}

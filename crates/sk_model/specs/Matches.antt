@@ -1,4 +1,5 @@
 -- The live documents that a query matches.
+-- Source: Xapian's API documentation (`Enquire`, `Query`).
 use Rattle.std.specs.Prelude.{ℕ, List, [], Option, Some, None}
 use Rattle.std.specs.List.{filter_map}
 use Rattle.std.specs.Option.{option_map}

@@ -1,4 +1,5 @@
 -- The order of matches, those that are kept, and the asked page of them.
+-- Source: Xapian's API documentation (`Enquire::set_collapse_key`, the orders of `Enquire`, `first` and `maxitems` of `get_mset`) and its guide to collapsing.
 use Rattle.std.specs.Prelude.{ℕ, ◌-◌, ◌||◌, ◌==◌, nat_lt, Bool, List, [], ◌∷◌, take, drop, length, count_by, bytes_eq, Option, Some, None, if◌then◌else◌}
 use Rattle.sk_base.specs.declared.find.Collapse.{Collapse}
 use Rattle.sk_base.specs.declared.rank.Rank.{Rank}

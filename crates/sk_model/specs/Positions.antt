@@ -1,4 +1,5 @@
 -- When words stand near to each other, and when they stand as a phrase.
+-- Source: Xapian's API documentation (`OP_NEAR`, `OP_PHRASE`). That the positions of near may coincide is own.
 use Rattle.std.specs.Prelude.{ℕ, ◌-◌, ◌&&◌, max, min, nat_lt, Bool, false, List, [], ◌∷◌}
 use Rattle.std.specs.List.{list_any}
 

@@ -1,4 +1,5 @@
 -- What a query is.
+-- Source: Xapian's API documentation (`Query`).
 use Rattle.std.specs.Prelude.{Option, Some}
 use Rattle.serde_json.specs.View.{view}
 use Rattle.sk_text.specs.Terms.{term_of}

@@ -1,4 +1,5 @@
 -- Which values lie in a range.
+-- Source: Xapian's API documentation (`OP_VALUE_RANGE`, `OP_VALUE_GE`, `OP_VALUE_LE`). That a range open at both ends matches where there is a value is own.
 use Rattle.std.specs.Prelude.{ℕ, ◌&&◌, nat_lt, not, Bool, true, false, List, length}
 use Rattle.std.specs.Ordering.{nat_cmp, is_le}
 use Rattle.std.specs.Cmp.Lexicographic.{slice_cmp}

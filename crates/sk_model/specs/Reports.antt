@@ -1,4 +1,5 @@
 -- When a report is one that a find may have.
+-- Source: Xapian's API documentation (`MSet`). The steps are own.
 use Rattle.std.specs.Prelude.{◌≡◌, ◌≤◌, ◌+◌, ◌/◌, ℕ, List, [], length, Option, Some, None}
 use Rattle.std.specs.List.{AllZip}
 use Rattle.sk_base.specs.declared.find.Find.{Find}

@@ -1,5 +1,6 @@
 -- What one document scores for a query.
-use Rattle.std.specs.Prelude.{ℕ, ◌+◌, ◌*◌, ◌%◌, ◌==◌, max, Bool, List, [], ◌∷◌, map, filter, is_some, Option, Some, None, if◌then◌else◌, unwrap_or}
+-- Source: Xapian's API documentation (the operators of `Query`). Own: the weight of an xor, more than two parts of xor, and_not, and_maybe and filter, whole factors, the plain sum of a synonym and of a wildcard, which expands no list of terms.
+use Rattle.std.specs.Prelude.{ℕ, ◌+◌, ◌*◌, ◌%◌, ◌==◌, max, Bool, List, [], ◌∷◌, map, is_some, Option, Some, None, if◌then◌else◌, unwrap_or}
 use Rattle.std.specs.List.{list_any}
 use Rattle.sk_base.specs.declared.find.Scheme.{Scheme}
 use Rattle.sk_base.specs.declared.doc_entry.DocTerm.{DocTerm}
@@ -27,10 +28,6 @@ wdf_sum (t ∷ ts) terms = wdf_of t terms + wdf_sum ts terms
 abbrev pub terms_weight : Scheme → ℕ → List (List ℕ) → List DocTerm → ℕ
 terms_weight scheme factor [] terms = 0
 terms_weight scheme factor (t ∷ ts) terms = weigh_by factor scheme (wdf_of t terms) + terms_weight scheme factor ts terms
-
--- A document's own terms that begin so.
-abbrev pub terms_from : List ℕ → List DocTerm → List DocTerm
-terms_from prefix terms = filter (λ one. begins_with one.term prefix) terms
 
 -- The wdfs of a document's own terms that begin so, added.
 abbrev pub wild_wdf : List ℕ → List DocTerm → ℕ

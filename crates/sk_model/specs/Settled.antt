@@ -1,5 +1,6 @@
 -- The ids at which a page is settled.
-use Rattle.std.specs.Prelude.{ℕ, ◌+◌, ◌-◌, ◌==◌, ◌&&◌, nat_le, List, [], ◌∷◌, if◌then◌else◌}
+-- Source: Own.
+use Rattle.std.specs.Prelude.{ℕ, ◌+◌, ◌-◌, ◌==◌, ◌&&◌, nat_le, List, [], ◌∷◌, count_by, if◌then◌else◌}
 use Rattle.sk_base.specs.declared.find.Find.{Find}
 use Rattle.sk_base.specs.declared.rank.Rank.{Rank}
 use Rattle.sk_base.specs.Numbers.{Docs}
@@ -30,3 +31,11 @@ stop_point query find docs = settled find (matches query find.scheme find.order 
 -- The point from which on a part of an or cannot bring a document into the page by itself.
 abbrev pub decay_point : Tree → Tree → Find → Docs → ℕ
 decay_point query part find docs = settled find (matches query find.scheme find.order docs) (ceil part find.scheme 1 docs)
+
+-- How many matches have ids up to this one.
+abbrev pub seen_up_to : ℕ → List Rank → ℕ
+seen_up_to id ranks = count_by (λ x. nat_le x.id id) ranks
+
+-- How many of these are at least so heavy.
+abbrev pub heavy_up_to : ℕ → ℕ → List Rank → ℕ
+heavy_up_to weight id ranks = count_by (λ x. nat_le x.id id && nat_le weight x.weight) ranks

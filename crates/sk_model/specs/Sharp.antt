@@ -1,4 +1,5 @@
 -- The sharper bounds on the steps of a find.
+-- Source: Own.
 use Rattle.std.specs.Prelude.{ℕ, ◌+◌, ◌*◌, ◌&&◌, min, nat_le, nat_lt, Bool, true, false, List, [], ◌∷◌, length, count_by, is_none, Option, Some, None, if◌then◌else◌}
 use Rattle.std.specs.Option.{option_map}
 use Rattle.sk_base.specs.declared.find.Find.{Find}

@@ -1,4 +1,5 @@
 -- What a wdf weighs.
+-- Source: Xapian's API documentation (`BoolWeight`, `CoordWeight`, `TfIdfWeight` with the normalisation `nnn`).
 use Rattle.std.specs.Prelude.{ℕ, ◌*◌}
 use Rattle.sk_base.specs.declared.find.Scheme.{Scheme}
 

@@ -7,6 +7,7 @@ mod documents;
 mod order;
 mod page;
 mod reports;
+mod settled;
 
 pub use bounds::{matches_within_static, score_within_ceil};
 pub use counts::{counts_are_there, counts_in_order};
@@ -14,3 +15,4 @@ pub use documents::{slots_of_schema, terms_of_mentions};
 pub use order::one_order;
 pub use page::{kept_by_keys, kept_of_front};
 pub use reports::reports_are_there;
+pub use settled::{settled_is_least, sharp_is_least};

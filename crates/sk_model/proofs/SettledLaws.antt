@@ -1,0 +1,219 @@
+-- The point at which a page is settled is the least id that it is said to be, and the sharper bound the least of its numbers.
+use Rattle.std.proofs.Common.{◌≡◌, ◌<◌, ◌≤◌, ◌+◌, ◌-◌, ℕ, suc, Bool, true, false, cond, ◌&&◌, ◌==◌, nat_le, List, [], ◌∷◌, length, Option, Some, None, refl, sym, ap, ◌∙◌, subst, arith, slice_index_or, AllPairs}
+use Rattle.std.proofs.lemmas.Bool.Decides.{nat_tests}
+use Rattle.std.proofs.lemmas.List.Sums.{sum_by-cons}
+use Rattle.sk_base.specs.declared.find.Find.{Find}
+use Rattle.sk_base.specs.declared.rank.Rank.{Rank}
+use Rattle.sk_base.specs.Numbers.{Docs}
+use Rattle.sk_query.specs.Trees.{Tree}
+use Rattle.sk_model.specs.Allowance.{allowance}
+use Rattle.sk_model.specs.Counts.{wanted}
+use Rattle.sk_model.specs.Edits.{last_id}
+use Rattle.sk_model.specs.Matches.{matches}
+use Rattle.sk_model.specs.Settled.{less_heavy, settled_from, settled, seen_up_to, heavy_up_to}
+use Rattle.sk_model.proofs.OrderLaws.{both_so}
+use Rattle.sk_model.specs.Sharp.{stop_number, rare_number, decay_number, at_most, sharp}
+
+-- ---- rising ids
+
+abbrev Above : ℕ → List Rank → Type 0
+Above b [] = Unit {0}
+Above b (x ∷ xs) = (b < x.id) × Above b xs
+
+abbrev Rising : List Rank → Type 0
+Rising [] = Unit {0}
+Rising (x ∷ xs) = Above x.id xs × Rising xs
+
+above_of : (b : ℕ) (ranks : List Rank) → ((j : ℕ) (d : Rank) → j < length ranks → b < (slice_index_or ranks j d).id) → Above b ranks
+above_of b [] h = tt
+above_of b (x ∷ xs) h = (h 0 x (omega arith), above_of b xs (λ j d within. h (suc j) d (omega arith)))
+
+rising_of : (ranks : List Rank) → AllPairs (λ (x y : Rank). x.id < y.id) ranks → Rising ranks
+rising_of [] h = tt
+rising_of (x ∷ xs) h = (above_of x.id xs (λ j d within. h 0 (suc j) d (omega arith) (omega arith)), rising_of xs (λ i j d lt within. h (suc i) (suc j) d (omega arith) (omega arith)))
+
+-- ---- tests
+
+up : (a b : ℕ) → nat_le a b ≡ true → a ≤ b
+up a b e = grind (arith, nat_tests)
+
+not_up : (a b : ℕ) → nat_le a b ≡ false → b < a
+not_up a b e = grind (arith, nat_tests)
+
+is_up : (a b : ℕ) → a ≤ b → nat_le a b ≡ true
+is_up a b e = grind (arith, nat_tests)
+
+is_not_up : (a b : ℕ) → b < a → nat_le a b ≡ false
+is_not_up a b e = grind (arith, nat_tests)
+
+is_none : (n : ℕ) → (n == 0) ≡ true → n ≡ 0
+is_none n e = grind (arith, nat_tests)
+
+is_some : (n : ℕ) → (n == 0) ≡ false → 1 ≤ n
+is_some n e = grind (arith, nat_tests)
+
+both_none : (a b : ℕ) → ((a == 0) && (b == 0)) ≡ true → (a ≡ 0) × (b ≡ 0)
+both_none a b e = let so = both_so (a == 0) (b == 0) e in (is_none a so.0, is_none b so.1)
+
+some_left : (a b : ℕ) → ((a == 0) && (b == 0)) ≡ false → 1 ≤ a + b
+some_left a b e = by_first (a == 0) refl
+  where
+    by_first : (none : Bool) → (a == 0) ≡ none → 1 ≤ a + b
+    by_first true f = let some : 1 ≤ b = is_some b (ap (λ t. t && (b == 0)) (sym f) ∙ e) in omega (arith, some)
+    by_first false f = let some : 1 ≤ a = is_some a f in omega (arith, some)
+
+-- ---- counts
+
+seen_more : (id : ℕ) (x : Rank) (xs : List Rank) (low : Bool) → nat_le x.id id ≡ low → seen_up_to id (x ∷ xs) ≡ cond low 1 0 + seen_up_to id xs
+seen_more id x xs low e = sum_by-cons (λ (y : Rank). cond (nat_le y.id id) 1 0) x xs ∙ ap (λ b. cond b 1 0 + seen_up_to id xs) e
+
+heavy_more : (weight id : ℕ) (x : Rank) (xs : List Rank) (low heavy : Bool) → nat_le x.id id ≡ low → nat_le weight x.weight ≡ heavy → heavy_up_to weight id (x ∷ xs) ≡ cond (low && heavy) 1 0 + heavy_up_to weight id xs
+heavy_more weight id x xs low heavy e f =
+    sum_by-cons (λ (y : Rank). cond (nat_le y.id id && nat_le weight y.weight) 1 0) x xs
+    ∙ ap (λ b. cond (b && nat_le weight x.weight) 1 0 + heavy_up_to weight id xs) e
+    ∙ ap (λ b. cond (low && b) 1 0 + heavy_up_to weight id xs) f
+
+none_seen : (b id : ℕ) (xs : List Rank) → id ≤ b → Above b xs → seen_up_to id xs ≡ 0
+none_seen b id [] low above = refl
+none_seen b id (x ∷ xs) low above = omega (arith, seen_more id x xs false (is_not_up x.id id (omega (arith, low, above.0))), none_seen b id xs low above.1)
+
+none_heavy : (weight b id : ℕ) (xs : List Rank) → id ≤ b → Above b xs → heavy_up_to weight id xs ≡ 0
+none_heavy weight b id [] low above = refl
+none_heavy weight b id (x ∷ xs) low above =
+    omega (arith, heavy_more weight id x xs false (nat_le weight x.weight) (is_not_up x.id id (omega (arith, low, above.0))) refl, none_heavy weight b id xs low above.1)
+
+-- ---- it is no later
+
+least_end : (id n m weight : ℕ) (x : Rank) (xs : List Rank) (last : Bool) → ((n == 0) && (m == 0)) ≡ last → x.id ≤ id → (1 ≤ n + m → settled_from n m weight xs ≤ id) → cond last x.id (settled_from n m weight xs) ≤ id
+least_end id n m weight x xs true e low rest = low
+least_end id n m weight x xs false e low rest = rest (some_left n m e)
+
+least_step : (weight id n m : ℕ) (x : Rank) (xs : List Rank) (low heavy : Bool) → nat_le x.id id ≡ low → nat_le weight x.weight ≡ heavy
+    → Above x.id xs → 1 ≤ n + m → n ≤ seen_up_to id (x ∷ xs) → m ≤ heavy_up_to weight id (x ∷ xs)
+    → (1 ≤ (n - 1) + less_heavy weight m x → n - 1 ≤ seen_up_to id xs → less_heavy weight m x ≤ heavy_up_to weight id xs → settled_from (n - 1) (less_heavy weight m x) weight xs ≤ id)
+    → settled_from n m weight (x ∷ xs) ≤ id
+least_step weight id n m x xs false heavy e f above some a b rest =
+    let before : id < x.id = not_up x.id id e in
+    absurd (omega (arith, some, a, b, seen_more id x xs false e, heavy_more weight id x xs false heavy e f, none_seen x.id id xs (omega (arith, before)) above, none_heavy weight x.id id xs (omega (arith, before)) above))
+least_step weight id n m x xs true true e f above some a b rest =
+    let less : less_heavy weight m x ≡ m - 1 = ap (λ (t : Bool). cond t (m - 1) m) f in
+    least_end id (n - 1) (less_heavy weight m x) weight x xs (((n - 1) == 0) && (less_heavy weight m x == 0)) refl (up x.id id e)
+    (λ left. rest left (omega (arith, a, seen_more id x xs true e)) (omega (arith, b, less, heavy_more weight id x xs true true e f)))
+least_step weight id n m x xs true false e f above some a b rest =
+    let less : less_heavy weight m x ≡ m = ap (λ (t : Bool). cond t (m - 1) m) f in
+    least_end id (n - 1) (less_heavy weight m x) weight x xs (((n - 1) == 0) && (less_heavy weight m x == 0)) refl (up x.id id e)
+    (λ left. rest left (omega (arith, a, seen_more id x xs true e)) (omega (arith, b, less, heavy_more weight id x xs true false e f)))
+
+least_from : (weight id n m : ℕ) (ranks : List Rank) → Rising ranks → 1 ≤ n + m → n ≤ seen_up_to id ranks → m ≤ heavy_up_to weight id ranks → settled_from n m weight ranks ≤ id
+least_from weight id n m [] rising some a b = absurd (omega (arith, some, a, b))
+least_from weight id n m (x ∷ xs) rising some a b =
+    least_step weight id n m x xs (nat_le x.id id) (nat_le weight x.weight) refl refl rising.0 some a b (least_from weight id (n - 1) (less_heavy weight m x) xs rising.1)
+
+want_least : (id n k weight : ℕ) (ranks : List Rank) (none : Bool) → (n == 0) ≡ none → (1 ≤ n → settled_from n k weight ranks ≤ id) → cond none 0 (settled_from n k weight ranks) ≤ id
+want_least id n k weight ranks true e rest = omega arith
+want_least id n k weight ranks false e rest = rest (is_some n e)
+
+pub least : (find : Find) (ranks : List Rank) (weight id : ℕ) → AllPairs (λ (x y : Rank). x.id < y.id) ranks → wanted find ≤ seen_up_to id ranks → find.first + find.size ≤ heavy_up_to weight id ranks
+    → settled find ranks weight ≤ id
+least find ranks weight id rising a b =
+    want_least id (wanted find) (find.first + find.size) weight ranks (wanted find == 0) refl
+    (λ some. least_from weight id (wanted find) (find.first + find.size) ranks (rising_of ranks rising) (omega (arith, some)) a b)
+
+-- ---- up to it there is enough
+
+behind_end : (b n m weight : ℕ) (x : Rank) (xs : List Rank) (last : Bool) → b < x.id → cond last x.id (settled_from n m weight xs) < last_id → (settled_from n m weight xs < last_id → b < settled_from n m weight xs)
+    → b < cond last x.id (settled_from n m weight xs)
+behind_end b n m weight x xs true above within rest = above
+behind_end b n m weight x xs false above within rest = rest within
+
+behind : (b n m weight : ℕ) (ranks : List Rank) → Above b ranks → settled_from n m weight ranks < last_id → b < settled_from n m weight ranks
+behind b n m weight [] above within = absurd (omega (arith, within))
+behind b n m weight (x ∷ xs) above within =
+    behind_end b (n - 1) (less_heavy weight m x) weight x xs (((n - 1) == 0) && (less_heavy weight m x == 0)) above.0 within (behind b (n - 1) (less_heavy weight m x) weight xs above.1)
+
+abbrev Enough : ℕ → ℕ → ℕ → ℕ → List Rank → Type 0
+Enough n m weight id ranks = (n ≤ seen_up_to id ranks) × (m ≤ heavy_up_to weight id ranks)
+
+less_is : (weight m : ℕ) (x : Rank) (heavy : Bool) → nat_le weight x.weight ≡ heavy → m ≤ cond heavy 1 0 + less_heavy weight m x
+less_is weight m x true f = let less : less_heavy weight m x ≡ m - 1 = ap (λ (t : Bool). cond t (m - 1) m) f in omega (arith, less)
+less_is weight m x false f = let less : less_heavy weight m x ≡ m = ap (λ (t : Bool). cond t (m - 1) m) f in omega (arith, less)
+
+enough_more : (weight n m id : ℕ) (x : Rank) (xs : List Rank) (heavy : Bool) → nat_le weight x.weight ≡ heavy → x.id ≤ id → n - 1 ≤ seen_up_to id xs → less_heavy weight m x ≤ heavy_up_to weight id xs → Enough n m weight id (x ∷ xs)
+enough_more weight n m id x xs true f low a b =
+    (omega (arith, a, seen_more id x xs true (is_up x.id id low)), omega (arith, b, less_is weight m x true f, heavy_more weight id x xs true true (is_up x.id id low) f))
+enough_more weight n m id x xs false f low a b =
+    (omega (arith, a, seen_more id x xs true (is_up x.id id low)), omega (arith, b, less_is weight m x false f, heavy_more weight id x xs true false (is_up x.id id low) f))
+
+enough_end : (weight n m : ℕ) (x : Rank) (xs : List Rank) (last : Bool) → (((n - 1) == 0) && (less_heavy weight m x == 0)) ≡ last → Above x.id xs
+    → cond last x.id (settled_from (n - 1) (less_heavy weight m x) weight xs) < last_id
+    → (settled_from (n - 1) (less_heavy weight m x) weight xs < last_id → Enough (n - 1) (less_heavy weight m x) weight (settled_from (n - 1) (less_heavy weight m x) weight xs) xs)
+    → Enough n m weight (cond last x.id (settled_from (n - 1) (less_heavy weight m x) weight xs)) (x ∷ xs)
+enough_end weight n m x xs true e above within rest =
+    let none : ((n - 1) ≡ 0) × (less_heavy weight m x ≡ 0) = both_none (n - 1) (less_heavy weight m x) e in
+    enough_more weight n m x.id x xs (nat_le weight x.weight) refl (omega arith) (omega (arith, none.0)) (omega (arith, none.1))
+enough_end weight n m x xs false e above within rest =
+    let so : Enough (n - 1) (less_heavy weight m x) weight (settled_from (n - 1) (less_heavy weight m x) weight xs) xs = rest within in
+    let low : x.id < settled_from (n - 1) (less_heavy weight m x) weight xs = behind x.id (n - 1) (less_heavy weight m x) weight xs above within in
+    enough_more weight n m (settled_from (n - 1) (less_heavy weight m x) weight xs) x xs (nat_le weight x.weight) refl (omega (arith, low)) so.0 so.1
+
+enough_from : (weight n m : ℕ) (ranks : List Rank) → Rising ranks → settled_from n m weight ranks < last_id → Enough n m weight (settled_from n m weight ranks) ranks
+enough_from weight n m [] rising within = absurd (omega (arith, within))
+enough_from weight n m (x ∷ xs) rising within =
+    enough_end weight n m x xs (((n - 1) == 0) && (less_heavy weight m x == 0)) refl rising.0 within (enough_from weight (n - 1) (less_heavy weight m x) xs rising.1)
+
+want_enough : (n k weight : ℕ) (ranks : List Rank) (none : Bool) → (n == 0) ≡ none → k ≤ n → cond none 0 (settled_from n k weight ranks) < last_id
+    → (settled_from n k weight ranks < last_id → Enough n k weight (settled_from n k weight ranks) ranks) → Enough n k weight (cond none 0 (settled_from n k weight ranks)) ranks
+want_enough n k weight ranks true e within some rest = let zero_is : n ≡ 0 = is_none n e in (omega (arith, zero_is), omega (arith, zero_is, within))
+want_enough n k weight ranks false e within some rest = rest some
+
+pub enough : (find : Find) (ranks : List Rank) (weight : ℕ) → AllPairs (λ (x y : Rank). x.id < y.id) ranks → settled find ranks weight < last_id
+    → Enough (wanted find) (find.first + find.size) weight (settled find ranks weight) ranks
+enough find ranks weight rising within =
+    want_enough (wanted find) (find.first + find.size) weight ranks (wanted find == 0) refl (omega arith) within
+    (enough_from weight (wanted find) (find.first + find.size) ranks (rising_of ranks rising))
+
+-- ---- the least of several numbers
+
+within_first : (n : ℕ) (o : Option ℕ) → at_most n o ≤ n
+within_first n None = omega arith
+within_first n (Some m) = omega arith
+
+within_other : (n m : ℕ) (o : Option ℕ) → o ≡ Some m → at_most n o ≤ m
+within_other n m o e = subst (λ (p : Option ℕ). at_most n p ≤ m) (sym e) (omega arith)
+
+module _ (query : Tree) (find : Find) (docs : Docs) (hits : ℕ) where
+  abbrev of_list : ℕ
+  of_list = allowance query find docs (length (matches query find.scheme find.order docs)) hits
+
+  abbrev of_stop : Option ℕ
+  of_stop = stop_number query find docs hits
+
+  abbrev of_rare : Option ℕ
+  of_rare = rare_number query find docs (length (matches query find.scheme find.order docs)) hits
+
+  abbrev of_decay : Option ℕ
+  of_decay = decay_number query find docs hits
+
+  pub sharp_allowed : sharp query find docs hits ≤ allowance query find docs (length (matches query find.scheme find.order docs)) hits
+  sharp_allowed =
+      let one = within_first of_list of_stop in
+      let two = within_first (at_most of_list of_stop) of_rare in
+      let three = within_first (at_most (at_most of_list of_stop) of_rare) of_decay in
+      omega (arith, one, two, three)
+
+  pub sharp_stop : (n : ℕ) → stop_number query find docs hits ≡ Some n → sharp query find docs hits ≤ n
+  sharp_stop n e =
+      let one = within_other of_list n of_stop e in
+      let two = within_first (at_most of_list of_stop) of_rare in
+      let three = within_first (at_most (at_most of_list of_stop) of_rare) of_decay in
+      omega (arith, one, two, three)
+
+  pub sharp_rare : (n : ℕ) → rare_number query find docs (length (matches query find.scheme find.order docs)) hits ≡ Some n → sharp query find docs hits ≤ n
+  sharp_rare n e =
+      let two = within_other (at_most of_list of_stop) n of_rare e in
+      let three = within_first (at_most (at_most of_list of_stop) of_rare) of_decay in
+      omega (arith, two, three)
+
+  pub sharp_decay : (n : ℕ) → decay_number query find docs hits ≡ Some n → sharp query find docs hits ≤ n
+  sharp_decay n e =
+      within_other (at_most (at_most of_list of_stop) of_rare) n of_decay e

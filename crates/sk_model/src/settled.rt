@@ -1,0 +1,37 @@
+//! Laws of the points at which a page is settled, and of the sharper bound on steps.
+ghost use Rattle.std.specs.Prelude.{◌≡◌, ◌≤◌, ◌<◌, ◌+◌, ℕ, List, length, AllPairs, Some};
+ghost use Rattle.sk_base.specs.declared.find.Find.{Find};
+ghost use Rattle.sk_base.specs.declared.rank.Rank.{Rank};
+ghost use Rattle.sk_base.specs.Numbers.{Docs};
+ghost use Rattle.sk_query.specs.Trees.{Tree};
+ghost use Rattle.sk_model.specs.Allowance.{allowance};
+ghost use Rattle.sk_model.specs.Counts.{wanted};
+ghost use Rattle.sk_model.specs.Edits.{last_id};
+ghost use Rattle.sk_model.specs.Matches.{matches};
+ghost use Rattle.sk_model.specs.Settled.{settled, seen_up_to, heavy_up_to};
+ghost use Rattle.sk_model.specs.Sharp.{stop_number, rare_number, decay_number, sharp};
+
+/// Laws: `settled` is the least id up to which there are as many matches as a find wants to see, and as many of at least
+/// the weight as its page needs. The matches stand by rising id.
+pub fn settled_is_least()
+    ensures least { (find : Find) (ranks : List Rank) (weight id : ℕ) → AllPairs (λ x y. x.id < y.id) ranks
+        → wanted find ≤ seen_up_to id ranks → find.first + find.size ≤ heavy_up_to weight id ranks
+        → settled find ranks weight ≤ id }
+    ensures enough { (find : Find) (ranks : List Rank) (weight : ℕ) → AllPairs (λ x y. x.id < y.id) ranks
+        → settled find ranks weight < last_id
+        → (wanted find ≤ seen_up_to (settled find ranks weight) ranks)
+        × (find.first + find.size ≤ heavy_up_to weight (settled find ranks weight) ranks) }
+{}
+
+/// Laws: the sharper bound on steps is not above the allowance, nor above any of the numbers that apply.
+pub fn sharp_is_least()
+    ensures allowed { (query : Tree) (find : Find) (docs : Docs) (hits : ℕ)
+        → sharp query find docs hits ≤ allowance query find docs (length (matches query find.scheme find.order docs)) hits }
+    ensures stop { (query : Tree) (find : Find) (docs : Docs) (hits n : ℕ)
+        → stop_number query find docs hits ≡ Some n → sharp query find docs hits ≤ n }
+    ensures rare { (query : Tree) (find : Find) (docs : Docs) (hits n : ℕ)
+        → rare_number query find docs (length (matches query find.scheme find.order docs)) hits ≡ Some n
+        → sharp query find docs hits ≤ n }
+    ensures decay { (query : Tree) (find : Find) (docs : Docs) (hits n : ℕ)
+        → decay_number query find docs hits ≡ Some n → sharp query find docs hits ≤ n }
+{}
