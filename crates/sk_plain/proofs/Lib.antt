@@ -1,0 +1,6 @@
+mod BoundLemmas
+mod FoundLemmas
+mod IdLemmas
+mod KeptLemmas
+mod ReportLemmas
+mod WildLemmas

@@ -1,0 +1,50 @@
+-- The exact report is one that the find may have; and no more match, or are kept, than there are.
+use Rattle.std.proofs.Common.{◌≡◌, ◌<◌, ◌≤◌, ◌+◌, ◌/◌, ◌^◌, ℕ, true, List, [], ◌∷◌, length, Option, Some, None, refl, sym, subst, arith}
+use Rattle.std.specs.List.{cons_option}
+use Rattle.sk_base.specs.declared.find.Find.{Find}
+use Rattle.sk_base.specs.declared.find.Scheme.{Scheme}
+use Rattle.sk_base.specs.declared.rank.Order.{Order}
+use Rattle.sk_base.specs.declared.rank.Rank.{Rank}
+use Rattle.sk_base.specs.Numbers.{Docs}
+use Rattle.sk_query.specs.Trees.{Tree}
+use Rattle.sk_query.specs.Fits.{is_sound}
+use Rattle.sk_model.specs.Matches.{rank_of, matches, key_of}
+use Rattle.sk_model.specs.Counts.{kept_by}
+use Rattle.sk_model.specs.Reports.{ReportsFor}
+use Rattle.sk_model.proofs.KeptLaws.{kept_few}
+use Rattle.sk_model.proofs.ReportLaws.{exact_is}
+use Rattle.sk_plain.specs.Pages.{count_of, report_for}
+
+half : (n : ℕ) → n ≡ (n + n) / 2
+half n = omega arith
+
+pub exact_reports : (query : Tree) (find : Find) (above : ℕ) (docs : Docs) → is_sound above query ≡ true → ReportsFor query find docs (report_for query find docs)
+exact_reports query find above docs e =
+    let so = exact_is query find docs above e in
+    record {
+      hits = so.hits;
+      counts = so.counts;
+      estimate = half (count_of query find docs);
+      greatest = refl;
+      least_steps = so.least_steps;
+      most_steps = so.most_steps;
+    }
+
+step_few : (o : Option Rank) (xs : List Rank) (n : ℕ) → length xs ≤ n → length (cons_option o xs) ≤ n + 1
+step_few None xs n h = omega (arith, h)
+step_few (Some x) xs n h = omega (arith, h)
+
+matches_few : (tree : Tree) (scheme : Scheme) (order : Order) (docs : Docs) → length (matches tree scheme order docs) ≤ length docs
+matches_few tree scheme order [] = omega arith
+matches_few tree scheme order (one ∷ more) =
+    let rest : length (matches tree scheme order more) ≤ length more = matches_few tree scheme order more in
+    let step : length (cons_option (rank_of tree scheme order one) (matches tree scheme order more)) ≤ length more + 1 = step_few (rank_of tree scheme order one) (matches tree scheme order more) (length more) rest in
+    omega (arith, step)
+
+-- fewer than 2^32 documents, so fewer matches
+pub few_found : (tree : Tree) (scheme : Scheme) (order : Order) (docs : Docs) (ranks : List Rank) → ranks ≡ matches tree scheme order docs → length docs < 2 ^ 32 → length ranks < 2 ^ 32
+few_found tree scheme order docs ranks is few = subst (λ xs. length xs < 2 ^ 32) (sym is) (omega (arith, few, matches_few tree scheme order docs))
+
+-- and fewer that are kept
+pub few_kept : (find : Find) (docs : Docs) (ranks kept : List Rank) → kept ≡ kept_by find docs ranks → length ranks < 2 ^ 32 → length kept < 2 ^ 32
+few_kept find docs ranks kept is few = subst (λ xs. length xs < 2 ^ 32) (sym is) (omega (arith, few, kept_few find.order find.collapse (key_of find.collapse docs) ranks))

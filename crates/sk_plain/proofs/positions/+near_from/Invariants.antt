@@ -1,0 +1,14 @@
+use Rattle.std.proofs.Common.{◌≡◌, length, drop, min, max}
+use Rattle.std.specs.List.{list_any}
+use Rattle.sk_model.specs.Scores.{places_of}
+use Rattle.sk_model.specs.Positions.{near_from}
+use Rattle.sk_plain.proofs.positions.+near_from.Given as goal
+
+abbrev pub decreases-near_from : goal.decreases-near_from
+decreases-near_from l = length l.words.now
+
+-- the places that were passed over will not do, so those that are left decide
+abbrev pub invariant-places : goal.invariant-places
+invariant-places l =
+    list_any (λ p. near_from l.window (min l.least p) (max l.most p) (places_of l.rest l.terms)) (drop l.place-index l.place-items)
+    ≡ list_any (λ p. near_from l.window (min l.least p) (max l.most p) (places_of l.rest l.terms)) l.place-items

@@ -1,0 +1,41 @@
+-- The report of a find, exactly.
+use Rattle.std.specs.Prelude.{ℕ, List, map, length}
+use Rattle.sk_base.specs.declared.find.Find.{Find}
+use Rattle.sk_base.specs.declared.rank.Rank.{Rank}
+use Rattle.sk_base.specs.declared.report.Ranked.{Ranked}
+use Rattle.sk_base.specs.declared.report.Report.{Report}
+use Rattle.sk_base.specs.Numbers.{Docs}
+use Rattle.sk_query.specs.Trees.{Tree}
+use Rattle.sk_model.specs.Edits.{document_at}
+use Rattle.sk_model.specs.Matches.{key_of}
+use Rattle.sk_model.specs.Bounds.{ceil}
+use Rattle.sk_model.specs.Counts.{kept_by, dropped_by}
+use Rattle.sk_model.specs.Reports.{payload_of, found_by, page_of}
+
+-- A match of these as a hit: its id and weight, its document's payload, and how many of them were collapsed into it.
+abbrev pub hit_of : Find → Docs → List Rank → Rank → Ranked
+hit_of find docs ranks rank = record {
+  id = rank.id;
+  weight = rank.weight;
+  collapsed = dropped_by find docs (key_of find.collapse docs rank) ranks;
+  payload = payload_of (document_at rank.id docs);
+}
+
+-- The hits of the page that a find asks for.
+abbrev pub hits_of : Tree → Find → Docs → List Ranked
+hits_of query find docs = map (hit_of find docs (found_by query find docs)) (page_of query find docs)
+
+-- How many matches a find keeps in all.
+abbrev pub count_of : Tree → Find → Docs → ℕ
+count_of query find docs = length (kept_by find docs (found_by query find docs))
+
+-- The report of a find, exactly: the hits of its page, the true count as both bounds, what no document can weigh more than, and a step for each hit.
+abbrev pub report_for : Tree → Find → Docs → Report
+report_for query find docs = record {
+  hits = hits_of query find docs;
+  lower = count_of query find docs;
+  estimate = count_of query find docs;
+  upper = count_of query find docs;
+  greatest = ceil query find.scheme 1 docs;
+  steps = length (hits_of query find docs);
+}
