@@ -1,5 +1,2 @@
-mod RunLemmas
-mod MachineLemmas
 mod ReportLemmas
 mod WalkLemmas
-mod Examples

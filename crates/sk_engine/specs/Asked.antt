@@ -1,30 +1,10 @@
 -- Which finds are answered so far.
-use Rattle.std.specs.Prelude.{◌≡◌, ◌≤◌, ◌+◌, ◌&&◌, ◌||◌, ◌==◌, not, ℕ, Bool, true, false, is_none, None, List, length, bytes_eq, codes, chars}
-use Rattle.std.specs.List.{list_all}
-use Rattle.sk_text.specs.Characters.{is_word_char}
+use Rattle.std.specs.Prelude.{◌≡◌, ◌≤◌, ◌+◌, ◌&&◌, ◌==◌, Bool, true, false, is_none, None}
 use Rattle.sk_base.specs.declared.find.Ask.{Ask}
-use Rattle.sk_base.specs.declared.find.Ask.TheVariants as Ask
 use Rattle.sk_base.specs.declared.find.Find.{Find}
-use Rattle.sk_base.specs.declared.find.Join.{Join}
-use Rattle.sk_base.specs.declared.find.Join.TheVariants as Join
 use Rattle.sk_base.specs.declared.find.Scheme.{Scheme}
-use Rattle.sk_base.specs.declared.find.Scheme.TheVariants as Scheme
 use Rattle.sk_base.specs.declared.rank.Order.{Order}
-use Rattle.sk_base.specs.declared.rank.Order.TheVariants as Order
-
--- Word characters alone, at least one.
-abbrev pub is_word_text : List ℕ → Bool
-is_word_text text = not (length text == 0) && list_all is_word_char (chars text)
-
--- The words that join others in a query text.
-abbrev pub is_operator : List ℕ → Bool
-is_operator text =
-    bytes_eq text (codes "AND") || bytes_eq text (codes "OR") || bytes_eq text (codes "XOR")
-    || bytes_eq text (codes "NOT") || bytes_eq text (codes "NEAR") || bytes_eq text (codes "ADJ")
-
--- One word and nothing else, and none that joins others.
-abbrev pub is_one_word : List ℕ → Bool
-is_one_word text = is_word_text text && not (is_operator text)
+use Rattle.sk_run.specs.Asked.{is_one_word, is_word_ask}
 
 -- The query is a text of one word. (Other texts, and trees, are not answered as yet.)
 abbrev pub IsOneWord : Ask → Type 0
@@ -37,12 +17,6 @@ pub record IsAsked (find : Find) : Type 0 where
   pub page : find.first + find.size ≤ 100000
   pub order : find.order ≡ Order.Relevance
   pub alone : find.collapse ≡ None
-
--- One word, with no word on how it is joined.
-abbrev pub is_word_ask : Ask → Bool
-is_word_ask (Ask.Text text Join.Or) = is_one_word text
-is_word_ask (Ask.Text text Join.And) = false
-is_word_ask (Ask.Tree value) = false
 
 -- Each wdf weighs as it is.
 abbrev pub is_nnn : Scheme → Bool

@@ -5,8 +5,7 @@ use Rattle.sk_base.specs.declared.schema.Field.{Field}
 use Rattle.sk_model.specs.Edits.{Live}
 use Rattle.sk_model.specs.Reports.{Reports}
 use Rattle.sk_engine.specs.declared.session.Session.{Session}
-use Rattle.sk_engine.specs.declared.response.Response.{Response}
-use Rattle.sk_engine.specs.declared.response.Response.TheVariants as Response
+use Rattle.sk_run.specs.declared.response.Response.{Response}
 use Rattle.sk_engine.specs.declared.session.Answer.{Answer}
 use Rattle.sk_engine.specs.declared.session.Answer.TheVariants.{Found}
 

@@ -1,18 +1,15 @@
-//! The session and the run over lines.
+//! The session, and the run over lines.
 #![tactic(auto)]
 
 mod asked;
-mod machine;
-mod refusal;
-mod response;
 mod runs;
 mod search;
 mod session;
-mod status;
+mod store;
 
 pub use runs::run;
 pub use session::{Answer, Session};
-pub use status::Status;
+pub use sk_run::Status;
 
 #[cfg(test)]
 mod tests;

@@ -1,15 +1,15 @@
 ghost use Rattle.std.specs.Prelude.{◌≡◌, ◌≤◌, ◌+◌, [], ◌∷◌, true, length, codes, IfOk, IfSome};
 ghost use Rattle.sk_base.specs.declared.schema.FieldKind.TheVariants as FieldKind;
 ghost use Rattle.sk_base.specs.Records.{FitsEdit};
-ghost use Rattle.sk_engine.specs.Asked.{is_one_word};
+ghost use Rattle.sk_run.specs.Asked.{is_one_word};
 
 use super::*;
-use crate::asked::is_one_word;
 use sk_base::{
     Ask, Edit, Entry, Field, FieldKind, FieldValue, Find, Items, Join, Order, Record, Reply,
     Schema, Scheme, Text,
 };
 use sk_io::{MemorySink, MemorySource, Sink, Source};
+use sk_run::is_one_word;
 use sk_steps::Steps;
 use std::alloc::{AllocError, Global};
 use std::marker::Brand;

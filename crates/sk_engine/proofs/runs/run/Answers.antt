@@ -1,5 +1,0 @@
-use Rattle.sk_engine.proofs.RunLemmas.{too_much}
-use Rattle.sk_engine.proofs.runs.run.Goals as goal
-
-pub returns-clause-too_much : goal.returns-clause-too_much
-returns-clause-too_much g c = λ is bytes told. too_much c.answer_lines.result _ _ c.answer_lines.ensures is bytes told

@@ -1,0 +1,4 @@
+mod RunLemmas
+mod MachineLemmas
+mod Examples
+mod EndLemmas

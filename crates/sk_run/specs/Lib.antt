@@ -1,0 +1,11 @@
+pub mod Asked
+pub mod Refusals
+pub mod Responses
+pub mod Meaning
+pub mod Output
+pub mod Machines
+pub mod Statuses
+pub mod Forms
+pub mod Ends
+pub mod Ended
+pub mod Lines

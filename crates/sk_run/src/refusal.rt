@@ -1,0 +1,61 @@
+//! Why a line is refused.
+ghost use Rattle.std.specs.Prelude.{◌≡◌};
+
+/// Why a line is refused. The tests are made in this order.
+#[derive(Clone, Copy, Debug, PartialEq, Eq)]
+pub enum Refusal {
+    /// The line has more bytes than a line may have.
+    TooLong,
+    /// The line is read as no JSON value.
+    NotJson,
+    /// No schema was accepted before, and the line brings none.
+    NoSchema,
+    /// A schema was accepted before, and the line brings another.
+    SchemaAgain,
+    /// The value has none of the forms of a command.
+    BadShape,
+    /// A rule on fields is broken.
+    BadField,
+    /// The greatest id was used before.
+    NoIdLeft,
+    /// No live document has the id.
+    NotFound,
+    /// The tree of a find is no query.
+    BadTree,
+}
+
+impl Refusal {
+    ghost use Rattle.sk_run.specs.Refusals.{number_of, name_of};
+
+    pub fn number(self) -> u32
+        ensures { result ≡ number_of self }
+    {
+        match self {
+            Refusal::TooLong => 1,
+            Refusal::NotJson => 2,
+            Refusal::NoSchema => 3,
+            Refusal::SchemaAgain => 4,
+            Refusal::BadShape => 5,
+            Refusal::BadField => 6,
+            Refusal::NoIdLeft => 7,
+            Refusal::NotFound => 8,
+            Refusal::BadTree => 10,
+        }
+    }
+
+    pub fn name(self) -> &'static str
+        ensures { result.now ≡ name_of self }
+    {
+        match self {
+            Refusal::TooLong => "TooLong",
+            Refusal::NotJson => "NotJson",
+            Refusal::NoSchema => "NoSchema",
+            Refusal::SchemaAgain => "SchemaAgain",
+            Refusal::BadShape => "BadShape",
+            Refusal::BadField => "BadField",
+            Refusal::NoIdLeft => "NoIdLeft",
+            Refusal::NotFound => "NotFound",
+            Refusal::BadTree => "BadTree",
+        }
+    }
+}

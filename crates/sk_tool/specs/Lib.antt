@@ -1,2 +1,0 @@
--- The modules of the specs.
-pub mod Messages
