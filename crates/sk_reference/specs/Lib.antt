@@ -1,0 +1,3 @@
+pub mod Shelved
+pub mod Wanting
+pub mod Answers
