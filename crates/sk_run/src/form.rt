@@ -12,7 +12,7 @@ use crate::runs::answer_lines;
 use crate::{Status, Store};
 use sk_io::{Sink, Source};
 use sk_steps::Steps;
-use std::alloc::Global;
+use std::alloc::{AllocError, Global};
 use std::sync::ledger::Ledger;
 use std::env::Args;
 use std::io;
@@ -54,7 +54,7 @@ pub fn arguments(alloc: Global, args: io::Result<Args>) -> Result<Vec<String>, S
     ensures refused { IfErr args (λ error. IsErr result) }
 {
     match args {
-        Ok(all) => match all.collect(alloc) {
+        Ok(all) => match collected(alloc, all) {
             Ok(words) => Ok(words),
             Err(_) => Err(Status::Memory),
         },
@@ -66,6 +66,16 @@ pub fn arguments(alloc: Global, args: io::Result<Args>) -> Result<Vec<String>, S
             }
         }
     }
+}
+
+fn collected(alloc: Global, args: Args) -> Result<Vec<String>, AllocError>
+    ensures { IfOk result (λ words. words.items ≡ args.rest.items) }
+{
+    let mut words = Vec::new(alloc);
+    'words: for word in args {
+        words.push(word)?;
+    }
+    Ok(words)
 }
 
 /// The words behind the program's name, which is the first argument.
