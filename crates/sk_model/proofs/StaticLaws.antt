@@ -14,7 +14,7 @@ use Rattle.sk_base.specs.declared.find.Scheme.{Scheme}
 use Rattle.sk_base.specs.declared.rank.Order.{Order}
 use Rattle.sk_base.specs.declared.rank.Rank.{Rank}
 use Rattle.sk_base.specs.Documents.{has_term, begins_with, value_in, has_value}
-use Rattle.sk_base.specs.Numbers.{Docs, length_of, terms_with, wild_length_of, slot_length_of}
+use Rattle.sk_base.specs.Numbers.{Docs, live_of, length_of, terms_with, wild_length_of, slot_length_of}
 use Rattle.sk_query.specs.declared.form.Form.{Form}
 use Rattle.sk_query.specs.Trees.{Tree, nothing, all, term, wildcard, parts, near, phrase, synonym, scale, range, Trees, no_trees, tree}
 use Rattle.sk_query.specs.Fits.{is_sound, are_sound, has_parts, is_factor}
@@ -330,3 +330,47 @@ matches_counted query scheme order (one ∷ docs) =
 -- no more documents match than the static count says
 pub matches_within : (query : Tree) (scheme : Scheme) (order : Order) (above : ℕ) (docs : Docs) → is_sound above query ≡ true → length (matches query scheme order docs) ≤ static_count query docs
 matches_within query scheme order above docs e = omega (arith, matches_counted query scheme order docs, tree_count scheme docs query above 1 e)
+
+-- ---- live documents
+
+live_length : (t : List ℕ) (docs : Docs) → length_of t docs ≤ live_of docs
+live_length t docs = count_by-le-length (λ (one : ℕ × Doc). has_term t one.1.terms) docs
+
+least_live : (ts : List (List ℕ)) (docs : Docs) → least_length ts docs ≤ live_of docs
+least_live [] docs = omega arith
+least_live (t ∷ []) docs = live_length t docs
+least_live (t ∷ s ∷ ts) docs = omega (arith, live_length t docs)
+
+none_crossed : (crossed : Bool) (n live : ℕ) → n ≤ live → (if crossed then 0 else n) ≤ live
+none_crossed true n live h = omega arith
+none_crossed false n live h = h
+
+module _ (docs : Docs) where
+  mutual
+    -- the static count is not above the number of documents
+    pub static_live : (q : Tree) → static_count q docs ≤ live_of docs
+    static_live nothing = omega arith
+    static_live all = omega arith
+    static_live (term t) = live_length t docs
+    static_live (wildcard prefix) = omega arith
+    static_live (parts Form.And ts) = least_parts_live ts
+    static_live (parts Form.Or ts) = omega arith
+    static_live (parts Form.Xor ts) = omega arith
+    static_live (parts Form.Max ts) = omega arith
+    static_live (parts Form.AndNot ts) = first_part_live ts
+    static_live (parts Form.AndMaybe ts) = first_part_live ts
+    static_live (parts Form.Filter ts) = least_parts_live ts
+    static_live (near window ts) = least_live ts docs
+    static_live (phrase window ts) = least_live ts docs
+    static_live (synonym ts) = omega arith
+    static_live (scale f t) = static_live t
+    static_live (range slot lo hi) = none_crossed (is_crossed (end_of lo) (end_of hi)) (slot_length_of slot docs) (live_of docs) (count_by-le-length (λ (one : ℕ × Doc). has_value slot one.1.values) docs)
+
+    least_parts_live : (ts : Trees) → least_in (statics ts docs) ≤ live_of docs
+    least_parts_live no_trees = omega arith
+    least_parts_live (tree t no_trees) = static_live t
+    least_parts_live (tree t (tree s ts)) = let first : static_count t docs ≤ live_of docs = static_live t in omega (arith, first)
+
+    first_part_live : (ts : Trees) → first_in (statics ts docs) ≤ live_of docs
+    first_part_live no_trees = omega arith
+    first_part_live (tree t ts) = static_live t

@@ -1,6 +1,6 @@
 -- How much a document can weigh, and how many can match, by numbers that are known without reading a list.
 -- Source: What they bound is Xapian's `MSet::get_max_possible` and `MSet::get_matches_upper_bound`; the recursions are own.
-use Rattle.std.specs.Prelude.{ℕ, ◌+◌, ◌-◌, ◌*◌, ◌^◌, min, max, nat_lt, List, [], ◌∷◌, if◌then◌else◌}
+use Rattle.std.specs.Prelude.{ℕ, ◌+◌, ◌-◌, ◌*◌, ◌^◌, min, max, nat_lt, List, [], ◌∷◌, map, if◌then◌else◌}
 use Rattle.sk_base.specs.declared.find.Scheme.{Scheme}
 use Rattle.sk_base.specs.Numbers.{Docs, live_of, length_of, greatest_of, wild_length_of, wild_greatest_of, slot_length_of}
 use Rattle.sk_query.specs.declared.form.Form.{Form}
@@ -8,39 +8,6 @@ use Rattle.sk_query.specs.Trees.{Tree, nothing, all, term, wildcard, parts, near
 use Rattle.sk_model.specs.Weights.{weigh_by}
 use Rattle.sk_model.specs.Combining.{folded}
 use Rattle.sk_model.specs.Ranges.{end_of, is_crossed}
-
--- A term's: the weight of its greatest wdf, and 0 where no document has it.
-abbrev pub term_ceil : Scheme → ℕ → List ℕ → Docs → ℕ
-term_ceil scheme factor t docs = if nat_lt 0 (length_of t docs) then weigh_by factor scheme (greatest_of t docs) else 0
-
--- Those of terms, added.
-abbrev pub terms_ceil : Scheme → ℕ → List (List ℕ) → Docs → ℕ
-terms_ceil scheme factor [] docs = 0
-terms_ceil scheme factor (t ∷ ts) docs = term_ceil scheme factor t docs + terms_ceil scheme factor ts docs
-
--- How long the lists of terms are in all.
-abbrev pub lengths_of : List (List ℕ) → Docs → ℕ
-lengths_of [] docs = 0
-lengths_of (t ∷ ts) docs = length_of t docs + lengths_of ts docs
-
--- The greatest wdfs of terms, added.
-abbrev pub greatests_of : List (List ℕ) → Docs → ℕ
-greatests_of [] docs = 0
-greatests_of (t ∷ ts) docs = greatest_of t docs + greatests_of ts docs
-
--- That of several terms as one: the weight of the sum of their greatest wdfs, which is below 2^29, and 0 where no document has one of them.
-abbrev pub joint_ceil : Scheme → ℕ → ℕ → ℕ → ℕ
-joint_ceil scheme factor long greatest = if nat_lt 0 long then weigh_by factor scheme (min (2 ^ 29 - 1) greatest) else 0
-
--- No more than there are documents.
-abbrev pub at_most_live : ℕ → Docs → ℕ
-at_most_live n docs = min (live_of docs) n
-
--- The least length of the lists of terms.
-abbrev pub least_length : List (List ℕ) → Docs → ℕ
-least_length [] docs = 0
-least_length (t ∷ []) docs = length_of t docs
-least_length (t ∷ s ∷ ts) docs = min (length_of t docs) (least_length (s ∷ ts) docs)
 
 -- The sum of bounds.
 abbrev pub sum_in : List ℕ → ℕ
@@ -60,6 +27,34 @@ least_in (b ∷ c ∷ bounds) = min b (least_in (c ∷ bounds))
 abbrev pub first_in : List ℕ → ℕ
 first_in [] = 0
 first_in (b ∷ bounds) = b
+
+-- A term's: the weight of its greatest wdf, and 0 where no document has it.
+abbrev pub term_ceil : Scheme → ℕ → List ℕ → Docs → ℕ
+term_ceil scheme factor t docs = if nat_lt 0 (length_of t docs) then weigh_by factor scheme (greatest_of t docs) else 0
+
+-- Those of terms, added.
+abbrev pub terms_ceil : Scheme → ℕ → List (List ℕ) → Docs → ℕ
+terms_ceil scheme factor ts docs = sum_in (map (λ t. term_ceil scheme factor t docs) ts)
+
+-- How long the lists of terms are in all.
+abbrev pub lengths_of : List (List ℕ) → Docs → ℕ
+lengths_of ts docs = sum_in (map (λ t. length_of t docs) ts)
+
+-- The least length of the lists of terms.
+abbrev pub least_length : List (List ℕ) → Docs → ℕ
+least_length ts docs = least_in (map (λ t. length_of t docs) ts)
+
+-- The greatest wdfs of terms, added.
+abbrev pub greatests_of : List (List ℕ) → Docs → ℕ
+greatests_of ts docs = sum_in (map (λ t. greatest_of t docs) ts)
+
+-- That of several terms as one: the weight of the sum of their greatest wdfs, which is below 2^29, and 0 where no document has one of them.
+abbrev pub joint_ceil : Scheme → ℕ → ℕ → ℕ → ℕ
+joint_ceil scheme factor long greatest = if nat_lt 0 long then weigh_by factor scheme (min (2 ^ 29 - 1) greatest) else 0
+
+-- No more than there are documents.
+abbrev pub at_most_live : ℕ → Docs → ℕ
+at_most_live n docs = min (live_of docs) n
 
 -- How much a query of several can weigh, by its form and how much its parts can.
 abbrev pub ceil_of : Form → List ℕ → ℕ

@@ -5,7 +5,7 @@ ghost use Rattle.sk_base.specs.declared.find.Scheme.{Scheme};
 ghost use Rattle.sk_base.specs.declared.rank.Order.{Order};
 ghost use Rattle.sk_base.specs.Documents.{AreTerms};
 ghost use Rattle.sk_base.specs.Loads.{IsLight};
-ghost use Rattle.sk_base.specs.Numbers.{Docs};
+ghost use Rattle.sk_base.specs.Numbers.{Docs, live_of};
 ghost use Rattle.sk_query.specs.Trees.{Tree};
 ghost use Rattle.sk_query.specs.Fits.{is_sound, leaves_of};
 ghost use Rattle.sk_model.specs.Scores.{score};
@@ -28,6 +28,11 @@ pub fn score_within_ceil()
 pub fn matches_within_static()
     ensures { (query : Tree) (scheme : Scheme) (order : Order) (above : ℕ) (docs : Docs)
         → is_sound above query ≡ true → length (matches query scheme order docs) ≤ static_count query docs }
+{}
+
+/// A law: `static_count` is not above the number of documents.
+pub fn static_within_live()
+    ensures { (query : Tree) (docs : Docs) → static_count query docs ≤ live_of docs }
 {}
 
 /// Laws: weights fit. Under a sound query and a factor of at most 65,536, over light documents, nothing weighs more than

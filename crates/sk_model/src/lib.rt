@@ -10,7 +10,7 @@ mod page;
 mod reports;
 mod settled;
 
-pub use bounds::{matches_within_static, score_within_ceil, weights_fit};
+pub use bounds::{matches_within_static, score_within_ceil, static_within_live, weights_fit};
 pub use combining::{
     first_and_others, scores_in_any_order, scores_in_pieces, scores_that_are_there,
 };
