@@ -1,5 +1,7 @@
 -- Laws of entries in order of their ids: order, `put`, `without`, `found`, `from`.
-use Rattle.std.proofs.Common.{◌≡◌, ◌≢◌, ℕ, zero, suc, ◌+◌, ◌-◌, ◌<◌, ◌≤◌, ◌^◌, List, [], ◌∷◌, ◌++◌, length, drop, None, Some, refl, arith}
+use Rattle.std.proofs.Common.{◌∙◌, ◌≡◌, ◌≢◌, ℕ, zero, suc, ◌+◌, ◌-◌, ◌<◌, ◌≤◌, ◌^◌, List, [], ◌∷◌, ◌++◌, length, drop, None, Some, refl, arith, subst, inl, inr, sym}
+use Rattle.std.specs.List.{AllByRecursion}
+use Rattle.std.proofs.lemmas.Bool.{cases_order, cases_eq}
 use Rattle.std.proofs.lemmas.Bool.Decides.{nat_tests}
 use Rattle.sk_sorted.specs.Entries.{RiseAbove, LieBelow, AreSorted, put, without, found, from}
 
@@ -124,6 +126,36 @@ module _ {X : Type 0} where
   pub without-absent : (id : ℕ) (es : List (ℕ × X)) → found id es ≡ None → without id es ≡ es
   without-absent id [] none = refl
   without-absent id (e ∷ es) none = grind (arith, nat_tests, without-absent id es)
+
+  -- what holds of each entry and of what is put holds of each behind it
+  pub AllByRecursion-put : (P : ℕ × X → Type 0) (id : ℕ) (x : X) (es : List (ℕ × X)) → P (id, x) → AllByRecursion P es → AllByRecursion P (put id x es)
+  AllByRecursion-put P id x [] own all = (own, tt)
+  AllByRecursion-put P id x (e ∷ es) own all = elim (cases_order e.0 id) [
+    | inl same ↦ rw (put-here id x e es same) (subst (λ n. P (n, x)) (sym same) own, all.1)
+    | inr apart ↦ elim apart [
+      | inl after ↦ rw (put-after id x e es after) (all.0, AllByRecursion-put P id x es own all.1)
+      | inr before ↦ rw (put-before id x e es before) (own, all)
+    ]
+  ]
+
+  -- what holds of each entry holds of each that is left
+  pub AllByRecursion-without : (P : ℕ × X → Type 0) (id : ℕ) (es : List (ℕ × X)) → AllByRecursion P es → AllByRecursion P (without id es)
+  AllByRecursion-without P id [] all = tt
+  AllByRecursion-without P id (e ∷ es) all = elim (cases_eq e.0 id) [
+    | inl same ↦ rw (without-here id e es same) all.1
+    | inr apart ↦ rw (without-other id e es apart) (all.0, AllByRecursion-without P id es all.1)
+  ]
+
+  -- what holds of each entry holds of the one that is found
+  pub AllByRecursion-found : (P : X → Type 0) (id : ℕ) (x : X) (es : List (ℕ × X)) → AllByRecursion (λ e. P e.1) es → found id es ≡ Some x → P x
+  AllByRecursion-found P id x [] all there = cc
+  AllByRecursion-found P id x (e ∷ es) all there = elim (cases_eq e.0 id) [
+    | inl same ↦ let is : e.1 ≡ x = some_inner (sym (found-here id e es same) ∙ there) in subst P is all.0
+    | inr apart ↦ AllByRecursion-found P id x es all.1 (sym (found-other id e es apart) ∙ there)
+  ]
+    where
+      some_inner : {y z : X} → Some y ≡ Some z → y ≡ z
+      some_inner same = cc
 
   -- what is not above the bound cannot be taken out
   pub without-below : (low id : ℕ) (es : List (ℕ × X)) → id ≤ low → RiseAbove low es → without id es ≡ es
