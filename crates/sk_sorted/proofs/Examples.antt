@@ -1,6 +1,6 @@
 -- The words on entries, computed.
 use Rattle.std.proofs.Common.{◌≡◌, ℕ, List, [], ◌∷◌, Some, None, refl}
-use Rattle.sk_sorted.specs.Entries.{put, without, found, from, last_id, ids_of}
+use Rattle.sk_sorted.specs.Entries.{put, without, found, from, top_id, ids_of}
 use Rattle.sk_sorted.specs.Places.{id_at}
 
 abbrev three : List (ℕ × ℕ)
@@ -34,7 +34,7 @@ from_there = refl
 from_behind : from 10 three ≡ []
 from_behind = refl
 
-last : last_id 0 three ≡ 9
+last : top_id 0 three ≡ 9
 last = refl
 
 ids : ids_of three ≡ 2 ∷ 5 ∷ 9 ∷ []

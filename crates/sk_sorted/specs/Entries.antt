@@ -46,9 +46,9 @@ first_id [] = None
 first_id (e ∷ es) = Some e.0
 
 -- The id of the last entry, `low` where there is none.
-abbrev pub last_id : {X : Type 0} → ℕ → List (ℕ × X) → ℕ
-last_id low [] = low
-last_id low (e ∷ es) = last_id e.0 es
+abbrev pub top_id : {X : Type 0} → ℕ → List (ℕ × X) → ℕ
+top_id low [] = low
+top_id low (e ∷ es) = top_id e.0 es
 
 -- The ids of the entries.
 abbrev pub ids_of : {X : Type 0} → List (ℕ × X) → List ℕ
