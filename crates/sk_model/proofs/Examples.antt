@@ -513,7 +513,7 @@ wanted_check = refl
 seen_first : weights (seen (record ten { options = record ten.options { size = 2 } }) (matches red_fox Scheme.Nnn Order.Relevance four)) ≡ (1, 3) ∷ (2, 1) ∷ []
 seen_first = refl
 
-one_duplicate : (let find : Find = record (sites 1 Order.Relevance) { size = 2 } in duplicates find four (seen find (matches red_fox Scheme.Nnn Order.Relevance four))) ≡ 1
+one_duplicate : (let find : Find = record (sites 1 Order.Relevance) { options = record (sites 1 Order.Relevance).options { size = 2 } } in duplicates find four (seen find (matches red_fox Scheme.Nnn Order.Relevance four))) ≡ 1
 one_duplicate = refl
 
 -- ---- bounds

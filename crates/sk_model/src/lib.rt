@@ -4,6 +4,7 @@
 mod bounds;
 mod counts;
 mod documents;
+mod one_word;
 mod order;
 mod page;
 mod reports;
@@ -12,6 +13,7 @@ mod settled;
 pub use bounds::{matches_within_static, score_within_ceil};
 pub use counts::{counts_are_there, counts_in_order};
 pub use documents::{slots_of_schema, terms_of_mentions};
+pub use one_word::is_one_word;
 pub use order::one_order;
 pub use page::{kept_by_keys, kept_of_front};
 pub use reports::reports_are_there;

@@ -2,20 +2,9 @@
 ghost use Rattle.std.specs.Prelude.{◌≡◌, chars};
 ghost use Rattle.std.specs.List.{list_all};
 ghost use Rattle.sk_text.specs.Characters.{is_word_char};
-ghost use Rattle.sk_run.specs.Asked.{is_word_text, is_operator, is_one_word, is_word_ask};
+ghost use Rattle.sk_model.specs.Queries.{is_word_text, is_operator, is_one_word};
 
-use sk_base::{Ask, Join};
 use sk_text::is_word;
-
-/// Whether the find asks for one word, and says nothing of how words are joined.
-pub fn is_word_ask(ask: &Ask) -> bool
-    ensures { result ≡ is_word_ask ask.now }
-{
-    match ask {
-        Ask::Text(text, Join::Or) => is_one_word(text.as_str()),
-        _ => false,
-    }
-}
 
 /// Whether the text is one word and nothing else, and none that joins others.
 pub fn is_one_word(text: &str) -> bool
