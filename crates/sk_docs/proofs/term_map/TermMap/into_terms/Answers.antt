@@ -4,7 +4,7 @@ use Rattle.std.specs.Map.{keys_of}
 use Rattle.std.specs.String.{string_cmp}
 use Rattle.sk_base.specs.Documents.{AreTerms}
 use Rattle.sk_docs.proofs.EntryLemmas.{are_terms}
-use Rattle.sk_docs.proofs.tally.Tally.into_terms.Goals as goal
+use Rattle.sk_docs.proofs.term_map.TermMap.into_terms.Goals as goal
 
 pub from_vec-requires : goal.from_vec-requires
 from_vec-requires c =

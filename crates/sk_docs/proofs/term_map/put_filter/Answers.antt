@@ -1,7 +1,7 @@
 use Rattle.std.proofs.Common.{ap, ◌∙◌, sym, refl, []}
 use Rattle.sk_docs.specs.Entries.{terms_in}
 use Rattle.sk_docs.proofs.EntryLemmas.{same_noted}
-use Rattle.sk_docs.proofs.tally.put_filter.Goals as goal
+use Rattle.sk_docs.proofs.term_map.put_filter.Goals as goal
 
 pub returns-in-Some : goal.returns-in-Some
 returns-in-Some c =

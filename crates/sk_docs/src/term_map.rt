@@ -3,9 +3,10 @@ ghost use Rattle.std.specs.Prelude.{◌≡◌, ◌<◌, ◌≤◌, ◌+◌, ◌^
 ghost use Rattle.std.specs.BTreeMap.{get_by_text};
 ghost use Rattle.sk_model.specs.Documents.{noted};
 ghost use Rattle.sk_docs.specs.Entries.{terms_in};
-ghost use Rattle.sk_docs.specs.Gathered.{HasRoom, LieBelow, after, weight_of};
+ghost use Rattle.sk_docs.specs.Gathered.{CanGather, LieBelow, after};
+ghost use Rattle.sk_base.specs.Loads.{load_of};
 
-use crate::found::Found;
+use crate::mentioned::Mentioned;
 use sk_base::{DocTerm, DocTerms, Positions, Text};
 use std::alloc::{AllocError, Global};
 use std::collections::BTreeMap;
@@ -13,12 +14,12 @@ use std::marker::Model;
 
 /// The terms that were met, and which indexed word comes next.
 #[derive(Debug, Drop)]
-pub struct Tally {
-    found: BTreeMap<String, Found>,
+pub struct TermMap {
+    found: BTreeMap<String, Mentioned>,
     next: u32,
 }
 
-impl Model for Tally {
+impl Model for TermMap {
     ghost use Rattle.sk_docs.specs.Entries.{terms_in};
     ghost use Rattle.sk_docs.specs.Gathered.{Gathered};
 
@@ -27,12 +28,12 @@ impl Model for Tally {
     ghost view = { λ t. record { terms = terms_in t.found.entries; next = t.next } };
 }
 
-impl Tally {
+impl TermMap {
     /// No term yet. It takes no memory.
-    pub fn new(alloc: Global) -> Tally
+    pub fn new(alloc: Global) -> TermMap
         ensures { result ≡ record { terms = []; next = 1 } }
     {
-        Tally {
+        TermMap {
             found: BTreeMap::new(alloc),
             next: 1,
         }
@@ -46,7 +47,7 @@ impl Tally {
         step: u32,
         before: u32,
     ) -> Result<(), AllocError>
-        requires room { HasRoom self.old before 1 }
+        requires room { CanGather self.old before 1 }
         requires step { step ≤ 256 }
         ensures { OnOk result (self.new ≡ after self.old (record { term = term.now; step = step; before = before } ∷ [])) }
     {
@@ -81,12 +82,12 @@ impl Tally {
 /// Notes an occurrence of a term, behind all others.
 fn put_word(
     alloc: Global,
-    found: &mut BTreeMap<String, Found>,
+    found: &mut BTreeMap<String, Mentioned>,
     term: &str,
     step: u32,
     place: u32,
 ) -> Result<(), AllocError>
-    requires weights { weight_of (terms_in found.old.entries) + step < 2 ^ 32 }
+    requires loads { load_of (terms_in found.old.entries) + step < 2 ^ 32 }
     requires places { LieBelow place (terms_in found.old.entries) }
     ensures { OnOk result (terms_in found.new.entries
         ≡ noted (terms_in found.old.entries) (record { term = term.now; wdf = step; positions = place ∷ [] })) }
@@ -108,7 +109,7 @@ fn put_word(
 /// Notes a term of a filter, which is as it was where it was met before.
 fn put_filter(
     alloc: Global,
-    found: &mut BTreeMap<String, Found>,
+    found: &mut BTreeMap<String, Mentioned>,
     term: &str,
 ) -> Result<(), AllocError>
     ensures { OnOk result (terms_in found.new.entries ≡ noted (terms_in found.old.entries) (record { term = term.now; wdf = 0; positions = [] })) }
@@ -122,7 +123,7 @@ fn put_filter(
 /// Puts a term that was not met before.
 fn put_new(
     alloc: Global,
-    found: &mut BTreeMap<String, Found>,
+    found: &mut BTreeMap<String, Mentioned>,
     term: &str,
     wdf: u32,
     positions: Positions,
@@ -132,6 +133,6 @@ fn put_new(
         ≡ noted (terms_in found.old.entries) (record { term = term.now; wdf = wdf; positions = positions })) }
 {
     let key = String::from_str(alloc, term)?;
-    found.insert(key, Found { wdf, positions })?;
+    found.insert(key, Mentioned { wdf, positions })?;
     Ok(())
 }

@@ -3,7 +3,7 @@ use sk_base::Positions;
 
 /// What was met of a term.
 #[derive(Debug, Drop)]
-pub struct Found {
+pub struct Mentioned {
     /// The steps of its occurrences, summed.
     pub wdf: u32,
     /// Where it stands.
