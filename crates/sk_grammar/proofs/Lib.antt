@@ -1,0 +1,3 @@
+-- Lemmas.
+pub mod PieceLaws
+pub mod CuttingLaws
