@@ -4,3 +4,7 @@ pub mod Pieces
 pub mod Cutting
 pub mod Bounds
 pub mod Faults
+pub mod Brackets
+pub mod Parts
+pub mod Runs
+pub mod Meaning

@@ -7,4 +7,4 @@ mod token;
 
 pub use cutting::one_cutting;
 pub use fault::FaultKind;
-pub use token::{Kind, Token, Tokens};
+pub use token::{Kind, Mark, Token, Tokens};

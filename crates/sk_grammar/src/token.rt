@@ -43,3 +43,14 @@ pub enum Kind {
     /// They stand near each other in this order.
     Adj(u32),
 }
+
+/// What a mark before a unit says of it.
+#[derive(Clone, Copy, Debug, PartialEq, Eq)]
+pub enum Mark {
+    /// It may match.
+    Plain,
+    /// It has to match.
+    Loved,
+    /// It must not match.
+    Hated,
+}
