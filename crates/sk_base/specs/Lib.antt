@@ -6,3 +6,4 @@ pub mod Order
 pub mod Records
 pub mod Documents
 pub mod Numbers
+pub mod Loads

@@ -74,5 +74,5 @@ FitsAsk (Ask.Tree value) = Unit {0}
 -- The page ends within the first 100,000 hits, and a collapse keeps at least one document.
 pub record FitsFind (find : Find) : Type 0 where
   pub ask : FitsAsk find.ask
-  pub page : find.first + find.size ≤ 100000
+  pub page : find.options.first + find.options.size ≤ 100000
   pub collapse : IfSome find.collapse (λ c. 1 ≤ c.max)

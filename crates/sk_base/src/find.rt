@@ -34,10 +34,9 @@ pub struct Collapse {
     pub max: u32,
 }
 
-/// A find: its query, and which page of the matches is asked for.
-#[derive(Debug, Drop)]
-pub struct Find {
-    pub ask: Ask,
+/// The options of a find that name no field.
+#[derive(Clone, Copy, Debug, PartialEq, Eq)]
+pub struct Options {
     pub scheme: Scheme,
     /// The rank of the first hit, from 0.
     pub first: u32,
@@ -45,6 +44,13 @@ pub struct Find {
     pub size: u32,
     /// How many matches are counted at the least.
     pub check: u32,
+}
+
+/// A find: its query, and which page of the matches is asked for.
+#[derive(Debug, Drop)]
+pub struct Find {
+    pub ask: Ask,
+    pub options: Options,
     pub order: Order,
     pub collapse: Option<Collapse>,
 }

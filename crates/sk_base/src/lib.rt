@@ -22,7 +22,7 @@ pub use command::Command;
 pub use doc::Doc;
 pub use doc_entry::{DocTerm, SlotValue};
 pub use doc_lists::{DocTerms, SlotValues};
-pub use find::{Ask, Collapse, Find, Join, Scheme};
+pub use find::{Ask, Collapse, Find, Join, Options, Scheme};
 pub use items::Items;
 pub use positions::Positions;
 pub use rank::{Order, Rank, SortKey, total_order};

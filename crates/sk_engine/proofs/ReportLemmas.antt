@@ -135,21 +135,21 @@ allowed t find docs matching hits order alone i = length_of t docs + (key_readin
 reported_for : (find : Find) (docs : Docs) (list : Postings) (report : Report) (t : List ℕ) → find.order ≡ Order.Relevance → find.collapse ≡ None → list ≡ postings t docs → IsReportOf find docs list report
     → ReportsFor (term t) find docs report
 reported_for find docs list report t order alone is so =
-    let found : found_by (term t) find docs ≡ map (rank_in find.scheme) list =
-    ap (λ o. matches (term t) find.scheme o docs) order ∙ matches_of t find.scheme docs ∙ ap (map (rank_in find.scheme)) (sym is) in
+    let found : found_by (term t) find docs ≡ map (rank_in find.options.scheme) list =
+    ap (λ o. matches (term t) find.options.scheme o docs) order ∙ matches_of t find.options.scheme docs ∙ ap (map (rank_in find.options.scheme)) (sym is) in
     let size : length list ≡ length_of t docs = ap length is ∙ sym (length_in t docs) in
-    let matching : length (found_by (term t) find docs) ≡ length_of t docs = ap length found ∙ length-map list (rank_in find.scheme) ∙ size in
-    let page : page_of (term t) find docs ≡ slice find.first find.size (best_first Order.Relevance (map (rank_in find.scheme) list)) =
-    ap (slice find.first find.size) (kept_all find docs (found_by (term t) find docs) alone ∙ (λ i. best_first (order i) (found i))) in
+    let matching : length (found_by (term t) find docs) ≡ length_of t docs = ap length found ∙ length-map list (rank_in find.options.scheme) ∙ size in
+    let page : page_of (term t) find docs ≡ slice find.options.first find.options.size (best_first Order.Relevance (map (rank_in find.options.scheme) list)) =
+    ap (slice find.options.first find.options.size) (kept_all find docs (found_by (term t) find docs) alone ∙ (λ i. best_first (order i) (found i))) in
     let hits : report.hits ≡ map (hit_of docs) (page_of (term t) find docs) = so.hits ∙ ap (map (hit_of docs)) (sym page) in
     let kept_long : length (kept_by find docs (found_by (term t) find docs)) ≡ length_of t docs = all_kept find docs (found_by (term t) find docs) alone ∙ matching in
     let few : length report.hits ≤ length (kept_by find docs (found_by (term t) find docs)) =
-    subst (λ hits. length hits ≤ length (kept_by find docs (found_by (term t) find docs))) (sym hits) (few_hits docs find.first find.size (kept_by find docs (found_by (term t) find docs))) in
+    subst (λ hits. length hits ≤ length (kept_by find docs (found_by (term t) find docs))) (sym hits) (few_hits docs find.options.first find.options.size (kept_by find docs (found_by (term t) find docs))) in
     record {
       hits = subst (AllZip (IsHit (term t) find docs) (page_of (term t) find docs)) (sym hits) (each_hit (term t) find docs (page_of (term t) find docs) alone);
       counts = counts find docs (found_by (term t) find docs) (length_of t docs) report.lower report.upper alone matching (so.lower ∙ size) (so.upper ∙ size);
       estimate = so.estimate;
-      greatest = so.greatest ∙ ap (greatest_weight find.scheme) is ∙ ceil_is t find.scheme docs;
+      greatest = so.greatest ∙ ap (greatest_weight find.options.scheme) is ∙ ceil_is t find.options.scheme docs;
       least_steps = omega (arith, so.steps);
       most_steps = omega (arith, so.steps, size, allowed t find docs (length (found_by (term t) find docs)) (length report.hits) order alone);
     }

@@ -14,7 +14,7 @@ IsOneWord (Ask.Tree value) = ⊥
 -- A word is asked for, the page ends within the first 100,000 hits, the best by weight come first, and nothing is collapsed.
 pub record IsAsked (find : Find) : Type 0 where
   pub word : IsOneWord find.ask
-  pub page : find.first + find.size ≤ 100000
+  pub page : find.options.first + find.options.size ≤ 100000
   pub order : find.order ≡ Order.Relevance
   pub alone : find.collapse ≡ None
 
@@ -34,4 +34,4 @@ is_relevance (Order.RelevanceThenValue key) = false
 -- The finds that a run answers: one word, and each option as it is where nothing is said. (Others are refused as lines of a bad shape, until they are answered.)
 abbrev pub is_built : Find → Bool
 is_built find =
-    is_word_ask find.ask && (is_nnn find.scheme && ((find.first == 0) && ((find.size == 10) && ((find.check == 0) && (is_relevance find.order && is_none find.collapse)))))
+    is_word_ask find.ask && (is_nnn find.options.scheme && ((find.options.first == 0) && ((find.options.size == 10) && ((find.options.check == 0) && (is_relevance find.order && is_none find.collapse)))))

@@ -10,7 +10,7 @@ use Rattle.sk_engine.specs.Asked.{is_built}
 
 -- What a find is answered by whether its form is built: a report that it may have over these live documents, or else a refusal as a line of a bad shape.
 abbrev pub ShowsFor : Bool → Find → Live → Response → Type 0
-ShowsFor true find live answer = (report : Report) × Reports find live report × (answer ≡ Response.Found find.first report)
+ShowsFor true find live answer = (report : Report) × Reports find live report × (answer ≡ Response.Found find.options.first report)
 ShowsFor false find live answer = answer ≡ Response.Refused Refusal.BadShape
 
 -- What a find is answered over these live documents: a report that it may have, where its form is built, and else it is refused as a line of a bad shape.

@@ -28,9 +28,9 @@ hit_of docs rank = record { id = rank.id; weight = rank.weight; collapsed = 0; p
 
 -- all of the list was read, and its documents are all matches
 pub record IsReportOf (find : Find) (docs : Docs) (list : Postings) (report : Report) : Type 0 where
-  pub hits : report.hits ≡ map (hit_of docs) (slice find.first find.size (best_first Order.Relevance (map (rank_in find.scheme) list)))
+  pub hits : report.hits ≡ map (hit_of docs) (slice find.options.first find.options.size (best_first Order.Relevance (map (rank_in find.options.scheme) list)))
   pub lower : report.lower ≡ length list
   pub upper : report.upper ≡ length list
   pub estimate : report.estimate ≡ (report.lower + report.upper) / 2
-  pub greatest : report.greatest ≡ greatest_weight find.scheme list
+  pub greatest : report.greatest ≡ greatest_weight find.options.scheme list
   pub steps : report.steps ≡ length list + length report.hits

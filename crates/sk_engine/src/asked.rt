@@ -10,10 +10,10 @@ pub fn is_built(find: &Find) -> bool
     ensures { result ≡ is_built find.now }
 {
     is_word_ask(&find.ask)
-        && is_nnn(find.scheme)
-        && find.first == 0
-        && find.size == 10
-        && find.check == 0
+        && is_nnn(find.options.scheme)
+        && find.options.first == 0
+        && find.options.size == 10
+        && find.options.check == 0
         && is_relevance(&find.order)
         && find.collapse.is_none()
 }

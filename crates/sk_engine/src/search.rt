@@ -67,11 +67,11 @@ fn report_of<L: Ledger>(
     ensures report { IfOk result (IsReportOf find.now index.now.live.documents list.now) }
     ensures cost { IfOk result (λ report. steps.new ≡ steps.old + report.steps) }
 {
-    let greatest = greatest_weight(list, find.scheme);
+    let greatest = greatest_weight(list, find.options.scheme);
     let count = list.length();
-    let mut matches = all_matches(alloc, list, find.scheme, steps)?;
+    let mut matches = all_matches(alloc, list, find.options.scheme, steps)?;
     sort_best_first(&mut matches.ranks);
-    let hits = page(alloc, index, &matches.ranks, find.first, find.size, steps)?;
+    let hits = page(alloc, index, &matches.ranks, find.options.first, find.options.size, steps)?;
     let spent = matches.steps + hits.as_slice().len() as u128;
     Ok(Report {
         hits,

@@ -52,7 +52,7 @@ fn show<L: Ledger>(
     ensures cost { IfOk result (λ answer. steps.new ≡ steps.old + steps_of answer) }
 {
     let answer = session.find(find, steps)?;
-    Ok(found_response(find.first, answer))
+    Ok(found_response(find.options.first, answer))
 }
 
 fn found_response(first: u32, answer: Answer) -> Response

@@ -5,7 +5,7 @@ ghost use Rattle.sk_run.specs.Asked.{is_one_word};
 
 use super::*;
 use sk_base::{
-    Ask, Edit, Entry, Field, FieldKind, FieldValue, Find, Items, Join, Order, Record, Reply,
+    Ask, Edit, Entry, Field, FieldKind, FieldValue, Find, Items, Join, Options, Order, Record, Reply,
     Schema, Scheme, Text,
 };
 use sk_io::{MemorySink, MemorySource, Sink, Source};
@@ -174,10 +174,12 @@ fn found<L: Ledger>(
     let mut steps = Steps::<L>::open(blank);
     let find = Find {
         ask: Ask::Text(Text::new(alloc, "red")?, Join::Or),
-        scheme,
-        first,
-        size,
-        check: 0,
+        options: Options {
+            scheme,
+            first,
+            size,
+            check: 0,
+        },
         order: Order::Relevance,
         collapse: None,
     };

@@ -32,7 +32,7 @@ true_counts find docs ranks static within =
 
 pub found_counts : (query : Tree) (find : Find) (above : ℕ) (docs : Docs) → is_sound above query ≡ true
     → Counts find docs (found_by query find docs) (static_count query docs) (length (kept_by find docs (found_by query find docs))) (length (kept_by find docs (found_by query find docs)))
-found_counts query find above docs e = true_counts find docs (found_by query find docs) (static_count query docs) (matches_within query find.scheme find.order above docs e)
+found_counts query find above docs e = true_counts find docs (found_by query find docs) (static_count query docs) (matches_within query find.options.scheme find.order above docs e)
 
 -- what is dropped of a key lies within the bounds on it
 pub true_collapse : (find : Find) (docs : Docs) (ranks : List Rank) (k : List ℕ) → CollapseCount find docs ranks k (dropped_by find docs k ranks)

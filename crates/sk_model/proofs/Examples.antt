@@ -394,7 +394,7 @@ four =
 
 -- a find of its first hits, so many, counting no further than it must
 abbrev first_hits : Scheme → ℕ → Order → Option Collapse → Find
-first_hits scheme size order collapse = record { ask = Ask.Text (codes "red") Join.Or; scheme = scheme; first = 0; size = size; check = 0; order = order; collapse = collapse }
+first_hits scheme size order collapse = record { ask = Ask.Text (codes "red") Join.Or; options = record { scheme = scheme; first = 0; size = size; check = 0 }; order = order; collapse = collapse }
 
 abbrev ten : Find
 ten = first_hits Scheme.Nnn 10 Order.Relevance None
@@ -405,7 +405,7 @@ weights ranks = map (λ rank. (rank.id, rank.weight)) ranks
 
 -- what a find keeps, and what a query finds as it is
 abbrev hits : Tree → Find → List (ℕ × ℕ)
-hits query find = weights (kept_by find four (matches query find.scheme find.order four))
+hits query find = weights (kept_by find four (matches query find.options.scheme find.order four))
 
 abbrev finds : Tree → List (ℕ × ℕ)
 finds query = hits query ten
@@ -503,14 +503,14 @@ no_key_dropped = refl
 -- ---- counts
 
 -- a find wants to see its page, or what it is told to check where that is more
-wanted_page : wanted (record ten { first = 3; check = 12 }) ≡ 13
+wanted_page : wanted (record ten { options = record ten.options { first = 3; check = 12 } }) ≡ 13
 wanted_page = refl
 
-wanted_check : wanted (record ten { check = 12 }) ≡ 12
+wanted_check : wanted (record ten { options = record ten.options { check = 12 } }) ≡ 12
 wanted_check = refl
 
 -- it sees the first by id, and not the best: of the first two of one site one is a duplicate
-seen_first : weights (seen (record ten { size = 2 }) (matches red_fox Scheme.Nnn Order.Relevance four)) ≡ (1, 3) ∷ (2, 1) ∷ []
+seen_first : weights (seen (record ten { options = record ten.options { size = 2 } }) (matches red_fox Scheme.Nnn Order.Relevance four)) ≡ (1, 3) ∷ (2, 1) ∷ []
 seen_first = refl
 
 one_duplicate : (let find : Find = record (sites 1 Order.Relevance) { size = 2 } in duplicates find four (seen find (matches red_fox Scheme.Nnn Order.Relevance four))) ≡ 1
@@ -612,26 +612,26 @@ other_steps = refl
 -- ---- where a page is settled
 
 -- no match after the first is so heavy as all can be: one is wanted, and two are never there
-settled_one : settled (record ten { size = 1 }) (matches red_fox Scheme.Nnn Order.Relevance four) 3 ≡ 1
+settled_one : settled (record ten { options = record ten.options { size = 1 } }) (matches red_fox Scheme.Nnn Order.Relevance four) 3 ≡ 1
 settled_one = refl
 
-settled_two : settled (record ten { size = 2 }) (matches red_fox Scheme.Nnn Order.Relevance four) 3 ≡ 4294967295
+settled_two : settled (record ten { options = record ten.options { size = 2 } }) (matches red_fox Scheme.Nnn Order.Relevance four) 3 ≡ 4294967295
 settled_two = refl
 
 -- two that weigh 2 are there at document 4
-settled_lighter : settled (record ten { size = 2 }) (matches red_fox Scheme.Nnn Order.Relevance four) 2 ≡ 4
+settled_lighter : settled (record ten { options = record ten.options { size = 2 } }) (matches red_fox Scheme.Nnn Order.Relevance four) 2 ≡ 4
 settled_lighter = refl
 
 -- three matches are to be checked, though the page is full at the first
-settled_check : settled (record ten { size = 1; check = 3 }) (matches red_fox Scheme.Nnn Order.Relevance four) 3 ≡ 3
+settled_check : settled (record ten { options = record ten.options { size = 1; check = 3 } }) (matches red_fox Scheme.Nnn Order.Relevance four) 3 ≡ 3
 settled_check = refl
 
 -- nothing is wanted
-settled_none : settled (record ten { size = 0 }) (matches red_fox Scheme.Nnn Order.Relevance four) 3 ≡ 0
+settled_none : settled (record ten { options = record ten.options { size = 0 } }) (matches red_fox Scheme.Nnn Order.Relevance four) 3 ≡ 0
 settled_none = refl
 
 -- a part that weighs 1 at most cannot matter alone behind the first document
-decays : decay_point red_fox fox (record ten { size = 1 }) four ≡ 1
+decays : decay_point red_fox fox (record ten { options = record ten.options { size = 1 } }) four ≡ 1
 decays = refl
 
 -- without weights two hits are settled at document 2: two entries of `red` and one of `fox`, one more for each list, and two hits
@@ -650,8 +650,8 @@ no_rare : rare_number (and_of (two_parts red_term (range 0 unbounded unbounded))
 no_rare = refl
 
 -- with size 1: three entries of `red`, one of `fox` up to document 1, 256 readings each for the two entries of `red` behind it and one more, and a hit; the other way round `red` settles at document 1, too
-decay : decay_number red_fox (record ten { size = 1 }) four 1 ≡ Some 773
+decay : decay_number red_fox (record ten { options = record ten.options { size = 1 } }) four 1 ≡ Some 773
 decay = refl
 
-no_decay : decay_number (or_of (three_parts red_term fox red_term)) (record ten { size = 1 }) four 1 ≡ None
+no_decay : decay_number (or_of (three_parts red_term fox red_term)) (record ten { options = record ten.options { size = 1 } }) four 1 ≡ None
 no_decay = refl

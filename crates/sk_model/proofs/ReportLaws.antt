@@ -31,7 +31,7 @@ module _ (query : Tree) (find : Find) (docs : Docs) where
     lower = length (kept_by find docs (found_by query find docs));
     estimate = (length (kept_by find docs (found_by query find docs)) + length (kept_by find docs (found_by query find docs))) / 2;
     upper = length (kept_by find docs (found_by query find docs));
-    greatest = ceil query find.scheme 1 docs;
+    greatest = ceil query find.options.scheme 1 docs;
     steps = length (map hit (page_of query find docs));
   }
 

@@ -113,11 +113,11 @@ want_least : (id n k weight : ℕ) (ranks : List Rank) (none : Bool) → (n == 0
 want_least id n k weight ranks true e rest = omega arith
 want_least id n k weight ranks false e rest = rest (is_some n e)
 
-pub least : (find : Find) (ranks : List Rank) (weight id : ℕ) → AllPairs (λ (x y : Rank). x.id < y.id) ranks → wanted find ≤ seen_up_to id ranks → find.first + find.size ≤ heavy_up_to weight id ranks
+pub least : (find : Find) (ranks : List Rank) (weight id : ℕ) → AllPairs (λ (x y : Rank). x.id < y.id) ranks → wanted find ≤ seen_up_to id ranks → find.options.first + find.options.size ≤ heavy_up_to weight id ranks
     → settled find ranks weight ≤ id
 least find ranks weight id rising a b =
-    want_least id (wanted find) (find.first + find.size) weight ranks (wanted find == 0) refl
-    (λ some. least_from weight id (wanted find) (find.first + find.size) ranks (rising_of ranks rising) (omega (arith, some)) a b)
+    want_least id (wanted find) (find.options.first + find.options.size) weight ranks (wanted find == 0) refl
+    (λ some. least_from weight id (wanted find) (find.options.first + find.options.size) ranks (rising_of ranks rising) (omega (arith, some)) a b)
 
 -- ---- up to it there is enough
 
@@ -167,10 +167,10 @@ want_enough n k weight ranks true e within some rest = let zero_is : n ≡ 0 = i
 want_enough n k weight ranks false e within some rest = rest some
 
 pub enough : (find : Find) (ranks : List Rank) (weight : ℕ) → AllPairs (λ (x y : Rank). x.id < y.id) ranks → settled find ranks weight < last_id
-    → Enough (wanted find) (find.first + find.size) weight (settled find ranks weight) ranks
+    → Enough (wanted find) (find.options.first + find.options.size) weight (settled find ranks weight) ranks
 enough find ranks weight rising within =
-    want_enough (wanted find) (find.first + find.size) weight ranks (wanted find == 0) refl (omega arith) within
-    (enough_from weight (wanted find) (find.first + find.size) ranks (rising_of ranks rising))
+    want_enough (wanted find) (find.options.first + find.options.size) weight ranks (wanted find == 0) refl (omega arith) within
+    (enough_from weight (wanted find) (find.options.first + find.options.size) ranks (rising_of ranks rising))
 
 -- ---- the least of several numbers
 
@@ -183,18 +183,18 @@ within_other n m o e = subst (λ (p : Option ℕ). at_most n p ≤ m) (sym e) (o
 
 module _ (query : Tree) (find : Find) (docs : Docs) (hits : ℕ) where
   abbrev of_list : ℕ
-  of_list = allowance query find docs (length (matches query find.scheme find.order docs)) hits
+  of_list = allowance query find docs (length (matches query find.options.scheme find.order docs)) hits
 
   abbrev of_stop : Option ℕ
   of_stop = stop_number query find docs hits
 
   abbrev of_rare : Option ℕ
-  of_rare = rare_number query find docs (length (matches query find.scheme find.order docs)) hits
+  of_rare = rare_number query find docs (length (matches query find.options.scheme find.order docs)) hits
 
   abbrev of_decay : Option ℕ
   of_decay = decay_number query find docs hits
 
-  pub sharp_allowed : sharp query find docs hits ≤ allowance query find docs (length (matches query find.scheme find.order docs)) hits
+  pub sharp_allowed : sharp query find docs hits ≤ allowance query find docs (length (matches query find.options.scheme find.order docs)) hits
   sharp_allowed =
       let one = within_first of_list of_stop in
       let two = within_first (at_most of_list of_stop) of_rare in
@@ -208,7 +208,7 @@ module _ (query : Tree) (find : Find) (docs : Docs) (hits : ℕ) where
       let three = within_first (at_most (at_most of_list of_stop) of_rare) of_decay in
       omega (arith, one, two, three)
 
-  pub sharp_rare : (n : ℕ) → rare_number query find docs (length (matches query find.scheme find.order docs)) hits ≡ Some n → sharp query find docs hits ≤ n
+  pub sharp_rare : (n : ℕ) → rare_number query find docs (length (matches query find.options.scheme find.order docs)) hits ≡ Some n → sharp query find docs hits ≤ n
   sharp_rare n e =
       let two = within_other (at_most of_list of_stop) n of_rare e in
       let three = within_first (at_most (at_most of_list of_stop) of_rare) of_decay in

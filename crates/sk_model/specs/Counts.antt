@@ -9,7 +9,7 @@ use Rattle.sk_model.specs.Page.{kept, dropped}
 
 -- How many matches a find wants to see.
 abbrev pub wanted : Find → ℕ
-wanted find = max find.check (find.first + find.size)
+wanted find = max find.options.check (find.options.first + find.options.size)
 
 -- The matches that a find must see: the first of them by id.
 abbrev pub seen : Find → List Rank → List Rank

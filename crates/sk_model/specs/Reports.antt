@@ -24,11 +24,11 @@ payload_of (Some document) = document.payload
 
 -- All that a find's query matches.
 abbrev pub found_by : Tree → Find → Docs → List Rank
-found_by query find docs = matches query find.scheme find.order docs
+found_by query find docs = matches query find.options.scheme find.order docs
 
 -- The page that a find asks for.
 abbrev pub page_of : Tree → Find → Docs → List Rank
-page_of query find docs = slice find.first find.size (kept_by find docs (found_by query find docs))
+page_of query find docs = slice find.options.first find.options.size (kept_by find docs (found_by query find docs))
 
 -- A hit is a match of the page: its id and weight, its document's payload, and how many were collapsed into it.
 pub record IsHit (query : Tree) (find : Find) (docs : Docs) (rank : Rank) (hit : Ranked) : Type 0 where
@@ -42,7 +42,7 @@ pub record ReportsFor (query : Tree) (find : Find) (docs : Docs) (report : Repor
   pub hits : AllZip (IsHit query find docs) (page_of query find docs) report.hits
   pub counts : Counts find docs (found_by query find docs) (static_count query docs) report.lower report.upper
   pub estimate : report.estimate ≡ (report.lower + report.upper) / 2
-  pub greatest : report.greatest ≡ ceil query find.scheme 1 docs
+  pub greatest : report.greatest ≡ ceil query find.options.scheme 1 docs
   pub least_steps : length report.hits ≤ report.steps
   pub most_steps : report.steps ≤ allowance query find docs (length (found_by query find docs)) (length report.hits)
 

@@ -22,15 +22,15 @@ settled_from n m weight (rank ∷ ranks) =
 
 -- The least id up to which there are as many matches as a find wants to see, and as many as its page needs of at least this weight: 0 where it wants none, and the last id where there is no such id.
 abbrev pub settled : Find → List Rank → ℕ → ℕ
-settled find ranks weight = if wanted find == 0 then 0 else settled_from (wanted find) (find.first + find.size) weight ranks
+settled find ranks weight = if wanted find == 0 then 0 else settled_from (wanted find) (find.options.first + find.options.size) weight ranks
 
 -- The stop point: behind it no document can enter the page, since none weighs more.
 abbrev pub stop_point : Tree → Find → Docs → ℕ
-stop_point query find docs = settled find (matches query find.scheme find.order docs) (ceil query find.scheme 1 docs)
+stop_point query find docs = settled find (matches query find.options.scheme find.order docs) (ceil query find.options.scheme 1 docs)
 
 -- The point from which on a part of an or cannot bring a document into the page by itself.
 abbrev pub decay_point : Tree → Tree → Find → Docs → ℕ
-decay_point query part find docs = settled find (matches query find.scheme find.order docs) (ceil part find.scheme 1 docs)
+decay_point query part find docs = settled find (matches query find.options.scheme find.order docs) (ceil part find.options.scheme 1 docs)
 
 -- How many matches have ids up to this one.
 abbrev pub seen_up_to : ℕ → List Rank → ℕ

@@ -106,5 +106,5 @@ at_most n (Some m) = min n m
 -- The least of the allowance and of the numbers that apply.
 abbrev pub sharp : Tree → Find → Docs → ℕ → ℕ
 sharp query find docs hits =
-    at_most (at_most (at_most (allowance query find docs (length (matches query find.scheme find.order docs)) hits) (stop_number query find docs hits))
-    (rare_number query find docs (length (matches query find.scheme find.order docs)) hits)) (decay_number query find docs hits)
+    at_most (at_most (at_most (allowance query find docs (length (matches query find.options.scheme find.order docs)) hits) (stop_number query find docs hits))
+    (rare_number query find docs (length (matches query find.options.scheme find.order docs)) hits)) (decay_number query find docs hits)

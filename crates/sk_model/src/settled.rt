@@ -15,22 +15,22 @@ ghost use Rattle.sk_model.specs.Sharp.{stop_number, rare_number, decay_number, s
 /// the weight as its page needs. The matches stand by rising id.
 pub fn settled_is_least()
     ensures least { (find : Find) (ranks : List Rank) (weight id : ℕ) → AllPairs (λ x y. x.id < y.id) ranks
-        → wanted find ≤ seen_up_to id ranks → find.first + find.size ≤ heavy_up_to weight id ranks
+        → wanted find ≤ seen_up_to id ranks → find.options.first + find.options.size ≤ heavy_up_to weight id ranks
         → settled find ranks weight ≤ id }
     ensures enough { (find : Find) (ranks : List Rank) (weight : ℕ) → AllPairs (λ x y. x.id < y.id) ranks
         → settled find ranks weight < last_id
         → (wanted find ≤ seen_up_to (settled find ranks weight) ranks)
-        × (find.first + find.size ≤ heavy_up_to weight (settled find ranks weight) ranks) }
+        × (find.options.first + find.options.size ≤ heavy_up_to weight (settled find ranks weight) ranks) }
 {}
 
 /// Laws: the sharper bound on steps is not above the allowance, nor above any of the numbers that apply.
 pub fn sharp_is_least()
     ensures allowed { (query : Tree) (find : Find) (docs : Docs) (hits : ℕ)
-        → sharp query find docs hits ≤ allowance query find docs (length (matches query find.scheme find.order docs)) hits }
+        → sharp query find docs hits ≤ allowance query find docs (length (matches query find.options.scheme find.order docs)) hits }
     ensures stop { (query : Tree) (find : Find) (docs : Docs) (hits n : ℕ)
         → stop_number query find docs hits ≡ Some n → sharp query find docs hits ≤ n }
     ensures rare { (query : Tree) (find : Find) (docs : Docs) (hits n : ℕ)
-        → rare_number query find docs (length (matches query find.scheme find.order docs)) hits ≡ Some n
+        → rare_number query find docs (length (matches query find.options.scheme find.order docs)) hits ≡ Some n
         → sharp query find docs hits ≤ n }
     ensures decay { (query : Tree) (find : Find) (docs : Docs) (hits n : ℕ)
         → decay_number query find docs hits ≡ Some n → sharp query find docs hits ≤ n }

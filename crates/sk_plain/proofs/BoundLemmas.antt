@@ -9,7 +9,7 @@ use Rattle.sk_base.specs.Numbers.{Docs, length_of, greatest_of}
 use Rattle.sk_query.specs.declared.query.Query.{Query}
 use Rattle.sk_query.specs.Trees.{Tree, Trees, no_trees, tree, query_view, queries_view}
 use Rattle.sk_model.specs.Bounds.{lengths_of, least_length, static_count, static_least}
-use Rattle.sk_plain.specs.Loads.{load_of, IsLight}
+use Rattle.sk_base.specs.Loads.{load_of, IsLight}
 
 wdf_step : (b : Bool) (w m n : ℕ) → m ≤ n → cond b w m ≤ w + n
 wdf_step true w m n h = omega arith

@@ -7,7 +7,7 @@ use Rattle.sk_base.specs.declared.rank.Order.{Order}
 use Rattle.sk_base.specs.declared.rank.Rank.{Rank}
 use Rattle.sk_query.specs.Trees.{Tree}
 use Rattle.sk_model.specs.Matches.{rank_of, matches}
-use Rattle.sk_plain.specs.Loads.{IsLight}
+use Rattle.sk_base.specs.Loads.{IsLight}
 
 pub one_more : {X : Type 0} (xs ys : List X) (x : X) → (xs ++ x ∷ []) ++ ys ≡ xs ++ x ∷ ys
 one_more [] ys x = refl

@@ -1,3 +1,2 @@
-pub mod Loads
 pub mod Pages
 pub mod Wilds

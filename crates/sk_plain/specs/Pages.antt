@@ -36,6 +36,6 @@ report_for query find docs = record {
   lower = count_of query find docs;
   estimate = count_of query find docs;
   upper = count_of query find docs;
-  greatest = ceil query find.scheme 1 docs;
+  greatest = ceil query find.options.scheme 1 docs;
   steps = length (hits_of query find docs);
 }

@@ -3,7 +3,7 @@ ghost use Rattle.std.specs.Prelude.{◌≡◌, ◌≤◌, ◌*◌, ◌^◌, true
 ghost use Rattle.sk_query.specs.Trees.{query_view, queries_view};
 ghost use Rattle.sk_query.specs.Fits.{is_sound, are_sound, leaves_of, leaves_in};
 ghost use Rattle.sk_model.specs.Bounds.{ceil, ceil_sum, ceil_max, ceil_first, at_most_live, static_count, static_sum, static_least, static_first};
-ghost use Rattle.sk_plain.specs.Loads.{IsLight};
+ghost use Rattle.sk_base.specs.Loads.{IsLight};
 
 use crate::leaf_bounds::{
     least_length, lengths_within, synonym_ceil, term_ceil, terms_ceil, wild_ceil,

@@ -5,7 +5,7 @@ ghost use Rattle.sk_query.specs.Trees.{query_view};
 ghost use Rattle.sk_query.specs.Fits.{is_sound, leaves_of};
 ghost use Rattle.sk_model.specs.Matches.{value_for, rank_of, matches};
 ghost use Rattle.sk_model.specs.Page.{best_first, slice};
-ghost use Rattle.sk_plain.specs.Loads.{IsLight};
+ghost use Rattle.sk_base.specs.Loads.{IsLight};
 
 use crate::scores::score;
 use crate::terms::value_in;

@@ -5,7 +5,7 @@ ghost use Rattle.sk_base.specs.Numbers.{length_of, greatest_of};
 ghost use Rattle.sk_query.specs.Trees.{wildcard, synonym};
 ghost use Rattle.sk_model.specs.Weights.{weigh_by};
 ghost use Rattle.sk_model.specs.Bounds.{ceil, term_ceil, terms_ceil, lengths_of, greatests_of, at_most_live, least_length};
-ghost use Rattle.sk_plain.specs.Loads.{IsLight};
+ghost use Rattle.sk_base.specs.Loads.{IsLight};
 
 use crate::numbers::{greatest_of, length_of, live_of};
 use crate::weight::weigh_by;

@@ -4,7 +4,7 @@ ghost use Rattle.std.specs.List.{list_any};
 ghost use Rattle.sk_base.specs.Documents.{has_term};
 ghost use Rattle.sk_query.specs.Trees.{term, wildcard, near, phrase, synonym};
 ghost use Rattle.sk_model.specs.Scores.{score, terms_weight, wdf_sum};
-ghost use Rattle.sk_plain.specs.Loads.{load_of};
+ghost use Rattle.sk_base.specs.Loads.{load_of};
 
 use crate::positions::{is_near, is_phrase};
 use crate::terms::{has_prefix, has_term, wdf_of, wild_wdf};

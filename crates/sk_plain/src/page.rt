@@ -5,7 +5,7 @@ ghost use Rattle.sk_query.specs.Fits.{is_sound, leaves_of};
 ghost use Rattle.sk_model.specs.Edits.{document_at};
 ghost use Rattle.sk_model.specs.Counts.{kept_by};
 ghost use Rattle.sk_model.specs.Reports.{payload_of};
-ghost use Rattle.sk_plain.specs.Loads.{IsLight};
+ghost use Rattle.sk_base.specs.Loads.{IsLight};
 ghost use Rattle.sk_plain.specs.Pages.{hit_of, report_for};
 
 use crate::bounds::ceil;
@@ -29,9 +29,9 @@ pub fn report_of(
     requires few { length docs.now.entries < 2 ^ 32 }
     ensures { IfOk result (λ report. report ≡ report_for (query_view query.now) find.now docs.now.entries) }
 {
-    let ranks = matches(alloc, docs, query, find.scheme, find.order)?;
+    let ranks = matches(alloc, docs, query, find.options.scheme, find.order)?;
     let kept = kept_by(alloc, docs, find, ranks.as_slice())?;
-    let asked = slice(kept.as_slice(), find.first, find.size);
+    let asked = slice(kept.as_slice(), find.options.first, find.options.size);
     let hits = hits_of(alloc, docs, find, ranks.as_slice(), kept.as_slice(), asked)?;
     let count = kept.len() as u32;
     let steps = hits.len() as u128;
@@ -40,7 +40,7 @@ pub fn report_of(
         lower: count,
         estimate: count,
         upper: count,
-        greatest: ceil(docs, query, find.scheme, 1),
+        greatest: ceil(docs, query, find.options.scheme, 1),
         steps,
     })
 }

@@ -3,7 +3,7 @@ ghost use Rattle.std.specs.Prelude.{◌≡◌, ◌≤◌, ◌<◌, ◌*◌, ◌^
 ghost use Rattle.sk_query.specs.Trees.{query_view, queries_view};
 ghost use Rattle.sk_query.specs.Fits.{is_sound, are_sound, leaves_of, leaves_in};
 ghost use Rattle.sk_model.specs.Scores.{score, all_scores, any_score, max_score, matching, not_score, maybe_score, filter_score, where_so, is_odd};
-ghost use Rattle.sk_plain.specs.Loads.{load_of};
+ghost use Rattle.sk_base.specs.Loads.{load_of};
 
 use crate::combine::{either, greater, where_so};
 use crate::leaves::{near_score, phrase_score, synonym_score, term_score, wild_score};

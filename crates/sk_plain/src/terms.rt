@@ -3,7 +3,7 @@ ghost use Rattle.std.specs.Prelude.{◌≡◌, ◌≤◌, ◌<◌, ◌^◌};
 ghost use Rattle.std.specs.List.{list_any};
 ghost use Rattle.sk_base.specs.Documents.{has_term, wdf_of, positions_of, value_in, begins_with};
 ghost use Rattle.sk_model.specs.Scores.{wild_wdf};
-ghost use Rattle.sk_plain.specs.Loads.{load_of};
+ghost use Rattle.sk_base.specs.Loads.{load_of};
 
 use sk_base::{DocTerm, SlotValue};
 

@@ -18,7 +18,7 @@ use Rattle.sk_record.proofs.ShapeLemmas.{FitsAsked, FitsWanted, FitsShape}
 -- what is sought is in its ranges
 record FitsSought (sought : Sought) : Type 0 where
   asked : FitsAsked sought.asked
-  page : sought.first + sought.size ≤ 100000
+  page : sought.options.first + sought.options.size ≤ 100000
   collapse : IfSome sought.collapse (λ c. 1 ≤ c.max)
 
 -- what is told fits the fields

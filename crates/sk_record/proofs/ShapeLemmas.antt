@@ -4,10 +4,11 @@ use Rattle.std.specs.Option.{option_and_then}
 use Rattle.std.proofs.lemmas.Bool.Decides.{nat_tests}
 use Rattle.serde_json.specs.Data.{Data}
 use Rattle.serde_json.specs.Find.{get, as_str, as_object}
+use Rattle.sk_base.specs.declared.find.Options.{Options}
 use Rattle.sk_base.specs.Records.{most_bytes}
 use Rattle.sk_record.specs.Values.{has, has_only, text_at, number_of, between, optional_text, optional_number, bytes_in}
 use Rattle.sk_record.specs.Shapes.{Given, Asked, words, tree, Collapsed, Wanted, Shape, schema, add, replace, replace_by, delete, delete_by, seek, show}
-use Rattle.sk_record.specs.Options.{query_at, join_at, scheme_at, page_at, check_at, sorted_at, collapsed_on, collapsed_by, collapsed_at, wanted_at, option_names, find_row, tree_row}
+use Rattle.sk_record.specs.Options.{query_at, join_at, scheme_at, page_at, check_at, sorted_at, collapsed_on, collapsed_by, collapsed_at, options_at, wanted_at, option_names, find_row, tree_row}
 use Rattle.sk_record.specs.Rows.{values_of, given_at, id_at, pair_at, add_row, replace_row, replace_by_row, delete_row, delete_by_row, show_row, later_shape}
 use Rattle.sk_record.proofs.Choices.{some_is, chained, mapped, guarded, either, first_true, second_true}
 
@@ -19,7 +20,7 @@ FitsAsked (tree d) = Unit {0}
 -- the query, the page and the collapsing are in their ranges
 pub record FitsWanted (wanted : Wanted) : Type 0 where
   pub asked : FitsAsked wanted.asked
-  pub page : wanted.first + wanted.size ≤ 100000
+  pub page : wanted.options.first + wanted.options.size ≤ 100000
   pub collapsed : IfSome wanted.collapsed (λ c. 1 ≤ c.max)
 
 -- a shape that is no schema, and is in its ranges
@@ -71,6 +72,10 @@ page_fits d page =
     (λ size it. guarded (λ (p : ℕ × ℕ). p.0 + p.1 ≤ 100000) (nat_le (first + size) 100000) (Some (first, size)) page
     (λ few same. subst (λ (p : ℕ × ℕ). p.0 + p.1 ≤ 100000) (some_is (first, size) page same) (tested (first + size) 100000 few))))
 
+-- The page ends within the first hits that may be asked for.
+abbrev WithinHits : Options → Type 0
+WithinHits options = options.first + options.size ≤ 100000
+
 abbrev KeepsOne : Option Collapsed → Type 0
 KeepsOne o = IfSome o (λ c. 1 ≤ c.max)
 
@@ -81,14 +86,19 @@ collapsed_keeps_by d (Some value) collapsed =
     (λ field is. mapped KeepsOne (λ max. Some (record { field = field; max = max })) (option_and_then (between 1 100000) (optional_number (codes "max") 1 d)) collapsed
     (λ max made. chained (λ n. 1 ≤ n) (between 1 100000) (optional_number (codes "max") 1 d) max (λ n it e. between_least 1 100000 n max e) made))
 
+options_fit : (d : Data) (options : Options) → options_at d ≡ Some options → options.first + options.size ≤ 100000
+options_fit d options =
+    chained WithinHits _ (scheme_at d) options
+    (λ scheme i. chained WithinHits _ (page_at d) options
+    (λ page j. mapped WithinHits _ (check_at d) options
+    (λ check k. page_fits d page j)))
+
 wanted_fits : (d : Data) (asked : Asked) (wanted : Wanted) → FitsAsked asked → wanted_at d asked ≡ Some wanted → FitsWanted wanted
 wanted_fits d asked wanted fits =
-    chained FitsWanted _ (scheme_at d) wanted
-    (λ scheme i. chained FitsWanted _ (page_at d) wanted
-    (λ page j. chained FitsWanted _ (check_at d) wanted
-    (λ check k. chained FitsWanted _ (sorted_at d) wanted
-    (λ sorted l. mapped FitsWanted _ (collapsed_at d) wanted
-    (λ collapsed m. record { asked = fits; page = page_fits d page j; collapsed = collapsed_keeps_by d (get (codes "collapse") d) collapsed m })))))
+    chained FitsWanted _ (options_at d) wanted
+    (λ options i. chained FitsWanted _ (sorted_at d) wanted
+    (λ sorted j. mapped FitsWanted _ (collapsed_at d) wanted
+    (λ collapsed k. record { asked = fits; page = options_fit d options i; collapsed = collapsed_keeps_by d (get (codes "collapse") d) collapsed k })))
 
 find_fits : (d : Data) (wanted : Wanted) → find_row d ≡ Some wanted → FitsWanted wanted
 find_fits d wanted =

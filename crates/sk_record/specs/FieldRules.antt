@@ -128,7 +128,7 @@ collapse_of fields (Some collapsed) = option_map (λ slot. Some (record { slot =
 abbrev pub sought_of : List Field → Wanted → Option Sought
 sought_of fields wanted =
     option_and_then (λ order.
-    option_map (λ collapse. record { asked = wanted.asked; scheme = wanted.scheme; first = wanted.first; size = wanted.size; check = wanted.check; order = order; collapse = collapse })
+    option_map (λ collapse. record { asked = wanted.asked; options = wanted.options; order = order; collapse = collapse })
     (collapse_of fields wanted.collapsed)) (order_of fields wanted.sorted)
 
 -- The edit of a new record.

@@ -4,6 +4,7 @@ use Rattle.std.specs.Option.{option_and_then}
 use Rattle.serde_json.specs.Data.{Data}
 use Rattle.serde_json.specs.Find.{get, as_str}
 use Rattle.sk_base.specs.declared.find.Join.{Join}
+use Rattle.sk_base.specs.declared.find.Options.{Options}
 use Rattle.sk_base.specs.declared.find.Scheme.{Scheme}
 use Rattle.sk_base.specs.Records.{most_bytes}
 use Rattle.sk_record.specs.declared.row.Sort.{Sort}
@@ -93,15 +94,21 @@ collapsed_by d (Some value) = option_and_then (collapsed_on d) (as_str value)
 abbrev pub collapsed_at : Data → Option (Option Collapsed)
 collapsed_at d = collapsed_by d (get (codes "collapse") d)
 
+-- The options that name no field.
+abbrev pub options_at : Data → Option Options
+options_at d =
+    option_and_then (λ scheme.
+    option_and_then (λ page.
+    option_map (λ check. record { scheme = scheme; first = page.0; size = page.1; check = check })
+    (check_at d)) (page_at d)) (scheme_at d)
+
 -- A find of this query, with the options of the line.
 abbrev pub wanted_at : Data → Asked → Option Wanted
 wanted_at d asked =
-    option_and_then (λ scheme.
-    option_and_then (λ page.
-    option_and_then (λ check.
+    option_and_then (λ options.
     option_and_then (λ sorted.
-    option_map (λ collapsed. record { asked = asked; scheme = scheme; first = page.0; size = page.1; check = check; sorted = sorted; collapsed = collapsed })
-    (collapsed_at d)) (sorted_at d)) (check_at d)) (page_at d)) (scheme_at d)
+    option_map (λ collapsed. record { asked = asked; options = options; sorted = sorted; collapsed = collapsed })
+    (collapsed_at d)) (sorted_at d)) (options_at d)
 
 -- The members that the options are.
 abbrev pub option_names : List (List ℕ)

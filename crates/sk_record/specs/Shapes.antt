@@ -2,7 +2,7 @@
 use Rattle.std.specs.Prelude.{ℕ, Bool, List, Option}
 use Rattle.serde_json.specs.Data.{Data}
 use Rattle.sk_base.specs.declared.find.Join.{Join}
-use Rattle.sk_base.specs.declared.find.Scheme.{Scheme}
+use Rattle.sk_base.specs.declared.find.Options.{Options}
 use Rattle.sk_base.specs.declared.schema.Field.{Field}
 use Rattle.sk_record.specs.declared.row.Sort.{Sort}
 
@@ -29,10 +29,7 @@ pub record Collapsed : Type 0 where
 -- A find with its options.
 pub record Wanted : Type 0 where
   pub asked : Asked
-  pub scheme : Scheme
-  pub first : ℕ
-  pub size : ℕ
-  pub check : ℕ
+  pub options : Options
   pub sorted : Sorted
   pub collapsed : Option Collapsed
 

@@ -7,7 +7,7 @@ use Rattle.sk_base.specs.declared.find.Ask.{Ask}
 use Rattle.sk_base.specs.declared.find.Collapse.{Collapse}
 use Rattle.sk_base.specs.declared.find.Find.{Find}
 use Rattle.sk_base.specs.declared.find.Join.{Join}
-use Rattle.sk_base.specs.declared.find.Scheme.{Scheme}
+use Rattle.sk_base.specs.declared.find.Options.{Options}
 use Rattle.sk_base.specs.declared.rank.Order.{Order}
 use Rattle.sk_base.specs.declared.schema.Field.{Field}
 use Rattle.sk_record.specs.Shapes.{Asked, words, tree}
@@ -15,10 +15,7 @@ use Rattle.sk_record.specs.Shapes.{Asked, words, tree}
 -- What a find seeks.
 pub record Sought : Type 0 where
   pub asked : Asked
-  pub scheme : Scheme
-  pub first : ℕ
-  pub size : ℕ
-  pub check : ℕ
+  pub options : Options
   pub order : Order
   pub collapse : Option Collapse
 
@@ -36,8 +33,7 @@ asked_by (Ask.Tree value) = tree (view value)
 
 -- A find, with a tree as the value that it stands for.
 abbrev pub sought_by : Find → Sought
-sought_by find =
-    record { asked = asked_by find.ask; scheme = find.scheme; first = find.first; size = find.size; check = find.check; order = find.order; collapse = find.collapse }
+sought_by find = record { asked = asked_by find.ask; options = find.options; order = find.order; collapse = find.collapse }
 
 -- What a command tells.
 abbrev pub told_by : Command → Told

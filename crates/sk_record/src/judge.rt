@@ -134,10 +134,7 @@ fn find_of(alloc: Global, fields: &[Field], wanted: FindRow<'_>) -> Result<Optio
     let ask = ask_of(alloc, wanted.ask)?;
     Ok(Some(Find {
         ask,
-        scheme: wanted.scheme,
-        first: wanted.first,
-        size: wanted.size,
-        check: wanted.check,
+        options: wanted.options,
         order,
         collapse,
     }))

@@ -1,13 +1,13 @@
 //! The rows of finds: their query and their options.
 ghost use Rattle.std.specs.Prelude.{◌≡◌, option_map};
 ghost use Rattle.serde_json.specs.View.{view};
-ghost use Rattle.sk_record.specs.Options.{query_at, join_named, join_at, scheme_named, scheme_at, page_at, check_at, relevance_at, by_field_at, sorted_named, sorted_at, not_collapsed, collapsed_on, collapsed_at, wanted_at, find_row, tree_row};
+ghost use Rattle.sk_record.specs.Options.{query_at, join_named, join_at, scheme_named, scheme_at, page_at, check_at, relevance_at, by_field_at, sorted_named, sorted_at, not_collapsed, collapsed_on, collapsed_at, options_at, wanted_at, find_row, tree_row};
 ghost use Rattle.sk_record.specs.Shown.{asked_shown, sorted_shown, collapsed_shown, wanted_shown};
 
 use crate::json::{MOST_BYTES, between, has, has_only, optional_flag, optional_number, text_at};
 use crate::row::{AskRow, CollapseRow, FindRow, OrderRow, Sort};
 use serde_json::Value;
-use sk_base::{Join, Scheme};
+use sk_base::{Join, Options, Scheme};
 
 /// The greatest rank that a page may reach.
 const MOST_HITS: u64 = 100_000;
@@ -76,19 +76,29 @@ fn join_named(name: &str) -> Option<Join>
 fn wanted_at<'a>(line: &'a Value, ask: AskRow<'a>) -> Option<FindRow<'a>>
     ensures { option_map wanted_shown result ≡ wanted_at (view line.entry.now) (asked_shown ask.entry) }
 {
-    let scheme = scheme_at(line)?;
-    let (first, size) = page_at(line)?;
-    let check = check_at(line)?;
+    let options = options_at(line)?;
     let order = sorted_at(line)?;
     let collapse = collapsed_at(line)?;
     Some(FindRow {
         ask,
+        options,
+        order,
+        collapse,
+    })
+}
+
+/// The options that name no field.
+fn options_at(line: &Value) -> Option<Options>
+    ensures { result ≡ options_at (view line.now) }
+{
+    let scheme = scheme_at(line)?;
+    let (first, size) = page_at(line)?;
+    let check = check_at(line)?;
+    Some(Options {
         scheme,
         first,
         size,
         check,
-        order,
-        collapse,
     })
 }
 

@@ -1,6 +1,6 @@
 //! The rows that a line can fit, with what it gives for them.
 use serde_json::Value;
-use sk_base::{Join, Scheme};
+use sk_base::{Join, Options};
 
 /// A field's name and a text of it.
 #[derive(Clone, Copy)]
@@ -49,10 +49,7 @@ pub struct CollapseRow<'a> {
 #[derive(Clone, Copy)]
 pub struct FindRow<'a> {
     pub ask: AskRow<'a>,
-    pub scheme: Scheme,
-    pub first: u32,
-    pub size: u32,
-    pub check: u32,
+    pub options: Options,
     pub order: OrderRow<'a>,
     pub collapse: Option<CollapseRow<'a>>,
 }

@@ -124,10 +124,10 @@ fn shown_value(alloc: Global, value: &FieldValue) -> Result<String, AllocError> 
 fn shown_find(alloc: Global, find: &Find) -> Result<String, AllocError> {
     let ask = shown_ask(alloc, &find.ask)?;
     let ask = ask.as_str();
-    let scheme = find.scheme;
-    let first = find.first;
-    let size = find.size;
-    let check = find.check;
+    let scheme = find.options.scheme;
+    let first = find.options.first;
+    let size = find.options.size;
+    let check = find.options.check;
     let order = find.order;
     let collapse = find.collapse;
     format!(in alloc; "find {ask} {scheme:?} {first}+{size} check {check} {order:?} {collapse:?}")

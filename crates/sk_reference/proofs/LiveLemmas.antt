@@ -18,7 +18,7 @@ use Rattle.sk_base.specs.Documents.{has_term}
 use Rattle.sk_base.specs.Numbers.{Docs, length_of}
 use Rattle.sk_model.specs.Documents.{Document}
 use Rattle.sk_model.specs.Edits.{Live, IsLive, last_id, put_document, without_id, without_term, first_with}
-use Rattle.sk_plain.specs.Loads.{load_of, IsLight}
+use Rattle.sk_base.specs.Loads.{load_of, IsLight}
 use Rattle.sk_reference.specs.Shelved.{IsShelved}
 
 -- what holds of the images holds of what they are made of

@@ -15,7 +15,7 @@ use Rattle.sk_run.specs.declared.response.Response.{Response}
 
 -- A query is answered its report over these documents, the rank of the first hit being that of the find.
 abbrev pub found_for : Tree → Find → Docs → Response
-found_for query find docs = Response.Found find.first (report_for query find docs)
+found_for query find docs = Response.Found find.options.first (report_for query find docs)
 
 -- A tree that is no query is refused, and any other is answered its report.
 abbrev pub tree_answer : Option Tree → Find → Docs → Response

@@ -2,7 +2,7 @@
 use Rattle.std.specs.Prelude.{List, All}
 use Rattle.sk_base.specs.declared.schema.Field.{Field}
 use Rattle.sk_model.specs.Edits.{Live, IsLive}
-use Rattle.sk_plain.specs.Loads.{IsLight}
+use Rattle.sk_base.specs.Loads.{IsLight}
 
 -- What a shelf holds: the fields of its schema, and the live documents.
 pub record Shelved : Type 0 where

@@ -5,7 +5,7 @@ ghost use Rattle.sk_base.specs.Documents.{has_term};
 ghost use Rattle.sk_base.specs.declared.record.Edit.TheVariants as Edit;
 ghost use Rattle.sk_model.specs.Documents.{document_of};
 ghost use Rattle.sk_model.specs.Edits.{nothing_live, edited, reply_to, without_term, with_next, next_reply, with_document, first_with, with_first, first_reply};
-ghost use Rattle.sk_plain.specs.Loads.{load_of, IsLight};
+ghost use Rattle.sk_base.specs.Loads.{load_of, IsLight};
 ghost use Rattle.sk_reference.specs.Shelved.{Shelved};
 
 use sk_base::{Doc, DocId, Edit, Record, Reply, Schema};

@@ -2,7 +2,7 @@
 ghost use Rattle.std.specs.Prelude.{◌≡◌, ◌+◌, ◌<◌, ◌^◌, true, length, All, IfOk};
 ghost use Rattle.sk_query.specs.Trees.{query_view};
 ghost use Rattle.sk_query.specs.Fits.{fits_tree};
-ghost use Rattle.sk_plain.specs.Loads.{IsLight};
+ghost use Rattle.sk_base.specs.Loads.{IsLight};
 ghost use Rattle.sk_run.specs.Responses.{steps_of};
 ghost use Rattle.sk_reference.specs.Answers.{found_for, PlainAnswers};
 
@@ -62,7 +62,7 @@ fn found_for<L: Ledger>(
 {
     let report = report_of(alloc, docs, query, find)?;
     count(report.hits.as_slice(), steps);
-    Ok(Response::Found(find.first, report))
+    Ok(Response::Found(find.options.first, report))
 }
 
 /// Counts one step for each hit.

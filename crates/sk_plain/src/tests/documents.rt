@@ -4,7 +4,7 @@ ghost use Rattle.sk_base.specs.Order.{Precedes};
 ghost use Rattle.sk_base.specs.Documents.{AreTerms};
 ghost use Rattle.sk_query.specs.Trees.{query_view};
 ghost use Rattle.sk_query.specs.Fits.{fits_tree};
-ghost use Rattle.sk_plain.specs.Loads.{load_of, IsLight};
+ghost use Rattle.sk_base.specs.Loads.{load_of, IsLight};
 
 use crate::report_of;
 use serde_json::Value;

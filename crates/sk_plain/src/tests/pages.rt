@@ -1,6 +1,6 @@
 //! Reports over four documents: the orders, and the asked page.
 use crate::tests::documents::{documents, reported};
-use sk_base::{Ask, Collapse, Find, Join, Order, Report, Scheme, SortKey, Text};
+use sk_base::{Ask, Collapse, Find, Join, Options, Order, Report, Scheme, SortKey, Text};
 use std::alloc::{AllocError, Global};
 use std::test::Fail;
 
@@ -140,10 +140,12 @@ pub fn find(
 ) -> Find {
     Find {
         ask: Ask::Text(Text::empty(alloc), Join::Or),
-        scheme,
-        first,
-        size,
-        check: 0,
+        options: Options {
+            scheme,
+            first,
+            size,
+            check: 0,
+        },
         order,
         collapse,
     }

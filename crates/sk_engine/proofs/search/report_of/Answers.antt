@@ -6,4 +6,4 @@ use Rattle.sk_engine.proofs.search.report_of.Goals as goal
 pub sort_best_first-requires : goal.sort_best_first-requires
 sort_best_first-requires g c =
     subst (λ ranks. AllPairs (λ (x y : Rank). x.id ≢ y.id) ranks) (sym (c.deref_mut.ensures.value ∙ c.in_ok-matches.ensures.ranks))
-    (ids_apart c.args.find.now.scheme c.args.list.now c.length-count.ensures.sound)
+    (ids_apart c.args.find.now.options.scheme c.args.list.now c.length-count.ensures.sound)

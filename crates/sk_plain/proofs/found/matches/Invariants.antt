@@ -1,7 +1,7 @@
 use Rattle.std.proofs.Common.{◌≡◌, ◌++◌, All}
 use Rattle.sk_query.specs.Trees.{query_view}
 use Rattle.sk_model.specs.Matches.{matches}
-use Rattle.sk_plain.specs.Loads.{IsLight}
+use Rattle.sk_base.specs.Loads.{IsLight}
 use Rattle.sk_plain.proofs.found.matches.Given as goal
 
 -- the matches so far, and those of the documents that are left, are all

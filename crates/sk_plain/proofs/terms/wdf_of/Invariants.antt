@@ -1,6 +1,6 @@
 use Rattle.std.proofs.Common.{◌≡◌, ◌≤◌, drop}
 use Rattle.sk_base.specs.Documents.{wdf_of}
-use Rattle.sk_plain.specs.Loads.{load_of}
+use Rattle.sk_base.specs.Loads.{load_of}
 use Rattle.sk_plain.proofs.terms.wdf_of.Given as goal
 
 -- the terms that were passed over are others, so those that are left decide

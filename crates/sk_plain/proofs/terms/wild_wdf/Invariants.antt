@@ -1,6 +1,6 @@
 use Rattle.std.proofs.Common.{◌≡◌, ◌≤◌, ◌+◌, drop}
 use Rattle.sk_model.specs.Scores.{wild_wdf}
-use Rattle.sk_plain.specs.Loads.{load_of}
+use Rattle.sk_base.specs.Loads.{load_of}
 use Rattle.sk_plain.proofs.terms.wild_wdf.Given as goal
 
 -- what was added, and what is left, is the whole

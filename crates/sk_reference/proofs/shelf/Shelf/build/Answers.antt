@@ -2,7 +2,7 @@
 use Rattle.std.proofs.Common.{◌<◌, ◌^◌, sum_by}
 use Rattle.std.proofs.lemmas.Result.{IfOk-weaker}
 use Rattle.sk_base.specs.declared.doc.Doc.{Doc}
-use Rattle.sk_plain.specs.Loads.{load_of}
+use Rattle.sk_base.specs.Loads.{load_of}
 use Rattle.sk_reference.proofs.LiveLemmas.{load_is}
 use Rattle.sk_reference.proofs.shelf.Shelf.build.Goals as goal
 
