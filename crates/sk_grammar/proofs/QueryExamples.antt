@@ -8,8 +8,7 @@ use Rattle.sk_text.specs.Terms.{term_of}
 use Rattle.sk_base.specs.declared.find.Join.{Join}
 use Rattle.sk_base.specs.declared.find.Join.TheVariants as Join
 use Rattle.sk_query.specs.declared.form.Form.TheVariants as Form
-use Rattle.sk_query.specs.Trees.{Tree, nothing, all, term, wildcard, near, phrase, range, unbounded, number, bytes, trees_from}
-use Rattle.sk_query.specs.Forms.{form_shown}
+use Rattle.sk_query.specs.Trees.{Tree, nothing, all, term, wildcard, near, phrase, range, unbounded, number, bytes, trees_from, parts}
 use Rattle.sk_grammar.specs.Cutting.{tokens_in}
 use Rattle.sk_grammar.specs.Meaning.{meant_in}
 use Rattle.sk_grammar.proofs.ExampleFields.{fields}
@@ -56,7 +55,7 @@ units : AreMeant Join.Or (
     row (codes "a ADJ/1 b ADJ/4 c ADJ/2 d") (phrase 7 ((term_of (codes "a")) ∷ (term_of (codes "b")) ∷ (term_of (codes "c")) ∷ (term_of (codes "d")) ∷ [])) ∷
     row (codes "(a)") (term (term_of (codes "a"))) ∷
     row (codes "((a))") (term (term_of (codes "a"))) ∷
-    row (codes "(a b)") (form_shown Form.Or (trees_from (term (term_of (codes "a")) ∷ term (term_of (codes "b")) ∷ []))) ∷
+    row (codes "(a b)") (parts Form.Or (trees_from (term (term_of (codes "a")) ∷ term (term_of (codes "b")) ∷ []))) ∷
     row (codes "()") (nothing) ∷
     row (codes "(())") (nothing) ∷
     [])
@@ -70,10 +69,10 @@ fields_of_units : AreMeant Join.Or (
     row (codes "title:a.b") (phrase 2 (((codes "S") ++ (term_of (codes "a"))) ∷ ((codes "S") ++ (term_of (codes "b"))) ∷ [])) ∷
     row (codes "title:\"a b\"") (phrase 2 (((codes "S") ++ (term_of (codes "a"))) ∷ ((codes "S") ++ (term_of (codes "b"))) ∷ [])) ∷
     row (codes "title:\"a\"") (term ((codes "S") ++ (term_of (codes "a")))) ∷
-    row (codes "title:(a body:b c)") (form_shown Form.Or (trees_from (term ((codes "S") ++ (term_of (codes "a"))) ∷ term (term_of (codes "b")) ∷ term ((codes "S") ++ (term_of (codes "c"))) ∷ []))) ∷
-    row (codes "title:(a (b))") (form_shown Form.Or (trees_from (term ((codes "S") ++ (term_of (codes "a"))) ∷ term ((codes "S") ++ (term_of (codes "b"))) ∷ []))) ∷
-    row (codes "title:(body:(a) b)") (form_shown Form.Or (trees_from (term (term_of (codes "a")) ∷ term ((codes "S") ++ (term_of (codes "b"))) ∷ []))) ∷
-    row (codes "title:(a) b") (form_shown Form.Or (trees_from (term ((codes "S") ++ (term_of (codes "a"))) ∷ term (term_of (codes "b")) ∷ []))) ∷
+    row (codes "title:(a body:b c)") (parts Form.Or (trees_from (term ((codes "S") ++ (term_of (codes "a"))) ∷ term (term_of (codes "b")) ∷ term ((codes "S") ++ (term_of (codes "c"))) ∷ []))) ∷
+    row (codes "title:(a (b))") (parts Form.Or (trees_from (term ((codes "S") ++ (term_of (codes "a"))) ∷ term ((codes "S") ++ (term_of (codes "b"))) ∷ []))) ∷
+    row (codes "title:(body:(a) b)") (parts Form.Or (trees_from (term (term_of (codes "a")) ∷ term ((codes "S") ++ (term_of (codes "b"))) ∷ []))) ∷
+    row (codes "title:(a) b") (parts Form.Or (trees_from (term ((codes "S") ++ (term_of (codes "a"))) ∷ term (term_of (codes "b")) ∷ []))) ∷
     row (codes "title:(a NEAR b)") (near 11 (((codes "S") ++ (term_of (codes "a"))) ∷ ((codes "S") ++ (term_of (codes "b"))) ∷ [])) ∷
     row (codes "title:a NEAR b") (near 11 (((codes "S") ++ (term_of (codes "a"))) ∷ (term_of (codes "b")) ∷ [])) ∷
     [])
@@ -82,52 +81,52 @@ fields_of_units = refl
 
 -- Filters and ranges, one group for each field, in the order of their first.
 filters : AreMeant Join.Or (
-    row (codes "lang:en") (form_shown Form.Filter (trees_from (all ∷ term (codes "Len") ∷ []))) ∷
-    row (codes "lang:en den") (form_shown Form.Filter (trees_from (term (term_of (codes "den")) ∷ term (codes "Len") ∷ []))) ∷
-    row (codes "den lang:en") (form_shown Form.Filter (trees_from (term (term_of (codes "den")) ∷ term (codes "Len") ∷ []))) ∷
-    row (codes "lang:en lang:fr den") (form_shown Form.Filter (trees_from (term (term_of (codes "den")) ∷ form_shown Form.Or (trees_from (term (codes "Len") ∷ term (codes "Lfr") ∷ [])) ∷ []))) ∷
-    row (codes "lang:en year:5 lang:fr den") (form_shown Form.Filter (trees_from (term (term_of (codes "den")) ∷ form_shown Form.Or (trees_from (term (codes "Len") ∷ term (codes "Lfr") ∷ [])) ∷ range 0 (number 5) (number 5) ∷ []))) ∷
-    row (codes "-lang:fr den") (form_shown Form.AndNot (trees_from (term (term_of (codes "den")) ∷ term (codes "Lfr") ∷ []))) ∷
-    row (codes "+lang:en den") (form_shown Form.Filter (trees_from (term (term_of (codes "den")) ∷ term (codes "Len") ∷ []))) ∷
-    row (codes "+lang:en -lang:fr") (form_shown Form.AndNot (trees_from (form_shown Form.Filter (trees_from (all ∷ term (codes "Len") ∷ [])) ∷ term (codes "Lfr") ∷ []))) ∷
-    row (codes "-lang:fr") (form_shown Form.AndNot (trees_from (all ∷ term (codes "Lfr") ∷ []))) ∷
-    row (codes "cat:Dog") (form_shown Form.Filter (trees_from (all ∷ term (codes "XCAT:Dog") ∷ []))) ∷
-    row (codes "cat:dog") (form_shown Form.Filter (trees_from (all ∷ term (codes "XCATdog") ∷ []))) ∷
-    row (codes "lang:\"\"") (form_shown Form.Filter (trees_from (all ∷ term (codes "L") ∷ []))) ∷
-    row (codes "title:(lang:en a)") (form_shown Form.Filter (trees_from (term ((codes "S") ++ (term_of (codes "a"))) ∷ term (codes "Len") ∷ []))) ∷
-    row (codes "year:1950..1959") (form_shown Form.Filter (trees_from (all ∷ range 0 (number 1950) (number 1959) ∷ []))) ∷
-    row (codes "year:..5") (form_shown Form.Filter (trees_from (all ∷ range 0 unbounded (number 5) ∷ []))) ∷
-    row (codes "year:5..") (form_shown Form.Filter (trees_from (all ∷ range 0 (number 5) unbounded ∷ []))) ∷
-    row (codes "year:..") (form_shown Form.Filter (trees_from (all ∷ range 0 unbounded unbounded ∷ []))) ∷
-    row (codes "year:9..1") (form_shown Form.Filter (trees_from (all ∷ range 0 (number 9) (number 1) ∷ []))) ∷
-    row (codes "site:a..b") (form_shown Form.Filter (trees_from (all ∷ range 1 (bytes (codes "a")) (bytes (codes "b")) ∷ []))) ∷
-    row (codes "site:x") (form_shown Form.Filter (trees_from (all ∷ range 1 (bytes (codes "x")) (bytes (codes "x")) ∷ []))) ∷
-    row (codes "site:..") (form_shown Form.Filter (trees_from (all ∷ range 1 unbounded unbounded ∷ []))) ∷
-    row (codes "site:a..b..c") (form_shown Form.Filter (trees_from (all ∷ range 1 (bytes (codes "a")) (bytes (codes "b..c")) ∷ []))) ∷
+    row (codes "lang:en") (parts Form.Filter (trees_from (all ∷ term (codes "Len") ∷ []))) ∷
+    row (codes "lang:en den") (parts Form.Filter (trees_from (term (term_of (codes "den")) ∷ term (codes "Len") ∷ []))) ∷
+    row (codes "den lang:en") (parts Form.Filter (trees_from (term (term_of (codes "den")) ∷ term (codes "Len") ∷ []))) ∷
+    row (codes "lang:en lang:fr den") (parts Form.Filter (trees_from (term (term_of (codes "den")) ∷ parts Form.Or (trees_from (term (codes "Len") ∷ term (codes "Lfr") ∷ [])) ∷ []))) ∷
+    row (codes "lang:en year:5 lang:fr den") (parts Form.Filter (trees_from (term (term_of (codes "den")) ∷ parts Form.Or (trees_from (term (codes "Len") ∷ term (codes "Lfr") ∷ [])) ∷ range 0 (number 5) (number 5) ∷ []))) ∷
+    row (codes "-lang:fr den") (parts Form.AndNot (trees_from (term (term_of (codes "den")) ∷ term (codes "Lfr") ∷ []))) ∷
+    row (codes "+lang:en den") (parts Form.Filter (trees_from (term (term_of (codes "den")) ∷ term (codes "Len") ∷ []))) ∷
+    row (codes "+lang:en -lang:fr") (parts Form.AndNot (trees_from (parts Form.Filter (trees_from (all ∷ term (codes "Len") ∷ [])) ∷ term (codes "Lfr") ∷ []))) ∷
+    row (codes "-lang:fr") (parts Form.AndNot (trees_from (all ∷ term (codes "Lfr") ∷ []))) ∷
+    row (codes "cat:Dog") (parts Form.Filter (trees_from (all ∷ term (codes "XCAT:Dog") ∷ []))) ∷
+    row (codes "cat:dog") (parts Form.Filter (trees_from (all ∷ term (codes "XCATdog") ∷ []))) ∷
+    row (codes "lang:\"\"") (parts Form.Filter (trees_from (all ∷ term (codes "L") ∷ []))) ∷
+    row (codes "title:(lang:en a)") (parts Form.Filter (trees_from (term ((codes "S") ++ (term_of (codes "a"))) ∷ term (codes "Len") ∷ []))) ∷
+    row (codes "year:1950..1959") (parts Form.Filter (trees_from (all ∷ range 0 (number 1950) (number 1959) ∷ []))) ∷
+    row (codes "year:..5") (parts Form.Filter (trees_from (all ∷ range 0 unbounded (number 5) ∷ []))) ∷
+    row (codes "year:5..") (parts Form.Filter (trees_from (all ∷ range 0 (number 5) unbounded ∷ []))) ∷
+    row (codes "year:..") (parts Form.Filter (trees_from (all ∷ range 0 unbounded unbounded ∷ []))) ∷
+    row (codes "year:9..1") (parts Form.Filter (trees_from (all ∷ range 0 (number 9) (number 1) ∷ []))) ∷
+    row (codes "site:a..b") (parts Form.Filter (trees_from (all ∷ range 1 (bytes (codes "a")) (bytes (codes "b")) ∷ []))) ∷
+    row (codes "site:x") (parts Form.Filter (trees_from (all ∷ range 1 (bytes (codes "x")) (bytes (codes "x")) ∷ []))) ∷
+    row (codes "site:..") (parts Form.Filter (trees_from (all ∷ range 1 unbounded unbounded ∷ []))) ∷
+    row (codes "site:a..b..c") (parts Form.Filter (trees_from (all ∷ range 1 (bytes (codes "a")) (bytes (codes "b..c")) ∷ []))) ∷
     [])
 unfolding value_in general_category general_category_rows encode
 filters = refl
 
 -- Loved, plain and hated units, where a document need not have all.
 marked : AreMeant Join.Or (
-    row (codes "red fox") (form_shown Form.Or (trees_from (term (term_of (codes "red")) ∷ term (term_of (codes "fox")) ∷ []))) ∷
-    row (codes "+red fox") (form_shown Form.AndMaybe (trees_from (term (term_of (codes "red")) ∷ term (term_of (codes "fox")) ∷ []))) ∷
-    row (codes "fox +red") (form_shown Form.AndMaybe (trees_from (term (term_of (codes "red")) ∷ term (term_of (codes "fox")) ∷ []))) ∷
+    row (codes "red fox") (parts Form.Or (trees_from (term (term_of (codes "red")) ∷ term (term_of (codes "fox")) ∷ []))) ∷
+    row (codes "+red fox") (parts Form.AndMaybe (trees_from (term (term_of (codes "red")) ∷ term (term_of (codes "fox")) ∷ []))) ∷
+    row (codes "fox +red") (parts Form.AndMaybe (trees_from (term (term_of (codes "red")) ∷ term (term_of (codes "fox")) ∷ []))) ∷
     row (codes "+red") (term (term_of (codes "red"))) ∷
-    row (codes "+a +b") (form_shown Form.And (trees_from (term (term_of (codes "a")) ∷ term (term_of (codes "b")) ∷ []))) ∷
-    row (codes "+a +b c d") (form_shown Form.AndMaybe (trees_from (form_shown Form.And (trees_from (term (term_of (codes "a")) ∷ term (term_of (codes "b")) ∷ [])) ∷ form_shown Form.Or (trees_from (term (term_of (codes "c")) ∷ term (term_of (codes "d")) ∷ [])) ∷ []))) ∷
-    row (codes "red -fox") (form_shown Form.AndNot (trees_from (term (term_of (codes "red")) ∷ term (term_of (codes "fox")) ∷ []))) ∷
-    row (codes "-red") (form_shown Form.AndNot (trees_from (all ∷ term (term_of (codes "red")) ∷ []))) ∷
-    row (codes "-a -b") (form_shown Form.AndNot (trees_from (all ∷ term (term_of (codes "a")) ∷ term (term_of (codes "b")) ∷ []))) ∷
-    row (codes "+a b -c") (form_shown Form.AndNot (trees_from (form_shown Form.AndMaybe (trees_from (term (term_of (codes "a")) ∷ term (term_of (codes "b")) ∷ [])) ∷ term (term_of (codes "c")) ∷ []))) ∷
-    row (codes "+(a b) -c d") (form_shown Form.AndNot (trees_from (form_shown Form.AndMaybe (trees_from (form_shown Form.Or (trees_from (term (term_of (codes "a")) ∷ term (term_of (codes "b")) ∷ [])) ∷ term (term_of (codes "d")) ∷ [])) ∷ term (term_of (codes "c")) ∷ []))) ∷
-    row (codes "+a lang:en b -c") (form_shown Form.AndNot (trees_from (form_shown Form.Filter (trees_from (form_shown Form.AndMaybe (trees_from (term (term_of (codes "a")) ∷ term (term_of (codes "b")) ∷ [])) ∷ term (codes "Len") ∷ [])) ∷ term (term_of (codes "c")) ∷ []))) ∷
-    row (codes "-(a b) c") (form_shown Form.AndNot (trees_from (term (term_of (codes "c")) ∷ form_shown Form.Or (trees_from (term (term_of (codes "a")) ∷ term (term_of (codes "b")) ∷ [])) ∷ []))) ∷
-    row (codes "+a NEAR b c") (form_shown Form.AndMaybe (trees_from (near 11 ((term_of (codes "a")) ∷ (term_of (codes "b")) ∷ []) ∷ term (term_of (codes "c")) ∷ []))) ∷
-    row (codes "-\"a b\" c.d") (form_shown Form.AndNot (trees_from (phrase 2 ((term_of (codes "c")) ∷ (term_of (codes "d")) ∷ []) ∷ phrase 2 ((term_of (codes "a")) ∷ (term_of (codes "b")) ∷ []) ∷ []))) ∷
+    row (codes "+a +b") (parts Form.And (trees_from (term (term_of (codes "a")) ∷ term (term_of (codes "b")) ∷ []))) ∷
+    row (codes "+a +b c d") (parts Form.AndMaybe (trees_from (parts Form.And (trees_from (term (term_of (codes "a")) ∷ term (term_of (codes "b")) ∷ [])) ∷ parts Form.Or (trees_from (term (term_of (codes "c")) ∷ term (term_of (codes "d")) ∷ [])) ∷ []))) ∷
+    row (codes "red -fox") (parts Form.AndNot (trees_from (term (term_of (codes "red")) ∷ term (term_of (codes "fox")) ∷ []))) ∷
+    row (codes "-red") (parts Form.AndNot (trees_from (all ∷ term (term_of (codes "red")) ∷ []))) ∷
+    row (codes "-a -b") (parts Form.AndNot (trees_from (all ∷ term (term_of (codes "a")) ∷ term (term_of (codes "b")) ∷ []))) ∷
+    row (codes "+a b -c") (parts Form.AndNot (trees_from (parts Form.AndMaybe (trees_from (term (term_of (codes "a")) ∷ term (term_of (codes "b")) ∷ [])) ∷ term (term_of (codes "c")) ∷ []))) ∷
+    row (codes "+(a b) -c d") (parts Form.AndNot (trees_from (parts Form.AndMaybe (trees_from (parts Form.Or (trees_from (term (term_of (codes "a")) ∷ term (term_of (codes "b")) ∷ [])) ∷ term (term_of (codes "d")) ∷ [])) ∷ term (term_of (codes "c")) ∷ []))) ∷
+    row (codes "+a lang:en b -c") (parts Form.AndNot (trees_from (parts Form.Filter (trees_from (parts Form.AndMaybe (trees_from (term (term_of (codes "a")) ∷ term (term_of (codes "b")) ∷ [])) ∷ term (codes "Len") ∷ [])) ∷ term (term_of (codes "c")) ∷ []))) ∷
+    row (codes "-(a b) c") (parts Form.AndNot (trees_from (term (term_of (codes "c")) ∷ parts Form.Or (trees_from (term (term_of (codes "a")) ∷ term (term_of (codes "b")) ∷ [])) ∷ []))) ∷
+    row (codes "+a NEAR b c") (parts Form.AndMaybe (trees_from (near 11 ((term_of (codes "a")) ∷ (term_of (codes "b")) ∷ []) ∷ term (term_of (codes "c")) ∷ []))) ∷
+    row (codes "-\"a b\" c.d") (parts Form.AndNot (trees_from (phrase 2 ((term_of (codes "c")) ∷ (term_of (codes "d")) ∷ []) ∷ phrase 2 ((term_of (codes "a")) ∷ (term_of (codes "b")) ∷ []) ∷ []))) ∷
     row (codes "+() a") (term (term_of (codes "a"))) ∷
-    row (codes "a () b") (form_shown Form.Or (trees_from (term (term_of (codes "a")) ∷ term (term_of (codes "b")) ∷ []))) ∷
-    row (codes "(()) a") (form_shown Form.Or (trees_from (nothing ∷ term (term_of (codes "a")) ∷ []))) ∷
+    row (codes "a () b") (parts Form.Or (trees_from (term (term_of (codes "a")) ∷ term (term_of (codes "b")) ∷ []))) ∷
+    row (codes "(()) a") (parts Form.Or (trees_from (nothing ∷ term (term_of (codes "a")) ∷ []))) ∷
     row (codes "main()") (term (term_of (codes "main"))) ∷
     [])
 unfolding value_in general_category general_category_rows encode
@@ -135,57 +134,57 @@ marked = refl
 
 -- The same where a document must have all.
 all_wanted : AreMeant Join.And (
-    row (codes "red fox") (form_shown Form.And (trees_from (term (term_of (codes "red")) ∷ term (term_of (codes "fox")) ∷ []))) ∷
-    row (codes "+red fox") (form_shown Form.And (trees_from (term (term_of (codes "red")) ∷ term (term_of (codes "fox")) ∷ []))) ∷
-    row (codes "a +b c") (form_shown Form.And (trees_from (term (term_of (codes "a")) ∷ term (term_of (codes "b")) ∷ term (term_of (codes "c")) ∷ []))) ∷
-    row (codes "a -b") (form_shown Form.AndNot (trees_from (term (term_of (codes "a")) ∷ term (term_of (codes "b")) ∷ []))) ∷
-    row (codes "-a") (form_shown Form.AndNot (trees_from (all ∷ term (term_of (codes "a")) ∷ []))) ∷
-    row (codes "a lang:en -b") (form_shown Form.AndNot (trees_from (form_shown Form.Filter (trees_from (term (term_of (codes "a")) ∷ term (codes "Len") ∷ [])) ∷ term (term_of (codes "b")) ∷ []))) ∷
-    row (codes "lang:en lang:fr") (form_shown Form.Filter (trees_from (all ∷ form_shown Form.Or (trees_from (term (codes "Len") ∷ term (codes "Lfr") ∷ [])) ∷ []))) ∷
-    row (codes "(a b) c") (form_shown Form.And (trees_from (form_shown Form.And (trees_from (term (term_of (codes "a")) ∷ term (term_of (codes "b")) ∷ [])) ∷ term (term_of (codes "c")) ∷ []))) ∷
-    row (codes "a OR b c") (form_shown Form.Or (trees_from (term (term_of (codes "a")) ∷ form_shown Form.And (trees_from (term (term_of (codes "b")) ∷ term (term_of (codes "c")) ∷ [])) ∷ []))) ∷
+    row (codes "red fox") (parts Form.And (trees_from (term (term_of (codes "red")) ∷ term (term_of (codes "fox")) ∷ []))) ∷
+    row (codes "+red fox") (parts Form.And (trees_from (term (term_of (codes "red")) ∷ term (term_of (codes "fox")) ∷ []))) ∷
+    row (codes "a +b c") (parts Form.And (trees_from (term (term_of (codes "a")) ∷ term (term_of (codes "b")) ∷ term (term_of (codes "c")) ∷ []))) ∷
+    row (codes "a -b") (parts Form.AndNot (trees_from (term (term_of (codes "a")) ∷ term (term_of (codes "b")) ∷ []))) ∷
+    row (codes "-a") (parts Form.AndNot (trees_from (all ∷ term (term_of (codes "a")) ∷ []))) ∷
+    row (codes "a lang:en -b") (parts Form.AndNot (trees_from (parts Form.Filter (trees_from (term (term_of (codes "a")) ∷ term (codes "Len") ∷ [])) ∷ term (term_of (codes "b")) ∷ []))) ∷
+    row (codes "lang:en lang:fr") (parts Form.Filter (trees_from (all ∷ parts Form.Or (trees_from (term (codes "Len") ∷ term (codes "Lfr") ∷ [])) ∷ []))) ∷
+    row (codes "(a b) c") (parts Form.And (trees_from (parts Form.And (trees_from (term (term_of (codes "a")) ∷ term (term_of (codes "b")) ∷ [])) ∷ term (term_of (codes "c")) ∷ []))) ∷
+    row (codes "a OR b c") (parts Form.Or (trees_from (term (term_of (codes "a")) ∷ parts Form.And (trees_from (term (term_of (codes "b")) ∷ term (term_of (codes "c")) ∷ [])) ∷ []))) ∷
     row (codes "") (nothing) ∷
-    row (codes "a NOT b c") (form_shown Form.AndNot (trees_from (term (term_of (codes "a")) ∷ form_shown Form.And (trees_from (term (term_of (codes "b")) ∷ term (term_of (codes "c")) ∷ [])) ∷ []))) ∷
+    row (codes "a NOT b c") (parts Form.AndNot (trees_from (term (term_of (codes "a")) ∷ parts Form.And (trees_from (term (term_of (codes "b")) ∷ term (term_of (codes "c")) ∷ [])) ∷ []))) ∷
     [])
 unfolding value_in general_category general_category_rows encode
 all_wanted = refl
 
 -- OR binds least, then XOR, and AND and NOT most.
 split : AreMeant Join.Or (
-    row (codes "a OR b") (form_shown Form.Or (trees_from (term (term_of (codes "a")) ∷ term (term_of (codes "b")) ∷ []))) ∷
-    row (codes "a OR b OR c") (form_shown Form.Or (trees_from (term (term_of (codes "a")) ∷ term (term_of (codes "b")) ∷ term (term_of (codes "c")) ∷ []))) ∷
-    row (codes "a XOR b XOR c") (form_shown Form.Xor (trees_from (term (term_of (codes "a")) ∷ term (term_of (codes "b")) ∷ term (term_of (codes "c")) ∷ []))) ∷
-    row (codes "a OR b XOR c") (form_shown Form.Or (trees_from (term (term_of (codes "a")) ∷ form_shown Form.Xor (trees_from (term (term_of (codes "b")) ∷ term (term_of (codes "c")) ∷ [])) ∷ []))) ∷
-    row (codes "a XOR b OR c") (form_shown Form.Or (trees_from (form_shown Form.Xor (trees_from (term (term_of (codes "a")) ∷ term (term_of (codes "b")) ∷ [])) ∷ term (term_of (codes "c")) ∷ []))) ∷
-    row (codes "a AND b AND c") (form_shown Form.And (trees_from (term (term_of (codes "a")) ∷ term (term_of (codes "b")) ∷ term (term_of (codes "c")) ∷ []))) ∷
-    row (codes "a b AND c") (form_shown Form.And (trees_from (form_shown Form.Or (trees_from (term (term_of (codes "a")) ∷ term (term_of (codes "b")) ∷ [])) ∷ term (term_of (codes "c")) ∷ []))) ∷
-    row (codes "a b c OR d") (form_shown Form.Or (trees_from (form_shown Form.Or (trees_from (term (term_of (codes "a")) ∷ term (term_of (codes "b")) ∷ term (term_of (codes "c")) ∷ [])) ∷ term (term_of (codes "d")) ∷ []))) ∷
-    row (codes "a AND b OR c AND d") (form_shown Form.Or (trees_from (form_shown Form.And (trees_from (term (term_of (codes "a")) ∷ term (term_of (codes "b")) ∷ [])) ∷ form_shown Form.And (trees_from (term (term_of (codes "c")) ∷ term (term_of (codes "d")) ∷ [])) ∷ []))) ∷
-    row (codes "a AND b XOR c") (form_shown Form.Xor (trees_from (form_shown Form.And (trees_from (term (term_of (codes "a")) ∷ term (term_of (codes "b")) ∷ [])) ∷ term (term_of (codes "c")) ∷ []))) ∷
-    row (codes "(a OR b) AND c") (form_shown Form.And (trees_from (form_shown Form.Or (trees_from (term (term_of (codes "a")) ∷ term (term_of (codes "b")) ∷ [])) ∷ term (term_of (codes "c")) ∷ []))) ∷
-    row (codes "a AND (b OR c)") (form_shown Form.And (trees_from (term (term_of (codes "a")) ∷ form_shown Form.Or (trees_from (term (term_of (codes "b")) ∷ term (term_of (codes "c")) ∷ [])) ∷ []))) ∷
-    row (codes "a AND ()") (form_shown Form.And (trees_from (term (term_of (codes "a")) ∷ nothing ∷ []))) ∷
-    row (codes "() OR a") (form_shown Form.Or (trees_from (nothing ∷ term (term_of (codes "a")) ∷ []))) ∷
-    row (codes "a AND -b") (form_shown Form.And (trees_from (term (term_of (codes "a")) ∷ form_shown Form.AndNot (trees_from (all ∷ term (term_of (codes "b")) ∷ [])) ∷ []))) ∷
-    row (codes "a AND lang:en") (form_shown Form.And (trees_from (term (term_of (codes "a")) ∷ form_shown Form.Filter (trees_from (all ∷ term (codes "Len") ∷ [])) ∷ []))) ∷
+    row (codes "a OR b") (parts Form.Or (trees_from (term (term_of (codes "a")) ∷ term (term_of (codes "b")) ∷ []))) ∷
+    row (codes "a OR b OR c") (parts Form.Or (trees_from (term (term_of (codes "a")) ∷ term (term_of (codes "b")) ∷ term (term_of (codes "c")) ∷ []))) ∷
+    row (codes "a XOR b XOR c") (parts Form.Xor (trees_from (term (term_of (codes "a")) ∷ term (term_of (codes "b")) ∷ term (term_of (codes "c")) ∷ []))) ∷
+    row (codes "a OR b XOR c") (parts Form.Or (trees_from (term (term_of (codes "a")) ∷ parts Form.Xor (trees_from (term (term_of (codes "b")) ∷ term (term_of (codes "c")) ∷ [])) ∷ []))) ∷
+    row (codes "a XOR b OR c") (parts Form.Or (trees_from (parts Form.Xor (trees_from (term (term_of (codes "a")) ∷ term (term_of (codes "b")) ∷ [])) ∷ term (term_of (codes "c")) ∷ []))) ∷
+    row (codes "a AND b AND c") (parts Form.And (trees_from (term (term_of (codes "a")) ∷ term (term_of (codes "b")) ∷ term (term_of (codes "c")) ∷ []))) ∷
+    row (codes "a b AND c") (parts Form.And (trees_from (parts Form.Or (trees_from (term (term_of (codes "a")) ∷ term (term_of (codes "b")) ∷ [])) ∷ term (term_of (codes "c")) ∷ []))) ∷
+    row (codes "a b c OR d") (parts Form.Or (trees_from (parts Form.Or (trees_from (term (term_of (codes "a")) ∷ term (term_of (codes "b")) ∷ term (term_of (codes "c")) ∷ [])) ∷ term (term_of (codes "d")) ∷ []))) ∷
+    row (codes "a AND b OR c AND d") (parts Form.Or (trees_from (parts Form.And (trees_from (term (term_of (codes "a")) ∷ term (term_of (codes "b")) ∷ [])) ∷ parts Form.And (trees_from (term (term_of (codes "c")) ∷ term (term_of (codes "d")) ∷ [])) ∷ []))) ∷
+    row (codes "a AND b XOR c") (parts Form.Xor (trees_from (parts Form.And (trees_from (term (term_of (codes "a")) ∷ term (term_of (codes "b")) ∷ [])) ∷ term (term_of (codes "c")) ∷ []))) ∷
+    row (codes "(a OR b) AND c") (parts Form.And (trees_from (parts Form.Or (trees_from (term (term_of (codes "a")) ∷ term (term_of (codes "b")) ∷ [])) ∷ term (term_of (codes "c")) ∷ []))) ∷
+    row (codes "a AND (b OR c)") (parts Form.And (trees_from (term (term_of (codes "a")) ∷ parts Form.Or (trees_from (term (term_of (codes "b")) ∷ term (term_of (codes "c")) ∷ [])) ∷ []))) ∷
+    row (codes "a AND ()") (parts Form.And (trees_from (term (term_of (codes "a")) ∷ nothing ∷ []))) ∷
+    row (codes "() OR a") (parts Form.Or (trees_from (nothing ∷ term (term_of (codes "a")) ∷ []))) ∷
+    row (codes "a AND -b") (parts Form.And (trees_from (term (term_of (codes "a")) ∷ parts Form.AndNot (trees_from (all ∷ term (term_of (codes "b")) ∷ [])) ∷ []))) ∷
+    row (codes "a AND lang:en") (parts Form.And (trees_from (term (term_of (codes "a")) ∷ parts Form.Filter (trees_from (all ∷ term (codes "Len") ∷ [])) ∷ []))) ∷
     [])
 unfolding value_in general_category general_category_rows encode
 split = refl
 
 -- A run behind NOT is taken away; AND NOT is NOT.
 excluded : AreMeant Join.Or (
-    row (codes "a NOT b") (form_shown Form.AndNot (trees_from (term (term_of (codes "a")) ∷ term (term_of (codes "b")) ∷ []))) ∷
-    row (codes "a AND NOT b") (form_shown Form.AndNot (trees_from (term (term_of (codes "a")) ∷ term (term_of (codes "b")) ∷ []))) ∷
-    row (codes "NOT a") (form_shown Form.AndNot (trees_from (all ∷ term (term_of (codes "a")) ∷ []))) ∷
-    row (codes "NOT a b") (form_shown Form.AndNot (trees_from (all ∷ form_shown Form.Or (trees_from (term (term_of (codes "a")) ∷ term (term_of (codes "b")) ∷ [])) ∷ []))) ∷
-    row (codes "a NOT b NOT c") (form_shown Form.AndNot (trees_from (term (term_of (codes "a")) ∷ term (term_of (codes "b")) ∷ term (term_of (codes "c")) ∷ []))) ∷
-    row (codes "NOT a AND b") (form_shown Form.AndNot (trees_from (term (term_of (codes "b")) ∷ term (term_of (codes "a")) ∷ []))) ∷
-    row (codes "a NOT b AND c") (form_shown Form.AndNot (trees_from (form_shown Form.And (trees_from (term (term_of (codes "a")) ∷ term (term_of (codes "c")) ∷ [])) ∷ term (term_of (codes "b")) ∷ []))) ∷
-    row (codes "a NOT b c") (form_shown Form.AndNot (trees_from (term (term_of (codes "a")) ∷ form_shown Form.Or (trees_from (term (term_of (codes "b")) ∷ term (term_of (codes "c")) ∷ [])) ∷ []))) ∷
-    row (codes "a OR NOT b") (form_shown Form.Or (trees_from (term (term_of (codes "a")) ∷ form_shown Form.AndNot (trees_from (all ∷ term (term_of (codes "b")) ∷ [])) ∷ []))) ∷
-    row (codes "a NOT -b") (form_shown Form.AndNot (trees_from (term (term_of (codes "a")) ∷ form_shown Form.AndNot (trees_from (all ∷ term (term_of (codes "b")) ∷ [])) ∷ []))) ∷
-    row (codes "a NOT lang:en") (form_shown Form.AndNot (trees_from (term (term_of (codes "a")) ∷ form_shown Form.Filter (trees_from (all ∷ term (codes "Len") ∷ [])) ∷ []))) ∷
-    row (codes "(NOT a) b") (form_shown Form.Or (trees_from (form_shown Form.AndNot (trees_from (all ∷ term (term_of (codes "a")) ∷ [])) ∷ term (term_of (codes "b")) ∷ []))) ∷
+    row (codes "a NOT b") (parts Form.AndNot (trees_from (term (term_of (codes "a")) ∷ term (term_of (codes "b")) ∷ []))) ∷
+    row (codes "a AND NOT b") (parts Form.AndNot (trees_from (term (term_of (codes "a")) ∷ term (term_of (codes "b")) ∷ []))) ∷
+    row (codes "NOT a") (parts Form.AndNot (trees_from (all ∷ term (term_of (codes "a")) ∷ []))) ∷
+    row (codes "NOT a b") (parts Form.AndNot (trees_from (all ∷ parts Form.Or (trees_from (term (term_of (codes "a")) ∷ term (term_of (codes "b")) ∷ [])) ∷ []))) ∷
+    row (codes "a NOT b NOT c") (parts Form.AndNot (trees_from (term (term_of (codes "a")) ∷ term (term_of (codes "b")) ∷ term (term_of (codes "c")) ∷ []))) ∷
+    row (codes "NOT a AND b") (parts Form.AndNot (trees_from (term (term_of (codes "b")) ∷ term (term_of (codes "a")) ∷ []))) ∷
+    row (codes "a NOT b AND c") (parts Form.AndNot (trees_from (parts Form.And (trees_from (term (term_of (codes "a")) ∷ term (term_of (codes "c")) ∷ [])) ∷ term (term_of (codes "b")) ∷ []))) ∷
+    row (codes "a NOT b c") (parts Form.AndNot (trees_from (term (term_of (codes "a")) ∷ parts Form.Or (trees_from (term (term_of (codes "b")) ∷ term (term_of (codes "c")) ∷ [])) ∷ []))) ∷
+    row (codes "a OR NOT b") (parts Form.Or (trees_from (term (term_of (codes "a")) ∷ parts Form.AndNot (trees_from (all ∷ term (term_of (codes "b")) ∷ [])) ∷ []))) ∷
+    row (codes "a NOT -b") (parts Form.AndNot (trees_from (term (term_of (codes "a")) ∷ parts Form.AndNot (trees_from (all ∷ term (term_of (codes "b")) ∷ [])) ∷ []))) ∷
+    row (codes "a NOT lang:en") (parts Form.AndNot (trees_from (term (term_of (codes "a")) ∷ parts Form.Filter (trees_from (all ∷ term (codes "Len") ∷ [])) ∷ []))) ∷
+    row (codes "(NOT a) b") (parts Form.Or (trees_from (parts Form.AndNot (trees_from (all ∷ term (term_of (codes "a")) ∷ [])) ∷ term (term_of (codes "b")) ∷ []))) ∷
     [])
 unfolding value_in general_category general_category_rows encode
 excluded = refl

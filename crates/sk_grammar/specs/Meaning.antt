@@ -50,19 +50,19 @@ split test (p ∷ ps) = if at test p then [] ∷ split test ps else in_front p (
 -- A run: what stands between AND and NOT, and whether it stands behind NOT.
 pub record Run : Type 0 where
   pub negative : Bool
-  pub parts : List Part
+  pub inside : List Part
 
 -- A part put before the first of these runs.
 abbrev pub in_run : Part → List Run → List Run
-in_run p [] = record { negative = false; parts = p ∷ [] } ∷ []
-in_run p (run ∷ more) = record { negative = run.negative; parts = p ∷ run.parts } ∷ more
+in_run p [] = record { negative = false; inside = p ∷ [] } ∷ []
+in_run p (run ∷ more) = record { negative = run.negative; inside = p ∷ run.inside } ∷ more
 
 -- The runs of these parts, the first standing behind NOT or not. AND directly before NOT is passed over.
 abbrev pub runs : Bool → List Part → List Run
-runs negative [] = record { negative = negative; parts = [] } ∷ []
+runs negative [] = record { negative = negative; inside = [] } ∷ []
 runs negative (p ∷ ps) =
-    if at is_and p then (if first_at is_not ps then runs negative ps else record { negative = negative; parts = [] } ∷ runs false ps)
-    else (if at is_not p then record { negative = negative; parts = [] } ∷ runs true ps
+    if at is_and p then (if first_at is_not ps then runs negative ps else record { negative = negative; inside = [] } ∷ runs false ps)
+    else (if at is_not p then record { negative = negative; inside = [] } ∷ runs true ps
     else in_run p (runs negative ps))
 
 -- The runs of a part of XOR. NOT that stands first has no run before it.
@@ -75,7 +75,7 @@ is_positive run = not run.negative
 
 -- The queries of the runs that pass.
 abbrev pub run_trees : Join → (Run → Bool) → List Run → List Tree
-run_trees join test rs = map (λ (run : Run). run_tree join run.parts) (filter test rs)
+run_trees join test rs = map (λ (run : Run). run_tree join run.inside) (filter test rs)
 
 -- The query of runs: all that are positive, without the negative ones.
 abbrev pub runs_tree : Join → List Run → Tree

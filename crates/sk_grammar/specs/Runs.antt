@@ -4,8 +4,7 @@ use Rattle.sk_base.specs.declared.find.Join.{Join}
 use Rattle.sk_base.specs.declared.find.Join.TheVariants as Join
 use Rattle.sk_query.specs.declared.form.Form.{Form}
 use Rattle.sk_query.specs.declared.form.Form.TheVariants as Form
-use Rattle.sk_query.specs.Forms.{form_shown}
-use Rattle.sk_query.specs.Trees.{Tree, nothing, all, Trees, no_trees, tree, trees_from}
+use Rattle.sk_query.specs.Trees.{Tree, nothing, all, parts, Trees, no_trees, tree, trees_from}
 use Rattle.sk_grammar.specs.declared.token.Kind.{Kind}
 use Rattle.sk_grammar.specs.declared.token.Kind.TheVariants as Kind
 use Rattle.sk_grammar.specs.declared.token.Mark.{Mark}
@@ -76,12 +75,12 @@ queries_of test us = map Unit.query (filter test us)
 -- A node over several queries. A node that would have one part only is that part.
 abbrev pub joined : Form → List Tree → Tree
 joined form (t ∷ []) = t
-joined form ts = form_shown form (trees_from ts)
+joined form ts = parts form (trees_from ts)
 
 -- A query with others taken away, if there are any.
 abbrev pub without : Tree → List Tree → Tree
 without base [] = base
-without base (t ∷ ts) = form_shown Form.AndNot (tree base (trees_from (t ∷ ts)))
+without base (t ∷ ts) = parts Form.AndNot (tree base (trees_from (t ∷ ts)))
 
 -- All of these, or all documents where there are none.
 abbrev pub all_of : List Tree → Tree
@@ -91,7 +90,7 @@ all_of (t ∷ ts) = joined Form.And (t ∷ ts)
 -- Some are loved, and others may match.
 abbrev pub with_plain : Tree → List Tree → Tree
 with_plain base [] = base
-with_plain base (t ∷ ts) = form_shown Form.AndMaybe (tree base (tree (joined Form.Or (t ∷ ts)) no_trees))
+with_plain base (t ∷ ts) = parts Form.AndMaybe (tree base (tree (joined Form.Or (t ∷ ts)) no_trees))
 
 -- What is loved, and what is plain, where a document need not have all.
 abbrev pub loved_and_plain : List Tree → List Tree → Tree
@@ -130,7 +129,7 @@ group_tree g = joined Form.Or g.queries
 -- A query under filters, if there are any.
 abbrev pub filtered : Tree → List Group → Tree
 filtered base [] = base
-filtered base (g ∷ gs) = form_shown Form.Filter (tree base (trees_from (map group_tree (g ∷ gs))))
+filtered base (g ∷ gs) = parts Form.Filter (tree base (trees_from (map group_tree (g ∷ gs))))
 
 -- The query of units.
 abbrev pub units_tree : Join → List Unit → Tree
