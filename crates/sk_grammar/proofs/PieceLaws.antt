@@ -1,5 +1,5 @@
 -- Each piece has a character at least, and no more than there are.
-use Rattle.std.proofs.Common.{◌≡◌, ◌≤◌, ◌<◌, ℕ, zero, suc, ◌+◌, ◌-◌, min, Bool, true, false, ◌&&◌, ◌==◌, not, if◌then◌else◌, List, [], ◌∷◌, length, take, drop, Option, Some, None, IfSome, option_map, unwrap_or, refl, sym, ap, arith, length-drop, cond}
+use Rattle.std.proofs.Common.{◌≡◌, ◌≤◌, ◌<◌, ℕ, zero, suc, ◌+◌, ◌-◌, min, Bool, true, false, ◌&&◌, ◌==◌, not, if◌then◌else◌, List, [], ◌∷◌, encode_utf8_all, length, take, drop, Option, Some, None, IfSome, option_map, unwrap_or, refl, sym, ap, arith, length-drop, cond}
 use Rattle.std.proofs.lemmas.List.Sums.{prefix_len-le-length}
 use Rattle.std.specs.List.{prefix_len, slice_get}
 use Rattle.std.specs.Option.{option_and_then}
@@ -80,7 +80,7 @@ star_within n m k some e = omega arith
 
 of_len_takes : (field : Option ℕ) (n : ℕ) (cs : List ℕ) → 1 ≤ n → n ≤ length cs → Takes (length cs) (group_of_len field n cs)
 of_len_takes field n cs some whole =
-    if_takes (length cs) (is_one (terms_in (take n cs)) && is_starred (drop n cs)) (token_piece (Kind.Wild field (first_term (terms_in (take n cs)))) (n + 1)) (token_piece (group_kind field (take n cs)) n)
+    if_takes (length cs) (is_one (terms_in (take n cs)) && is_starred (drop n cs)) (token_piece (Kind.Wild field (first_term (terms_in (take n cs)))) (n + 1)) (token_piece (group_kind field (encode_utf8_all (take n cs)) (terms_in (take n cs))) n)
     (λ e. record { some = omega arith; whole = star_within n (length cs) (length (drop n cs)) (starred_some (drop n cs) (both_true (is_one (terms_in (take n cs))) (is_starred (drop n cs)) e)) (length-drop n cs) })
     (λ e. record { some = some; whole = whole })
 
@@ -134,8 +134,8 @@ field_takes fields cs =
     let n : ℕ = prefix_len is_name_byte cs in
     let whole : n ≤ length cs = prefix_len-le-length is_name_byte cs in
     let rest : length (drop n cs) ≡ length cs - n = length-drop n cs in
-    more_takes (option_and_then (λ f. colon_piece fields f (drop n cs)) (place_of (take n cs) fields)) n (length (drop n cs)) (length cs) (omega arith)
-    (named_takes fields (place_of (take n cs) fields) (drop n cs))
+    more_takes (option_and_then (λ f. colon_piece fields f (drop n cs)) (place_of (encode_utf8_all (take n cs)) fields)) n (length (drop n cs)) (length cs) (omega arith)
+    (named_takes fields (place_of (encode_utf8_all (take n cs)) fields) (drop n cs))
 
 mark_takes : (previous : Option ℕ) (c : ℕ) (cs : List ℕ) → IfSome (mark_piece previous c cs) (Takes (suc (length cs)))
 mark_takes previous c cs =

@@ -38,15 +38,15 @@ abbrev pub placed : Option Kind → ℕ → ℕ → List Token
 placed None from to = []
 placed (Some kind) from to = record { kind = kind; from = from; to = to } ∷ []
 
--- The byte behind these characters, which begin at this one.
-abbrev pub byte_behind : ℕ → List ℕ → ℕ
-byte_behind at cs = at + sum_by len_utf8 cs
+-- How many bytes these characters take.
+abbrev pub byte_len : List ℕ → ℕ
+byte_len cs = sum_by len_utf8 cs
 
 -- The tokens of pieces, the first of which begins at this byte of the text.
 abbrev pub tokens_from : ℕ → List ℕ → List Piece → List Token
 tokens_from at left [] = []
 tokens_from at left (p ∷ ps) =
-    placed p.kind at (byte_behind at (take p.size left)) ++ tokens_from (byte_behind at (take p.size left)) (drop p.size left) ps
+    placed p.kind at (at + byte_len (take p.size left)) ++ tokens_from (at + byte_len (take p.size left)) (drop p.size left) ps
 
 -- The tokens of the text with these characters.
 abbrev pub tokens_in : List Field → List ℕ → List Token

@@ -1,6 +1,6 @@
 -- What stands at a place of a text: the rows of tokens, tried in their order.
-use Rattle.std.specs.Prelude.{ℕ, ◌+◌, min, ◌==◌, ◌&&◌, ◌||◌, not, Bool, true, false, List, [], ◌∷◌, take, drop, if◌then◌else◌, Option, Some, None, option_map, unwrap_or, bytes_eq, codes, encode_utf8_all}
-use Rattle.std.specs.List.{list_all, prefix_len, slice_get}
+use Rattle.std.specs.Prelude.{ℕ, ◌+◌, min, ◌==◌, ◌&&◌, ◌||◌, not, Bool, true, false, List, [], ◌∷◌, take, drop, if◌then◌else◌, Option, Some, None, option_map, unwrap_or, bytes_eq, nat_eq, codes, encode_utf8_all}
+use Rattle.std.specs.List.{list_all, prefix_len, slice_get, starts_with}
 use Rattle.std.specs.Option.{option_and_then}
 use Rattle.std.specs.Char.{is_whitespace, is_ascii_digit}
 use Rattle.std.specs.Str.Parse.{digits_value}
@@ -58,8 +58,8 @@ distance text = if list_all is_ascii_digit text then Some (min 65535 (digits_val
 -- `NEAR/` or `ADJ/` and a distance.
 abbrev pub distant : List ℕ → Option Kind
 distant text =
-    if bytes_eq (take 5 text) (codes "NEAR/") then option_map Kind.Near (distance (drop 5 text))
-    else (if bytes_eq (take 4 text) (codes "ADJ/") then option_map Kind.Adj (distance (drop 4 text))
+    if starts_with nat_eq text (codes "NEAR/") then option_map Kind.Near (distance (drop 5 text))
+    else (if starts_with nat_eq text (codes "ADJ/") then option_map Kind.Adj (distance (drop 4 text))
     else None)
 
 -- The operator that is spelled exactly so.
@@ -77,16 +77,16 @@ operator_of text =
 abbrev pub words_kind : Option ℕ → List (List ℕ) → Kind
 words_kind field terms = if is_one terms then Kind.Word field (first_term terms) else Kind.Joined field terms
 
--- The token of a group without a star: only without a field is it an operator.
-abbrev pub group_kind : Option ℕ → List ℕ → Kind
-group_kind None group = unwrap_or (operator_of (encode_utf8_all group)) (words_kind None (terms_in group))
-group_kind (Some f) group = words_kind (Some f) (terms_in group)
+-- The token of a group without a star, by how it is written: only without a field is it an operator.
+abbrev pub group_kind : Option ℕ → List ℕ → List (List ℕ) → Kind
+group_kind None text terms = unwrap_or (operator_of text) (words_kind None terms)
+group_kind (Some f) text terms = words_kind (Some f) terms
 
 -- The piece of a group of so many characters.
 abbrev pub group_of_len : Option ℕ → ℕ → List ℕ → Piece
 group_of_len field n cs =
     if is_one (terms_in (take n cs)) && is_starred (drop n cs) then token_piece (Kind.Wild field (first_term (terms_in (take n cs)))) (n + 1)
-    else token_piece (group_kind field (take n cs)) n
+    else token_piece (group_kind field (encode_utf8_all (take n cs)) (terms_in (take n cs))) n
 
 -- The piece of the group at this place.
 abbrev pub group_piece : Option ℕ → List ℕ → Piece
@@ -133,7 +133,7 @@ colon_piece fields f (c ∷ cs) =
 -- Behind a name of so many characters.
 abbrev pub named_piece : List Field → ℕ → List ℕ → Option Piece
 named_piece fields n cs =
-    option_map (longer n) (option_and_then (λ f. colon_piece fields f (drop n cs)) (place_of (take n cs) fields))
+    option_map (longer n) (option_and_then (λ f. colon_piece fields f (drop n cs)) (place_of (encode_utf8_all (take n cs)) fields))
 
 -- A field's name, which is the longest run of a to z, 0 to 9 and `_`, a colon, and what the field's kind needs.
 abbrev pub field_piece : List Field → List ℕ → Option Piece
