@@ -1,15 +1,9 @@
 -- What stands in a JSON value: its members, their names, and texts and numbers.
-use Rattle.std.specs.Prelude.{ℕ, suc, ◌+◌, ◌-◌, ◌&&◌, nat_le, Bool, true, false, List, [], length, Option, Some, None, is_some, bytes_eq, if◌then◌else◌}
+use Rattle.std.specs.Prelude.{ℕ, suc, ◌+◌, ◌-◌, ◌&&◌, nat_le, Bool, true, false, List, [], ◌∷◌, length, Option, Some, None, is_some, bytes_eq, if◌then◌else◌}
 use Rattle.std.specs.Option.{option_and_then, option_map}
 use Rattle.std.specs.List.{list_any}
-use Rattle.std.specs.Str.{is_utf8}
 use Rattle.serde_json.specs.Data.{Data, null, boolean, number, string, array, object, Items, no_items, item, Members, no_members, member}
-use Rattle.serde_json.specs.Read.{read}
 use Rattle.serde_json.specs.Find.{get, as_u64, as_number, as_str, as_bool, as_array}
-
--- The value that a line is read as. Bytes that are not UTF-8 are none.
-abbrev pub line_value : List ℕ → Option Data
-line_value line = if is_utf8 line then read line else None
 
 -- The value is an object with this member.
 abbrev pub has : List ℕ → Data → Bool
@@ -72,6 +66,11 @@ pair_of (item a (item b (item c ds))) = None
 -- The two texts of an array of two.
 abbrev pub two_texts : Data → Option (List ℕ × List ℕ)
 two_texts d = option_and_then pair_of (as_array d)
+
+-- The strings that the items are, where they are nothing else.
+abbrev pub texts_of : Items → Option (List (List ℕ))
+texts_of no_items = Some []
+texts_of (item d ds) = option_and_then (λ text. option_map (λ texts. text ∷ texts) (texts_of ds)) (as_str d)
 
 -- How many items there are.
 abbrev pub count_items : Items → ℕ

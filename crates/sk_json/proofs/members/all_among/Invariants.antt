@@ -1,7 +1,7 @@
 use Rattle.std.proofs.Common.{◌≡◌, map}
 use Rattle.serde_json.specs.View.{members_view}
-use Rattle.sk_record.specs.Values.{all_names, is_one_of}
-use Rattle.sk_record.proofs.json.all_among.Given as goal
+use Rattle.sk_json.specs.Values.{all_names, is_one_of}
+use Rattle.sk_json.proofs.members.all_among.Given as goal
 
 -- the names that were passed over are among the wanted, so those that are left decide
 abbrev pub invariant-members : goal.invariant-members

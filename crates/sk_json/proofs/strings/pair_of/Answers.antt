@@ -1,6 +1,6 @@
 use Rattle.std.proofs.Common.{sym, arith}
-use Rattle.sk_record.proofs.ValueLemmas.{not_two}
-use Rattle.sk_record.proofs.json.pair_of.Goals as goal
+use Rattle.sk_json.proofs.ValueLemmas.{not_two}
+use Rattle.sk_json.proofs.strings.pair_of.Goals as goal
 
 pub returns-in-len1 : goal.returns-in-len1
 returns-in-len1 c =

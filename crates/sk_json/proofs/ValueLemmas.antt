@@ -1,15 +1,12 @@
--- Lines, members and items, as the reader finds them.
+-- Members and items, as a reader finds them.
 use Rattle.std.proofs.Common.{◌≡◌, ◌≢◌, ◌+◌, ◌&&◌, ℕ, Bool, true, false, if◌then◌else◌, List, [], ◌∷◌, length, Some, None, String, Global, string_bytes, refl, ap, ◌∙◌, arith}
 use Rattle.std.specs.List.{list_all}
-use Rattle.std.specs.Str.{is_utf8, IsUtf8}
 use Rattle.std.proofs.lemmas.Bool.Decides.{nat_tests}
-use Rattle.std.proofs.lemmas.Str.{is_utf8-from_IsUtf8, IsUtf8-from_is_utf8}
 use Rattle.serde_json.specs.Data.{Data, null, boolean, number, string, array, object, Items, Members}
 use Rattle.serde_json.specs.View.{items_view, members_view}
 use Rattle.serde_json.specs.Find.{as_object, as_array}
-use Rattle.serde_json.specs.Read.{read}
 use Rattle.serde_json.specs.declared.value.Value.{Value}
-use Rattle.sk_record.specs.Values.{line_value, all_names, pair_of, room_behind}
+use Rattle.sk_json.specs.Values.{all_names, pair_of, room_behind}
 
 abbrev pub Entry : Type 0
 Entry = String Global × Value
@@ -29,16 +26,6 @@ array_is (number n) ds e = cc
 array_is (string s) ds e = cc
 array_is (array es) ds e = cc
 array_is (object ns) ds e = cc
-
-pub value_read : (line : List ℕ) (d : Data) → IsUtf8 line → read line ≡ Some d → line_value line ≡ Some d
-value_read line d utf8 e = ap (λ b. if b then read line else None) (is_utf8-from_IsUtf8 line utf8) ∙ e
-
-pub no_value : (line : List ℕ) → (IsUtf8 line → read line ≡ None) → line_value line ≡ None
-no_value line h =
-    elim (is_utf8 line) as (λ b. is_utf8 line ≡ b → (if b then read line else None) ≡ None) [
-      | true ↦ λ e. h (IsUtf8-from_is_utf8 line e)
-      | false ↦ λ e. refl
-    ] refl
 
 pub all_names-members_view : (test : List ℕ → Bool) (es : List Entry) → all_names test (members_view es) ≡ list_all (λ e. test (string_bytes e.0)) es
 all_names-members_view test [] = refl
