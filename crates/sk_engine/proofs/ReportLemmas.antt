@@ -7,6 +7,7 @@ use Rattle.sk_base.specs.declared.doc_entry.DocTerm.{DocTerm}
 use Rattle.sk_base.specs.declared.find.Find.{Find}
 use Rattle.sk_base.specs.declared.find.Scheme.{Scheme}
 use Rattle.sk_base.specs.declared.rank.Rank.{Rank}
+use Rattle.sk_base.specs.declared.schema.Field.{Field}
 use Rattle.sk_base.specs.declared.rank.Order.{Order}
 use Rattle.sk_base.specs.declared.report.Report.{Report}
 use Rattle.sk_base.specs.Documents.{has_term, wdf_of}
@@ -155,6 +156,6 @@ reported_for find docs list report t order alone is so =
     }
 
 -- the report of a term's postings is one that the find may have
-pub reported : (find : Find) (docs : Docs) (list : Postings) (report : Report) (t : List ℕ) → query_of find.ask ≡ Some (term t) → find.order ≡ Order.Relevance → find.collapse ≡ None → list ≡ postings t docs
-    → IsReportOf find docs list report → ReportsOn (query_of find.ask) find docs report
-reported find docs list report t asked order alone is so = subst (λ (q : Option Tree). ReportsOn q find docs report) (sym asked) (reported_for find docs list report t order alone is so)
+pub reported : (fields : List Field) (find : Find) (docs : Docs) (list : Postings) (report : Report) (t : List ℕ) → query_of fields find.ask ≡ Some (term t) → find.order ≡ Order.Relevance → find.collapse ≡ None → list ≡ postings t docs
+    → IsReportOf find docs list report → ReportsOn (query_of fields find.ask) find docs report
+reported fields find docs list report t asked order alone is so = subst (λ (q : Option Tree). ReportsOn q find docs report) (sym asked) (reported_for find docs list report t order alone is so)

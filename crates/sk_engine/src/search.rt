@@ -1,14 +1,11 @@
 //! One search: the matches of a query, the asked page of them, and their bounds.
-ghost use Rattle.std.specs.Prelude.{◌≡◌, ◌≢◌, ◌+◌, length, map, AllPairs, Some, IfOk};
+ghost use Rattle.std.specs.Prelude.{◌≡◌, ◌≢◌, ◌≤◌, ◌+◌, length, map, AllPairs, IfOk};
 ghost use Rattle.sk_base.specs.Before.{is_before};
 ghost use Rattle.sk_base.specs.declared.rank.Order.TheVariants.{Relevance};
-ghost use Rattle.sk_text.specs.Terms.{term_of};
-ghost use Rattle.sk_query.specs.Trees.{term};
-ghost use Rattle.sk_model.specs.Queries.{query_of};
 ghost use Rattle.sk_model.specs.Weights.{weigh};
 ghost use Rattle.sk_model.specs.Page.{best_first, slice};
 ghost use Rattle.sk_model.specs.Reports.{Reports};
-ghost use Rattle.sk_engine.specs.Asked.{IsOneWord, IsAsked};
+ghost use Rattle.sk_engine.specs.Asked.{IsOneWord, AsksFor, IsAsked};
 ghost use Rattle.sk_engine.specs.Found.{rank_in, greatest_weight, hit_of, IsReportOf};
 
 use sk_base::{
@@ -29,8 +26,9 @@ pub fn search<L: Ledger>(
     steps: &mut Steps<L>,
 ) -> Result<Report, AllocError>
     requires { IsAsked find.now }
-    ensures report { IfOk result (λ report. Reports find.now index.now.live report) }
+    ensures report { IfOk result (λ report. Reports index.now.fields find.now index.now.live report) }
     ensures cost { IfOk result (λ report. steps.new ≡ steps.old + report.steps) }
+    ensures later { steps.old ≤ steps.new }
 {
     let term = fold(alloc, word_of(&find.ask))?;
     match index.number_of(term.as_str().as_bytes()) {
@@ -49,7 +47,7 @@ pub fn search<L: Ledger>(
 /// The word that is asked for.
 fn word_of(ask: &Ask) -> &str
     requires { IsOneWord ask.now }
-    ensures { query_of ask.entry.now ≡ Some (term (term_of result.now)) }
+    ensures { AsksFor ask.entry.now result.now }
 {
     match ask {
         Ask::Text(word, _) => word.as_str(),
@@ -66,6 +64,7 @@ fn report_of<L: Ledger>(
 ) -> Result<Report, AllocError>
     ensures report { IfOk result (IsReportOf find.now index.now.live.documents list.now) }
     ensures cost { IfOk result (λ report. steps.new ≡ steps.old + report.steps) }
+    ensures later { steps.old ≤ steps.new }
 {
     let greatest = greatest_weight(list, find.options.scheme);
     let count = list.length();
@@ -131,6 +130,7 @@ fn all_matches<L: Ledger>(
     ensures ranks { IfOk result (λ matches. matches.ranks.items ≡ map (rank_in scheme) list.now) }
     ensures steps { IfOk result (λ matches. matches.steps ≡ length list.now) }
     ensures cost { IfOk result (λ matches. steps.new ≡ steps.old + matches.steps) }
+    ensures later { steps.old ≤ steps.new }
 {
     let mut ranks = Vec::new(alloc);
     let mut cursor = Cursor::open(list, steps);
@@ -192,6 +192,7 @@ fn page<L: Ledger>(
 ) -> Result<Hits, AllocError>
     ensures hits { IfOk result (λ hits. hits ≡ map (hit_of index.now.live.documents) (slice first size ranks.now)) }
     ensures cost { IfOk result (λ hits. steps.new ≡ steps.old + length hits) }
+    ensures later { steps.old ≤ steps.new }
 {
     let hits = hits_of(alloc, index, page_of(ranks, first, size), steps)?;
     Ok(Items::from_vec(hits))
@@ -213,6 +214,7 @@ fn hits_of<L: Ledger>(
 ) -> Result<Vec<Ranked>, AllocError>
     ensures hits { IfOk result (λ hits. hits.items ≡ map (hit_of index.now.live.documents) ranks.now) }
     ensures cost { IfOk result (λ hits. steps.new ≡ steps.old + length hits.items) }
+    ensures later { steps.old ≤ steps.new }
 {
     let mut hits = Vec::new(alloc);
     'ranks: for rank in ranks {

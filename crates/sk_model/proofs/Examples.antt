@@ -25,10 +25,11 @@ use Rattle.sk_model.specs.Bounds.{ceil, static_count}
 use Rattle.sk_model.specs.Counts.{wanted, seen, kept_by, dropped_by, duplicates}
 use Rattle.sk_model.specs.Allowance.{allowance, leaf_readings}
 use Rattle.sk_model.specs.Positions.{is_near, is_phrase}
-use Rattle.sk_model.specs.Ranges.{is_within, is_crossed}
+use Rattle.sk_model.specs.Ranges.{end_of, is_within, is_crossed}
 use Rattle.sk_model.specs.Settled.{settled, decay_point}
 use Rattle.sk_model.specs.Sharp.{stop_number, rare_number, decay_number, sharp}
-use Rattle.sk_query.specs.Trees.{unbounded, number, bytes, Tree, nothing, all, term, wildcard, and_of, or_of, xor_of, max_of, and_not, and_maybe, filter_of, near, phrase, synonym, scale, range, Trees, no_trees, tree}
+use Rattle.sk_query.specs.declared.form.Form.{Form}
+use Rattle.sk_query.specs.Trees.{unbounded, number, bytes, Tree, nothing, all, term, wildcard, parts, near, phrase, synonym, scale, range, Trees, no_trees, tree}
 
 -- a filter `lang` and a number `year`
 abbrev fields : List Field
@@ -175,62 +176,62 @@ all_scores : nnn all bare ≡ Some 0
 all_scores = refl
 
 -- all of an and: the sum
-and_sum : nnn (and_of (two_parts a b)) aba ≡ Some 3
+and_sum : nnn (parts Form.And (two_parts a b)) aba ≡ Some 3
 and_sum = refl
 
-and_lacks : nnn (and_of (two_parts a c)) aba ≡ None
+and_lacks : nnn (parts Form.And (two_parts a c)) aba ≡ None
 and_lacks = refl
 
 -- those of an or that match: the sum
-or_some : nnn (or_of (three_parts c b a)) aba ≡ Some 3
+or_some : nnn (parts Form.Or (three_parts c b a)) aba ≡ Some 3
 or_some = refl
 
-or_none : nnn (or_of (two_parts c l)) aba ≡ None
+or_none : nnn (parts Form.Or (two_parts c l)) aba ≡ None
 or_none = refl
 
 -- three of three match, so an odd number does; two of two do not
-xor_three : nnn (xor_of (three_parts a b c)) abc ≡ Some 3
+xor_three : nnn (parts Form.Xor (three_parts a b c)) abc ≡ Some 3
 xor_three = refl
 
-xor_two : nnn (xor_of (two_parts a b)) abc ≡ None
+xor_two : nnn (parts Form.Xor (two_parts a b)) abc ≡ None
 xor_two = refl
 
 -- `c l b`: the inner xor of `l` and `c` matches twice and so not, and `b` alone weighs 1; over all three at once it would be 3
-xor_inside : nnn (xor_of (two_parts (xor_of (two_parts l c)) b)) (text (has (codes "b") 1 (3 ∷ []) ∷ has (codes "c") 1 (1 ∷ []) ∷ has (codes "l") 1 (2 ∷ []) ∷ [])) ≡ Some 1
+xor_inside : nnn (parts Form.Xor (two_parts (parts Form.Xor (two_parts l c)) b)) (text (has (codes "b") 1 (3 ∷ []) ∷ has (codes "c") 1 (1 ∷ []) ∷ has (codes "l") 1 (2 ∷ []) ∷ [])) ≡ Some 1
 xor_inside = refl
 
-xor_over_all : nnn (xor_of (three_parts l c b)) (text (has (codes "b") 1 (3 ∷ []) ∷ has (codes "c") 1 (1 ∷ []) ∷ has (codes "l") 1 (2 ∷ []) ∷ [])) ≡ Some 3
+xor_over_all : nnn (parts Form.Xor (three_parts l c b)) (text (has (codes "b") 1 (3 ∷ []) ∷ has (codes "c") 1 (1 ∷ []) ∷ has (codes "l") 1 (2 ∷ []) ∷ [])) ≡ Some 3
 xor_over_all = refl
 
 -- `b abc`: `ab` is not there, and the or weighs 2; as one operator over all three it would be 1
-max_of_or : nnn (max_of (two_parts (term (codes "ab")) (or_of (two_parts (term (codes "abc")) b)))) (text (has (codes "abc") 1 (2 ∷ []) ∷ has (codes "b") 1 (1 ∷ []) ∷ [])) ≡ Some 2
+max_of_or : nnn (parts Form.Max (two_parts (term (codes "ab")) (parts Form.Or (two_parts (term (codes "abc")) b)))) (text (has (codes "abc") 1 (2 ∷ []) ∷ has (codes "b") 1 (1 ∷ []) ∷ [])) ≡ Some 2
 max_of_or = refl
 
-max_greatest : nnn (max_of (two_parts b a)) aba ≡ Some 2
+max_greatest : nnn (parts Form.Max (two_parts b a)) aba ≡ Some 2
 max_greatest = refl
 
 -- the first and no other
-not_first : nnn (and_not (two_parts a c)) aba ≡ Some 2
+not_first : nnn (parts Form.AndNot (two_parts a c)) aba ≡ Some 2
 not_first = refl
 
-not_second : nnn (and_not (three_parts a c b)) aba ≡ None
+not_second : nnn (parts Form.AndNot (three_parts a c b)) aba ≡ None
 not_second = refl
 
 -- `fox` with `red` and `den` where they are there: each adds its own
-maybe_both : nnn (and_maybe (three_parts (term (codes "fox")) (term (codes "red")) (term (codes "den")))) (text (has (codes "den") 1 [] ∷ has (codes "fox") 1 [] ∷ has (codes "red") 2 [] ∷ [])) ≡ Some 4
+maybe_both : nnn (parts Form.AndMaybe (three_parts (term (codes "fox")) (term (codes "red")) (term (codes "den")))) (text (has (codes "den") 1 [] ∷ has (codes "fox") 1 [] ∷ has (codes "red") 2 [] ∷ [])) ≡ Some 4
 maybe_both = refl
 
-maybe_one : nnn (and_maybe (three_parts (term (codes "fox")) (term (codes "red")) (term (codes "den")))) (text (has (codes "den") 1 [] ∷ has (codes "fox") 1 [] ∷ [])) ≡ Some 2
+maybe_one : nnn (parts Form.AndMaybe (three_parts (term (codes "fox")) (term (codes "red")) (term (codes "den")))) (text (has (codes "den") 1 [] ∷ has (codes "fox") 1 [] ∷ [])) ≡ Some 2
 maybe_one = refl
 
-maybe_not_first : nnn (and_maybe (two_parts (term (codes "fox")) (term (codes "red")))) (text (has (codes "red") 2 [] ∷ [])) ≡ None
+maybe_not_first : nnn (parts Form.AndMaybe (two_parts (term (codes "fox")) (term (codes "red")))) (text (has (codes "red") 2 [] ∷ [])) ≡ None
 maybe_not_first = refl
 
 -- all of a filter, and the first's weight
-filter_first : nnn (filter_of (two_parts a b)) aba ≡ Some 2
+filter_first : nnn (parts Form.Filter (two_parts a b)) aba ≡ Some 2
 filter_first = refl
 
-filter_lacks : nnn (filter_of (two_parts a c)) aba ≡ None
+filter_lacks : nnn (parts Form.Filter (two_parts a c)) aba ≡ None
 filter_lacks = refl
 
 -- one of the terms is there: their wdfs as one, which weighs 1 under Coord, where an or of them weighs 2
@@ -240,7 +241,7 @@ synonym_sum = refl
 synonym_coord : score (synonym (codes "a" ∷ codes "b" ∷ [])) Scheme.Coord 1 aba ≡ Some 1
 synonym_coord = refl
 
-or_coord : score (or_of (two_parts a b)) Scheme.Coord 1 aba ≡ Some 2
+or_coord : score (parts Form.Or (two_parts a b)) Scheme.Coord 1 aba ≡ Some 2
 or_coord = refl
 
 -- all the terms that begin so, as one
@@ -254,7 +255,7 @@ wild_none : nnn (wildcard (codes "zz")) (red 2) ≡ None
 wild_none = refl
 
 -- factors along a path multiply, and one beside it has its own
-factors : nnn (scale 3 (or_of (two_parts (scale 5 a) b))) aba ≡ Some 33
+factors : nnn (scale 3 (parts Form.Or (two_parts (scale 5 a) b))) aba ≡ Some 33
 factors = refl
 
 -- a factor of 0 takes the weight and not the match
@@ -321,17 +322,17 @@ phrase_alone = refl
 -- ---- ranges
 
 -- both ends are within, byte by byte: `b` lies behind `ab` and before `ba`
-range_ends : is_within (bytes (codes "b")) (bytes (codes "b")) (codes "b") ≡ true
+range_ends : is_within (Some (codes "b")) (Some (codes "b")) (codes "b") ≡ true
 range_ends = refl
 
-range_bytes : is_within (bytes (codes "ab")) (bytes (codes "b")) (codes "ba") ≡ false
+range_bytes : is_within (Some (codes "ab")) (Some (codes "b")) (codes "ba") ≡ false
 range_bytes = refl
 
 -- a number stands for its eight bytes, the highest first: 256 is above 255
-range_number : is_within (number 255) unbounded (0 ∷ 0 ∷ 0 ∷ 0 ∷ 0 ∷ 0 ∷ 1 ∷ 0 ∷ []) ≡ true
+range_number : is_within (end_of (number 255)) None (0 ∷ 0 ∷ 0 ∷ 0 ∷ 0 ∷ 0 ∷ 1 ∷ 0 ∷ []) ≡ true
 range_number = refl
 
-range_below : is_within (number 257) unbounded (0 ∷ 0 ∷ 0 ∷ 0 ∷ 0 ∷ 0 ∷ 1 ∷ 0 ∷ []) ≡ false
+range_below : is_within (end_of (number 257)) None (0 ∷ 0 ∷ 0 ∷ 0 ∷ 0 ∷ 0 ∷ 1 ∷ 0 ∷ []) ≡ false
 range_below = refl
 
 -- a document without the value lies in no range, also where the lower end is open, or both are
@@ -342,10 +343,10 @@ range_open : nnn (range 0 unbounded unbounded) bare ≡ None
 range_open = refl
 
 -- the lower end above the upper one
-range_crossed : is_crossed (number 2000) (number 1990) ≡ true
+range_crossed : is_crossed (end_of (number 2000)) (end_of (number 1990)) ≡ true
 range_crossed = refl
 
-range_point : is_crossed (number 2000) (number 2000) ≡ false
+range_point : is_crossed (end_of (number 2000)) (end_of (number 2000)) ≡ false
 range_point = refl
 
 -- ---- order
@@ -417,23 +418,23 @@ abbrev fox : Tree
 fox = term (codes "fox")
 
 abbrev red_fox : Tree
-red_fox = or_of (two_parts red_term fox)
+red_fox = parts Form.Or (two_parts red_term fox)
 
 red_fox_found : finds red_fox ≡ (1, 3) ∷ (4, 2) ∷ (2, 1) ∷ (3, 1) ∷ []
 red_fox_found = refl
 
-love_red : finds (and_maybe (two_parts red_term fox)) ≡ (1, 3) ∷ (4, 2) ∷ (2, 1) ∷ []
+love_red : finds (parts Form.AndMaybe (two_parts red_term fox)) ≡ (1, 3) ∷ (4, 2) ∷ (2, 1) ∷ []
 love_red = refl
 
-not_fox : finds (and_not (two_parts red_term fox)) ≡ (2, 1) ∷ []
+not_fox : finds (parts Form.AndNot (two_parts red_term fox)) ≡ (2, 1) ∷ []
 not_fox = refl
 
 -- without a weight, since it is `all` that is found
-not_red : finds (and_not (two_parts all red_term)) ≡ (3, 0) ∷ []
+not_red : finds (parts Form.AndNot (two_parts all red_term)) ≡ (3, 0) ∷ []
 not_red = refl
 
 -- document 2 matches two sides and is not there
-xor_red_twice : finds (xor_of (three_parts red_term fox red_term)) ≡ (1, 5) ∷ (4, 3) ∷ (3, 1) ∷ []
+xor_red_twice : finds (parts Form.Xor (three_parts red_term fox red_term)) ≡ (1, 5) ∷ (4, 3) ∷ (3, 1) ∷ []
 xor_red_twice = refl
 
 phrase_found : finds (phrase 2 (codes "red" ∷ codes "fox" ∷ [])) ≡ (1, 3) ∷ (4, 2) ∷ []
@@ -455,7 +456,7 @@ crossed_found = refl
 scaled_found : finds (scale 5 (term (codes "hen"))) ≡ (2, 5) ∷ []
 scaled_found = refl
 
-filter_found : finds (filter_of (two_parts red_term (term (codes "den")))) ≡ (4, 1) ∷ []
+filter_found : finds (parts Form.Filter (two_parts red_term (term (codes "den")))) ≡ (4, 1) ∷ []
 filter_found = refl
 
 -- by year, the later first: a document of no year is last
@@ -513,7 +514,7 @@ wanted_check = refl
 seen_first : weights (seen (record ten { options = record ten.options { size = 2 } }) (matches red_fox Scheme.Nnn Order.Relevance four)) ≡ (1, 3) ∷ (2, 1) ∷ []
 seen_first = refl
 
-one_duplicate : (let find : Find = record (sites 1 Order.Relevance) { options = record (sites 1 Order.Relevance).options { size = 2 } } in duplicates find four (seen find (matches red_fox Scheme.Nnn Order.Relevance four))) ≡ 1
+one_duplicate : (let find : Find = record (sites 1 Order.Relevance) { options = record (first_hits Scheme.Nnn 2 Order.Relevance None).options { size = 2 } } in duplicates find four (seen find (matches red_fox Scheme.Nnn Order.Relevance four))) ≡ 1
 one_duplicate = refl
 
 -- ---- bounds
@@ -529,10 +530,10 @@ no_weight = refl
 or_ceil : ceil red_fox Scheme.Nnn 1 four ≡ 3
 or_ceil = refl
 
-max_ceil : ceil (max_of (two_parts red_term fox)) Scheme.Nnn 1 four ≡ 2
+max_ceil : ceil (parts Form.Max (two_parts red_term fox)) Scheme.Nnn 1 four ≡ 2
 max_ceil = refl
 
-filter_ceil : ceil (filter_of (two_parts (scale 5 red_term) fox)) Scheme.Nnn 1 four ≡ 10
+filter_ceil : ceil (parts Form.Filter (two_parts (scale 5 red_term) fox)) Scheme.Nnn 1 four ≡ 10
 filter_ceil = refl
 
 -- the greatest wdfs of the two are 2 and 1, though no document has both so often
@@ -559,10 +560,10 @@ most_matches = refl
 or_static : static_count red_fox four ≡ 4
 or_static = refl
 
-and_static : static_count (and_of (three_parts red_term (term (codes "hen")) all)) four ≡ 1
+and_static : static_count (parts Form.And (three_parts red_term (term (codes "hen")) all)) four ≡ 1
 and_static = refl
 
-not_static : static_count (and_not (two_parts red_term (term (codes "hen")))) four ≡ 3
+not_static : static_count (parts Form.AndNot (two_parts red_term (term (codes "hen")))) four ≡ 3
 not_static = refl
 
 phrase_static : static_count (phrase 2 (codes "red" ∷ codes "den" ∷ [])) four ≡ 2
@@ -606,7 +607,7 @@ leaf_steps = refl
 wild_steps : leaf_readings (wildcard (codes "L")) four ≡ 4
 wild_steps = refl
 
-other_steps : leaf_readings (and_of (two_parts (range 0 unbounded unbounded) all)) four ≡ 7
+other_steps : leaf_readings (parts Form.And (two_parts (range 0 unbounded unbounded) all)) four ≡ 7
 other_steps = refl
 
 -- ---- where a page is settled
@@ -643,15 +644,15 @@ no_stop : stop_number (scale 2 red_fox) (first_hits Scheme.Bool 2 Order.Relevanc
 no_stop = refl
 
 -- the lists are shorter than 128 readings for each entry of the rare one
-rare : rare_number (and_of (two_parts red_term (term (codes "hen")))) ten four 1 1 ≡ Some 5
+rare : rare_number (parts Form.And (two_parts red_term (term (codes "hen")))) ten four 1 1 ≡ Some 5
 rare = refl
 
-no_rare : rare_number (and_of (two_parts red_term (range 0 unbounded unbounded))) ten four 1 1 ≡ None
+no_rare : rare_number (parts Form.And (two_parts red_term (range 0 unbounded unbounded))) ten four 1 1 ≡ None
 no_rare = refl
 
 -- with size 1: three entries of `red`, one of `fox` up to document 1, 256 readings each for the two entries of `red` behind it and one more, and a hit; the other way round `red` settles at document 1, too
 decay : decay_number red_fox (record ten { options = record ten.options { size = 1 } }) four 1 ≡ Some 773
 decay = refl
 
-no_decay : decay_number (or_of (three_parts red_term fox red_term)) (record ten { options = record ten.options { size = 1 } }) four 1 ≡ None
+no_decay : decay_number (parts Form.Or (three_parts red_term fox red_term)) (record ten { options = record ten.options { size = 1 } }) four 1 ≡ None
 no_decay = refl

@@ -12,6 +12,7 @@ use Rattle.sk_base.specs.declared.doc_entry.DocTerm.{DocTerm}
 use Rattle.sk_base.specs.declared.find.Scheme.{Scheme}
 use Rattle.sk_base.specs.Order.{Precedes}
 use Rattle.sk_base.specs.Documents.{AreTerms, has_term, wdf_of, positions_of, begins_with}
+use Rattle.sk_base.specs.Loads.{load_of}
 use Rattle.sk_base.specs.Numbers.{Docs, length_of, greatest_of, some_has, term_in, terms_with, wild_length_of, wild_greatest_of}
 use Rattle.sk_query.specs.Fits.{are_different}
 use Rattle.sk_model.specs.Weights.{weigh_by}
@@ -145,11 +146,9 @@ wild_step true w n m h = omega arith
 wild_step false w n m h = omega arith
 
 -- no more than all its wdfs together
-wild_within : (prefix : List ℕ) (terms : List DocTerm) → wild_wdf prefix terms ≤ sum_by (λ one. one.wdf) terms
+pub wild_within : (prefix : List ℕ) (terms : List DocTerm) → wild_wdf prefix terms ≤ load_of terms
 wild_within prefix [] = omega arith
-wild_within prefix (one ∷ more) =
-    subst (λ n. wild_wdf prefix (one ∷ more) ≤ n) (sym (sum_by-cons (λ (one : DocTerm). one.wdf) one more))
-    (wild_step (begins_with one.term prefix) one.wdf (wild_wdf prefix more) (sum_by (λ one. one.wdf) more) (wild_within prefix more))
+wild_within prefix (one ∷ more) = wild_step (begins_with one.term prefix) one.wdf (wild_wdf prefix more) (load_of more) (wild_within prefix more)
 
 one_step : (same any : Bool) (w n later sum : ℕ) → (same ≡ true → any ≡ false) → sum ≤ cond any w 0 + later → (if same then w else n) + sum ≤ cond (same || any) w 0 + (n + later)
 one_step true true w n later sum apart h = absurd (true≢false (apart refl))
@@ -180,16 +179,20 @@ none_summed [] = omega arith
 none_summed (t ∷ ts) = let rest = none_summed ts in omega (arith, rest)
 
 -- different terms have no more than all wdfs together
-sum_within : (ts : List (List ℕ)) (terms : List DocTerm) → are_different ts ≡ true → wdf_sum ts terms ≤ sum_by (λ one. one.wdf) terms
+pub sum_within : (ts : List (List ℕ)) (terms : List DocTerm) → are_different ts ≡ true → wdf_sum ts terms ≤ load_of terms
 sum_within ts [] apart = none_summed ts
 sum_within ts (one ∷ more) apart =
-    let rest : wdf_sum ts more ≤ sum_by (λ one. one.wdf) more = sum_within ts more apart in
-    omega (
-      arith,
-      rest,
-      sum_by-cons (λ (one : DocTerm). one.wdf) one more,
-      at_most_one (list_any (bytes_eq one.term) ts) one.wdf (wdf_sum ts more) (wdf_sum ts (one ∷ more)) (one_more one more ts apart),
-    )
+    let rest : wdf_sum ts more ≤ load_of more = sum_within ts more apart in
+    omega (arith, rest, at_most_one (list_any (bytes_eq one.term) ts) one.wdf (wdf_sum ts more) (wdf_sum ts (one ∷ more)) (one_more one more ts apart))
+
+own_step : (same : Bool) (w n rest : ℕ) → n ≤ rest → (if same then w else n) ≤ w + rest
+own_step true w n rest h = omega arith
+own_step false w n rest h = omega (arith, h)
+
+-- one term has no more than all wdfs together
+pub wdf_within : (t : List ℕ) (terms : List DocTerm) → wdf_of t terms ≤ load_of terms
+wdf_within t [] = omega arith
+wdf_within t (one ∷ more) = own_step (bytes_eq one.term t) one.wdf (wdf_of t more) (load_of more) (wdf_within t more)
 
 -- ---- a document among others
 
@@ -343,11 +346,11 @@ module _ (scheme : Scheme) (docs : Docs) (d : Doc) (so : Inside docs d) where
         | false ↦ λ h g. let rest : 0 < lengths_of ts docs = some_long ts g in omega (arith, rest)
       ] refl e
 
-  module _ (few : sum_by (λ one. one.wdf) d.terms < 2 ^ 29) where
+  module _ (few : load_of d.terms < 2 ^ 29) where
     pub synonym_le : (factor : ℕ) (ts : List (List ℕ)) → are_different ts ≡ true → list_any (λ t. has_term t d.terms) ts ≡ true
         → weigh_by factor scheme (wdf_sum ts d.terms) ≤ joint_ceil scheme factor (lengths_of ts docs) (greatests_of ts docs)
     synonym_le factor ts apart some =
-        let all : wdf_sum ts d.terms ≤ sum_by (λ one. one.wdf) d.terms = sum_within ts d.terms apart in
+        let all : wdf_sum ts d.terms ≤ load_of d.terms = sum_within ts d.terms apart in
         joint_le scheme factor (wdf_sum ts d.terms) (lengths_of ts docs) (greatests_of ts docs) (some_long ts some) (omega (arith, all, few)) (sums_le ts)
 
     wild_long : (prefix t : List ℕ) → has_term t d.terms ≡ true → begins_with t prefix ≡ true → 0 < wild_length_of prefix docs
@@ -362,5 +365,5 @@ module _ (scheme : Scheme) (docs : Docs) (d : Doc) (so : Inside docs d) where
         let found = own_begins prefix d.terms some in
         let sum : wild_wdf prefix d.terms ≤ sum_by (λ t. greatest_of t docs) (terms_with prefix docs) =
         subset prefix (λ t. greatest_of t docs) d.terms (terms_with prefix docs) rising so.wdf (λ t h b. member prefix t b docs (so.has t h)) in
-        let all : wild_wdf prefix d.terms ≤ sum_by (λ one. one.wdf) d.terms = wild_within prefix d.terms in
+        let all : wild_wdf prefix d.terms ≤ load_of d.terms = wild_within prefix d.terms in
         joint_le scheme factor (wild_wdf prefix d.terms) (wild_length_of prefix docs) (wild_greatest_of prefix docs) (wild_long prefix found.0 found.1 found.2) (omega (arith, all, few)) (omega (arith, sum, all, few))

@@ -2,9 +2,11 @@ pub mod OrderLaws
 pub mod DocumentLaws
 pub mod TermLaws
 pub mod KeptLaws
+pub mod CombiningLaws
 pub mod HeldLaws
 pub mod CeilLaws
 pub mod StaticLaws
+pub mod WeightLaws
 pub mod CountLaws
 pub mod ReportLaws
 pub mod SettledLaws

@@ -7,7 +7,6 @@ use Rattle.std.specs.Cmp.Lexicographic.{slice_cmp, nat_list_cmp_total}
 use Rattle.std.specs.Ordering.{nat_cmp, is_le, is_gt}
 use Rattle.std.specs.declared.cmp.Ordering.{Ordering}
 use Rattle.std.specs.declared.cmp.Ordering.TheVariants.{Less, Equal, Greater}
-use Rattle.std.specs.Int.{to_be_bytes, w64}
 use Rattle.sk_base.specs.declared.doc.Doc.{Doc}
 use Rattle.sk_base.specs.declared.doc_entry.DocTerm.{DocTerm}
 use Rattle.sk_base.specs.declared.doc_entry.SlotValue.{SlotValue}
@@ -15,14 +14,16 @@ use Rattle.sk_base.specs.declared.find.Scheme.{Scheme}
 use Rattle.sk_base.specs.declared.rank.Order.{Order}
 use Rattle.sk_base.specs.declared.rank.Rank.{Rank}
 use Rattle.sk_base.specs.Documents.{has_term, begins_with, value_in, has_value}
-use Rattle.sk_base.specs.Numbers.{Docs, length_of, terms_with, wild_length_of, slot_length_of}
-use Rattle.sk_query.specs.Trees.{Limit, unbounded, number, bytes, Tree, nothing, all, term, wildcard, and_of, or_of, xor_of, max_of, and_not, and_maybe, filter_of, near, phrase, synonym, scale, range, Trees, no_trees, tree}
+use Rattle.sk_base.specs.Numbers.{Docs, live_of, length_of, terms_with, wild_length_of, slot_length_of}
+use Rattle.sk_query.specs.declared.form.Form.{Form}
+use Rattle.sk_query.specs.Trees.{Tree, nothing, all, term, wildcard, parts, near, phrase, synonym, scale, range, Trees, no_trees, tree}
 use Rattle.sk_query.specs.Fits.{is_sound, are_sound, has_parts, is_factor}
 use Rattle.sk_model.specs.Positions.{is_near, is_phrase}
-use Rattle.sk_model.specs.Ranges.{is_from, is_to, is_within, is_crossed}
-use Rattle.sk_model.specs.Scores.{weight_if, both, either, greater, where_so, with_more, places_of, score, all_scores, any_score, max_score, not_score, maybe_score, filter_score}
+use Rattle.sk_model.specs.Ranges.{end_of, is_from, is_to, is_within, is_crossed}
+use Rattle.sk_model.specs.Combining.{both, either, where_so, with_more, sum_of_all, sum_of_any, greatest_score, first_alone, first_with_more, first_of_all}
+use Rattle.sk_model.specs.Scores.{weight_if, places_of, score, scores}
 use Rattle.sk_model.specs.Matches.{matches}
-use Rattle.sk_model.specs.Bounds.{static_count, static_sum, static_least, static_first, lengths_of, least_length}
+use Rattle.sk_model.specs.Bounds.{static_count, statics, sum_in, least_in, first_in, lengths_of, least_length}
 use Rattle.sk_model.proofs.HeldLaws.{Inside, inside_each, among, member, own_begins, each_weaker, Have, near_have, phrase_have}
 use Rattle.sk_model.proofs.CeilLaws.{first_so, second_so, third_so}
 
@@ -103,10 +104,6 @@ either_there : (a b : Option ℕ) → is_some (either a b) ≡ true → (is_some
 either_there None b e = e
 either_there (Some v) b e = refl
 
-greater_there : (a b : Option ℕ) → is_some (greater a b) ≡ true → (is_some a || is_some b) ≡ true
-greater_there None b e = e
-greater_there (Some v) b e = refl
-
 where_there : (test : Bool) (a : Option ℕ) → is_some (where_so test a) ≡ true → is_some a ≡ true
 where_there true a e = e
 where_there false a e = absurd (true≢false (sym e))
@@ -118,6 +115,20 @@ where_test false a e = e
 more_there : (a b : Option ℕ) → is_some (with_more a b) ≡ true → is_some a ≡ true
 more_there None b e = e
 more_there (Some v) b e = refl
+
+-- the greatest is there where the sum over any is
+greatest_there : (ss : List (Option ℕ)) → is_some (greatest_score ss) ≡ true → is_some (sum_of_any ss) ≡ true
+greatest_there [] e = e
+greatest_there (None ∷ ss) e = greatest_there ss e
+greatest_there (Some v ∷ ss) e = either_first v (sum_of_any ss)
+  where
+    either_first : (v : ℕ) (b : Option ℕ) → is_some (either (Some v) b) ≡ true
+    either_first v None = refl
+    either_first v (Some w) = refl
+
+of_all_there : (ss : List (Option ℕ)) → is_some (first_of_all ss) ≡ true → is_some (sum_of_all ss) ≡ true
+of_all_there [] e = refl
+of_all_there (s ∷ ss) e = both_there s (sum_of_all ss) (where_there _ s e) (where_test (is_some (sum_of_all ss)) s e)
 
 -- ---- leaves
 
@@ -188,18 +199,16 @@ not_gt_le Greater e = absurd (true≢false e)
 through : (a v b : List ℕ) → is_le (slice_cmp nat_cmp a v) ≡ true → is_le (slice_cmp nat_cmp v b) ≡ true → is_le (slice_cmp nat_cmp a b) ≡ true
 through a v b h g = not_gt_le (slice_cmp nat_cmp a b) (upto nat_list_cmp_total a v b (le_not_gt (slice_cmp nat_cmp a v) h) (le_not_gt (slice_cmp nat_cmp v b) g))
 
-from_through : (lo : Limit) (v b : List ℕ) → is_from lo v ≡ true → is_le (slice_cmp nat_cmp v b) ≡ true → is_from lo b ≡ true
-from_through unbounded v b h g = refl
-from_through (number n) v b h g = through (to_be_bytes w64 n) v b h g
-from_through (bytes lo) v b h g = through lo v b h g
+from_through : (lo : Option (List ℕ)) (v b : List ℕ) → is_from lo v ≡ true → is_le (slice_cmp nat_cmp v b) ≡ true → is_from lo b ≡ true
+from_through None v b h g = refl
+from_through (Some lo) v b h g = through lo v b h g
 
 -- a value lies between the ends, so they are not crossed
-not_crossed : (lo hi : Limit) (v : List ℕ) → is_from lo v ≡ true → is_to hi v ≡ true → is_crossed lo hi ≡ false
-not_crossed lo unbounded v h g = refl
-not_crossed lo (number n) v h g = ap not (from_through lo v (to_be_bytes w64 n) h g)
-not_crossed lo (bytes hi) v h g = ap not (from_through lo v hi h g)
+not_crossed : (lo hi : Option (List ℕ)) (v : List ℕ) → is_from lo v ≡ true → is_to hi v ≡ true → is_crossed lo hi ≡ false
+not_crossed lo None v h g = refl
+not_crossed lo (Some hi) v h g = ap not (from_through lo v hi h g)
 
-range_step : (lo hi : Limit) (slot : ℕ) (docs : Docs) (crossed : Bool) → is_crossed lo hi ≡ crossed
+range_step : (lo hi : Option (List ℕ)) (slot : ℕ) (docs : Docs) (crossed : Bool) → is_crossed lo hi ≡ crossed
     → count_by (λ (one : ℕ × Doc). is_within lo hi (value_in slot one.1.values)) docs ≤ (if crossed then 0 else slot_length_of slot docs)
 range_step lo hi slot docs true e =
     count_none (λ (one : ℕ × Doc). is_within lo hi (value_in slot one.1.values))
@@ -219,10 +228,23 @@ module _ (scheme : Scheme) (docs : Docs) where
   there q factor one = is_some (score q scheme factor one.1)
 
   abbrev any_there : Trees → ℕ → ℕ × Doc → Bool
-  any_there ts factor one = is_some (any_score ts scheme factor one.1)
+  any_there ts factor one = is_some (sum_of_any (scores ts scheme factor one.1))
 
   abbrev all_there : Trees → ℕ → ℕ × Doc → Bool
-  all_there ts factor one = is_some (all_scores ts scheme factor one.1)
+  all_there ts factor one = is_some (sum_of_all (scores ts scheme factor one.1))
+
+  -- whether the first has a score
+  abbrev first_there : Trees → ℕ → ℕ × Doc → Bool
+  first_there no_trees factor one = false
+  first_there (tree t ts) factor one = there t factor one
+
+  alone_first : (ts : Trees) (factor : ℕ) (one : ℕ × Doc) → is_some (first_alone (scores ts scheme factor one.1)) ≡ true → first_there ts factor one ≡ true
+  alone_first no_trees factor one h = h
+  alone_first (tree t ts) factor one h = where_there _ (score t scheme factor one.1) h
+
+  with_more_first : (ts : Trees) (factor : ℕ) (one : ℕ × Doc) → is_some (first_with_more (scores ts scheme factor one.1)) ≡ true → first_there ts factor one ≡ true
+  with_more_first no_trees factor one h = h
+  with_more_first (tree t ts) factor one h = more_there (score t scheme factor one.1) _ h
 
   no_more_live : (p : ℕ × Doc → Bool) (n : ℕ) → count_by p docs ≤ n → count_by p docs ≤ min (length docs) n
   no_more_live p n h = omega (arith, h, count_by-le-length p docs)
@@ -236,17 +258,22 @@ module _ (scheme : Scheme) (docs : Docs) where
     tree_count (wildcard prefix) above factor e =
         let some = count_weaker (there (wildcard prefix) factor) (λ one. list_any (λ own. begins_with own.term prefix) one.1.terms) (λ one h. weight_there (list_any (λ own. begins_with own.term prefix) one.1.terms) _ h) docs in
         omega (arith, some, wild_counted prefix docs)
-    tree_count (and_of ts) above factor e = least_parts ts above factor (first_so (has_parts ts) (are_sound above ts) e) (second_so (has_parts ts) (are_sound above ts) e)
-    tree_count (or_of ts) above factor e = no_more_live (there (or_of ts) factor) (static_sum ts docs) (sum_parts ts above factor (second_so (has_parts ts) (are_sound above ts) e))
-    tree_count (xor_of ts) above factor e =
-        let some = count_weaker (there (xor_of ts) factor) (any_there ts factor) (λ one h. where_there _ (any_score ts scheme factor one.1) h) docs in
-        no_more_live (there (xor_of ts) factor) (static_sum ts docs) (omega (arith, some, sum_parts ts above factor (second_so (has_parts ts) (are_sound above ts) e)))
-    tree_count (max_of ts) above factor e =
-        no_more_live (there (max_of ts) factor) (static_sum ts docs) (max_parts ts above factor (second_so (has_parts ts) (are_sound above ts) e))
-    tree_count (and_not ts) above factor e = not_parts ts above factor (second_so (has_parts ts) (are_sound above ts) e)
-    tree_count (and_maybe ts) above factor e = maybe_parts ts above factor (second_so (has_parts ts) (are_sound above ts) e)
-    tree_count (filter_of ts) above factor e =
-        let some = count_weaker (there (filter_of ts) factor) (all_there ts factor) (λ one h. filter_there ts factor one h) docs in
+    tree_count (parts Form.And ts) above factor e = least_parts ts above factor (first_so (has_parts ts) (are_sound above ts) e) (second_so (has_parts ts) (are_sound above ts) e)
+    tree_count (parts Form.Or ts) above factor e = no_more_live (any_there ts factor) (sum_in (statics ts docs)) (sum_parts ts above factor (second_so (has_parts ts) (are_sound above ts) e))
+    tree_count (parts Form.Xor ts) above factor e =
+        let some = count_weaker (there (parts Form.Xor ts) factor) (any_there ts factor) (λ one h. where_there _ (sum_of_any (scores ts scheme factor one.1)) h) docs in
+        no_more_live (there (parts Form.Xor ts) factor) (sum_in (statics ts docs)) (omega (arith, some, sum_parts ts above factor (second_so (has_parts ts) (are_sound above ts) e)))
+    tree_count (parts Form.Max ts) above factor e =
+        let some = count_weaker (there (parts Form.Max ts) factor) (any_there ts factor) (λ one h. greatest_there (scores ts scheme factor one.1) h) docs in
+        no_more_live (there (parts Form.Max ts) factor) (sum_in (statics ts docs)) (omega (arith, some, sum_parts ts above factor (second_so (has_parts ts) (are_sound above ts) e)))
+    tree_count (parts Form.AndNot ts) above factor e =
+        let some = count_weaker (there (parts Form.AndNot ts) factor) (first_there ts factor) (λ one h. alone_first ts factor one h) docs in
+        omega (arith, some, first_part ts above factor (second_so (has_parts ts) (are_sound above ts) e))
+    tree_count (parts Form.AndMaybe ts) above factor e =
+        let some = count_weaker (there (parts Form.AndMaybe ts) factor) (first_there ts factor) (λ one h. with_more_first ts factor one h) docs in
+        omega (arith, some, first_part ts above factor (second_so (has_parts ts) (are_sound above ts) e))
+    tree_count (parts Form.Filter ts) above factor e =
+        let some = count_weaker (there (parts Form.Filter ts) factor) (all_there ts factor) (λ one h. of_all_there (scores ts scheme factor one.1) h) docs in
         omega (arith, some, least_parts ts above factor (first_so (has_parts ts) (are_sound above ts) e) (second_so (has_parts ts) (are_sound above ts) e))
     tree_count (near window ts) above factor e =
         some_least (there (near window ts) factor) ts docs (λ one h. let so = weight_there (is_near window (places_of ts one.1.terms)) _ h in (near_some window one.1.terms ts so, near_have window one.1.terms ts so))
@@ -257,30 +284,17 @@ module _ (scheme : Scheme) (docs : Docs) where
         no_more_live (there (synonym ts) factor) (lengths_of ts docs) (omega (arith, some, lengths_count ts docs))
     tree_count (scale f t) above factor e = tree_count t (above * f) (factor * f) (third_so (is_factor f) (is_factor (above * f)) (is_sound (above * f) t) e)
     tree_count (range slot lo hi) above factor e =
-        let some = count_weaker (there (range slot lo hi) factor) (λ one. is_within lo hi (value_in slot one.1.values)) (λ one h. weight_there (is_within lo hi (value_in slot one.1.values)) _ h) docs in
-        omega (arith, some, range_step lo hi slot docs (is_crossed lo hi) refl)
+        let some = count_weaker (there (range slot lo hi) factor) (λ one. is_within (end_of lo) (end_of hi) (value_in slot one.1.values)) (λ one h. weight_there (is_within (end_of lo) (end_of hi) (value_in slot one.1.values)) _ h) docs in
+        omega (arith, some, range_step (end_of lo) (end_of hi) slot docs (is_crossed (end_of lo) (end_of hi)) refl)
 
-    sum_parts : (ts : Trees) (above factor : ℕ) → are_sound above ts ≡ true → count_by (any_there ts factor) docs ≤ static_sum ts docs
+    sum_parts : (ts : Trees) (above factor : ℕ) → are_sound above ts ≡ true → count_by (any_there ts factor) docs ≤ sum_in (statics ts docs)
     sum_parts no_trees above factor e = count_none (any_there no_trees factor) (λ one h. true≢false (sym h)) docs
     sum_parts (tree t ts) above factor e =
         let first = tree_count t above factor (first_so (is_sound above t) (are_sound above ts) e) in
         let rest = sum_parts ts above factor (second_so (is_sound above t) (are_sound above ts) e) in
-        omega (arith, first, rest, count_either (any_there (tree t ts) factor) (there t factor) (any_there ts factor) (λ one h. either_there (score t scheme factor one.1) (any_score ts scheme factor one.1) h) docs)
+        omega (arith, first, rest, count_either (any_there (tree t ts) factor) (there t factor) (any_there ts factor) (λ one h. either_there (score t scheme factor one.1) (sum_of_any (scores ts scheme factor one.1)) h) docs)
 
-    max_parts : (ts : Trees) (above factor : ℕ) → are_sound above ts ≡ true → count_by (λ (one : ℕ × Doc). is_some (max_score ts scheme factor one.1)) docs ≤ static_sum ts docs
-    max_parts no_trees above factor e = count_none (λ (one : ℕ × Doc). is_some (max_score no_trees scheme factor one.1)) (λ one h. true≢false (sym h)) docs
-    max_parts (tree t ts) above factor e =
-        let first = tree_count t above factor (first_so (is_sound above t) (are_sound above ts) e) in
-        let rest = max_parts ts above factor (second_so (is_sound above t) (are_sound above ts) e) in
-        omega (
-          arith,
-          first,
-          rest,
-          count_either (λ (one : ℕ × Doc). is_some (max_score (tree t ts) scheme factor one.1)) (there t factor) (λ (one : ℕ × Doc). is_some (max_score ts scheme factor one.1))
-              (λ one h. greater_there (score t scheme factor one.1) (max_score ts scheme factor one.1) h) docs,
-        )
-
-    least_parts : (ts : Trees) (above factor : ℕ) → has_parts ts ≡ true → are_sound above ts ≡ true → count_by (all_there ts factor) docs ≤ static_least ts docs
+    least_parts : (ts : Trees) (above factor : ℕ) → has_parts ts ≡ true → are_sound above ts ≡ true → count_by (all_there ts factor) docs ≤ least_in (statics ts docs)
     least_parts no_trees above factor some e = absurd (true≢false (sym some))
     least_parts (tree t no_trees) above factor some e =
         let first = tree_count t above factor (first_so (is_sound above t) true e) in
@@ -292,26 +306,13 @@ module _ (scheme : Scheme) (docs : Docs) where
           arith,
           first,
           rest,
-          count_weaker (all_there (tree t (tree s ts)) factor) (there t factor) (λ one h. both_first (score t scheme factor one.1) (all_scores (tree s ts) scheme factor one.1) h) docs,
-          count_weaker (all_there (tree t (tree s ts)) factor) (all_there (tree s ts) factor) (λ one h. both_second (score t scheme factor one.1) (all_scores (tree s ts) scheme factor one.1) h) docs,
+          count_weaker (all_there (tree t (tree s ts)) factor) (there t factor) (λ one h. both_first (score t scheme factor one.1) (sum_of_all (scores (tree s ts) scheme factor one.1)) h) docs,
+          count_weaker (all_there (tree t (tree s ts)) factor) (all_there (tree s ts) factor) (λ one h. both_second (score t scheme factor one.1) (sum_of_all (scores (tree s ts) scheme factor one.1)) h) docs,
         )
 
-    not_parts : (ts : Trees) (above factor : ℕ) → are_sound above ts ≡ true → count_by (λ (one : ℕ × Doc). is_some (not_score ts scheme factor one.1)) docs ≤ static_first ts docs
-    not_parts no_trees above factor e = count_none (λ (one : ℕ × Doc). is_some (not_score no_trees scheme factor one.1)) (λ one h. true≢false (sym h)) docs
-    not_parts (tree t ts) above factor e =
-        let first = tree_count t above factor (first_so (is_sound above t) (are_sound above ts) e) in
-        omega (arith, first, count_weaker (λ (one : ℕ × Doc). is_some (not_score (tree t ts) scheme factor one.1)) (there t factor) (λ one h. where_there _ (score t scheme factor one.1) h) docs)
-
-    maybe_parts : (ts : Trees) (above factor : ℕ) → are_sound above ts ≡ true → count_by (λ (one : ℕ × Doc). is_some (maybe_score ts scheme factor one.1)) docs ≤ static_first ts docs
-    maybe_parts no_trees above factor e = count_none (λ (one : ℕ × Doc). is_some (maybe_score no_trees scheme factor one.1)) (λ one h. true≢false (sym h)) docs
-    maybe_parts (tree t ts) above factor e =
-        let first = tree_count t above factor (first_so (is_sound above t) (are_sound above ts) e) in
-        omega (arith, first, count_weaker (λ (one : ℕ × Doc). is_some (maybe_score (tree t ts) scheme factor one.1)) (there t factor) (λ one h. more_there (score t scheme factor one.1) (any_score ts scheme factor one.1) h) docs)
-
-    filter_there : (ts : Trees) (factor : ℕ) (one : ℕ × Doc) → is_some (filter_score ts scheme factor one.1) ≡ true → all_there ts factor one ≡ true
-    filter_there no_trees factor one h = refl
-    filter_there (tree t ts) factor one h =
-        both_there (score t scheme factor one.1) (all_scores ts scheme factor one.1) (where_there _ (score t scheme factor one.1) h) (where_test (is_some (all_scores ts scheme factor one.1)) (score t scheme factor one.1) h)
+    first_part : (ts : Trees) (above factor : ℕ) → are_sound above ts ≡ true → count_by (first_there ts factor) docs ≤ first_in (statics ts docs)
+    first_part no_trees above factor e = count_none (first_there no_trees factor) (λ one h. true≢false (sym h)) docs
+    first_part (tree t ts) above factor e = tree_count t above factor (first_so (is_sound above t) (are_sound above ts) e)
 
 -- ---- matches
 
@@ -329,3 +330,47 @@ matches_counted query scheme order (one ∷ docs) =
 -- no more documents match than the static count says
 pub matches_within : (query : Tree) (scheme : Scheme) (order : Order) (above : ℕ) (docs : Docs) → is_sound above query ≡ true → length (matches query scheme order docs) ≤ static_count query docs
 matches_within query scheme order above docs e = omega (arith, matches_counted query scheme order docs, tree_count scheme docs query above 1 e)
+
+-- ---- live documents
+
+live_length : (t : List ℕ) (docs : Docs) → length_of t docs ≤ live_of docs
+live_length t docs = count_by-le-length (λ (one : ℕ × Doc). has_term t one.1.terms) docs
+
+least_live : (ts : List (List ℕ)) (docs : Docs) → least_length ts docs ≤ live_of docs
+least_live [] docs = omega arith
+least_live (t ∷ []) docs = live_length t docs
+least_live (t ∷ s ∷ ts) docs = omega (arith, live_length t docs)
+
+none_crossed : (crossed : Bool) (n live : ℕ) → n ≤ live → (if crossed then 0 else n) ≤ live
+none_crossed true n live h = omega arith
+none_crossed false n live h = h
+
+module _ (docs : Docs) where
+  mutual
+    -- the static count is not above the number of documents
+    pub static_live : (q : Tree) → static_count q docs ≤ live_of docs
+    static_live nothing = omega arith
+    static_live all = omega arith
+    static_live (term t) = live_length t docs
+    static_live (wildcard prefix) = omega arith
+    static_live (parts Form.And ts) = least_parts_live ts
+    static_live (parts Form.Or ts) = omega arith
+    static_live (parts Form.Xor ts) = omega arith
+    static_live (parts Form.Max ts) = omega arith
+    static_live (parts Form.AndNot ts) = first_part_live ts
+    static_live (parts Form.AndMaybe ts) = first_part_live ts
+    static_live (parts Form.Filter ts) = least_parts_live ts
+    static_live (near window ts) = least_live ts docs
+    static_live (phrase window ts) = least_live ts docs
+    static_live (synonym ts) = omega arith
+    static_live (scale f t) = static_live t
+    static_live (range slot lo hi) = none_crossed (is_crossed (end_of lo) (end_of hi)) (slot_length_of slot docs) (live_of docs) (count_by-le-length (λ (one : ℕ × Doc). has_value slot one.1.values) docs)
+
+    least_parts_live : (ts : Trees) → least_in (statics ts docs) ≤ live_of docs
+    least_parts_live no_trees = omega arith
+    least_parts_live (tree t no_trees) = static_live t
+    least_parts_live (tree t (tree s ts)) = let first : static_count t docs ≤ live_of docs = static_live t in omega (arith, first)
+
+    first_part_live : (ts : Trees) → first_in (statics ts docs) ≤ live_of docs
+    first_part_live no_trees = omega arith
+    first_part_live (tree t ts) = static_live t

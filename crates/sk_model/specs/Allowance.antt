@@ -5,7 +5,7 @@ use Rattle.sk_base.specs.declared.find.Collapse.{Collapse}
 use Rattle.sk_base.specs.declared.find.Find.{Find}
 use Rattle.sk_base.specs.declared.rank.Order.{Order}
 use Rattle.sk_base.specs.Numbers.{Docs, live_of, length_of, slot_length_of, terms_with}
-use Rattle.sk_query.specs.Trees.{Tree, nothing, all, term, wildcard, and_of, or_of, xor_of, max_of, and_not, and_maybe, filter_of, near, phrase, synonym, scale, range, Trees, no_trees, tree}
+use Rattle.sk_query.specs.Trees.{Tree, nothing, all, term, wildcard, parts, near, phrase, synonym, scale, range, Trees, no_trees, tree}
 use Rattle.sk_model.specs.Bounds.{lengths_of}
 
 abbrev mutual
@@ -15,13 +15,7 @@ abbrev mutual
   leaf_readings all docs = live_of docs
   leaf_readings (term t) docs = length_of t docs
   leaf_readings (wildcard prefix) docs = sum_by (λ t. length_of t docs) (terms_with prefix docs)
-  leaf_readings (and_of ts) docs = leaves_readings ts docs
-  leaf_readings (or_of ts) docs = leaves_readings ts docs
-  leaf_readings (xor_of ts) docs = leaves_readings ts docs
-  leaf_readings (max_of ts) docs = leaves_readings ts docs
-  leaf_readings (and_not ts) docs = leaves_readings ts docs
-  leaf_readings (and_maybe ts) docs = leaves_readings ts docs
-  leaf_readings (filter_of ts) docs = leaves_readings ts docs
+  leaf_readings (parts form ts) docs = leaves_readings ts docs
   leaf_readings (near window ts) docs = lengths_of ts docs + lengths_of ts docs
   leaf_readings (phrase window ts) docs = lengths_of ts docs + lengths_of ts docs
   leaf_readings (synonym ts) docs = lengths_of ts docs

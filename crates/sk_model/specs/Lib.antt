@@ -4,6 +4,7 @@ pub mod Queries
 pub mod Weights
 pub mod Positions
 pub mod Ranges
+pub mod Combining
 pub mod Scores
 pub mod Matches
 pub mod Page

@@ -6,7 +6,8 @@ use Rattle.sk_base.specs.declared.find.Find.{Find}
 use Rattle.sk_base.specs.declared.rank.Order.{Order}
 use Rattle.sk_base.specs.Documents.{has_term}
 use Rattle.sk_base.specs.Numbers.{Docs, length_of, terms_with}
-use Rattle.sk_query.specs.Trees.{Tree, term, wildcard, and_of, or_of, max_of, and_not, and_maybe, filter_of, synonym, Trees, no_trees, tree}
+use Rattle.sk_query.specs.declared.form.Form.{Form}
+use Rattle.sk_query.specs.Trees.{Tree, term, wildcard, parts, synonym, Trees, no_trees, tree}
 use Rattle.sk_model.specs.Allowance.{allowance, extra}
 use Rattle.sk_model.specs.Bounds.{least_length}
 use Rattle.sk_model.specs.Matches.{matches}
@@ -31,8 +32,8 @@ abbrev pub flat_lists : Tree → Docs → Option (List (List ℕ))
 flat_lists (term t) docs = Some (t ∷ [])
 flat_lists (synonym ts) docs = Some ts
 flat_lists (wildcard prefix) docs = Some (terms_with prefix docs)
-flat_lists (or_of ts) docs = terms_in ts
-flat_lists (max_of ts) docs = terms_in ts
+flat_lists (parts Form.Or ts) docs = terms_in ts
+flat_lists (parts Form.Max ts) docs = terms_in ts
 flat_lists _ docs = None
 
 -- Of each list its postings up to an id and one more.
@@ -68,10 +69,10 @@ of_two _ = None
 
 -- The terms of a query with a rare side, and the length that leads: the shortest list of an and of terms, the first list of an and_not or a filter of terms or of an and_maybe of two.
 abbrev pub rare_lists : Tree → Docs → Option (List (List ℕ) × ℕ)
-rare_lists (and_of ts) docs = option_map (λ lists. (lists, least_length lists docs)) (terms_in ts)
-rare_lists (and_not ts) docs = led_by_first (terms_in ts) docs
-rare_lists (filter_of ts) docs = led_by_first (terms_in ts) docs
-rare_lists (and_maybe ts) docs = led_by_first (of_two (terms_in ts)) docs
+rare_lists (parts Form.And ts) docs = option_map (λ lists. (lists, least_length lists docs)) (terms_in ts)
+rare_lists (parts Form.AndNot ts) docs = led_by_first (terms_in ts) docs
+rare_lists (parts Form.Filter ts) docs = led_by_first (terms_in ts) docs
+rare_lists (parts Form.AndMaybe ts) docs = led_by_first (of_two (terms_in ts)) docs
 rare_lists _ docs = None
 
 -- Of each list its length, or 128 readings for each posting of the leading one and 128 more, where that is less.
@@ -95,7 +96,7 @@ decay_of query find docs hits _ = None
 
 -- The decay number: of an or of exactly two terms, by relevance and without collapsing.
 abbrev pub decay_number : Tree → Find → Docs → ℕ → Option ℕ
-decay_number (or_of ts) find docs hits = if is_plain find then decay_of (or_of ts) find docs hits (of_two (terms_in ts)) else None
+decay_number (parts Form.Or ts) find docs hits = if is_plain find then decay_of (parts Form.Or ts) find docs hits (of_two (terms_in ts)) else None
 decay_number _ find docs hits = None
 
 -- The lesser of a number and one that may apply.

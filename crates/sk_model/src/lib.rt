@@ -1,7 +1,8 @@
-//! The definitions that every answer of the engine is proved against, and their laws.
+//! The definitions that every answer of the engine is proved against, and their laws; the order and the page of matches.
 #![tactic(auto)]
 
 mod bounds;
+mod combining;
 mod counts;
 mod documents;
 mod one_word;
@@ -10,11 +11,14 @@ mod page;
 mod reports;
 mod settled;
 
-pub use bounds::{matches_within_static, score_within_ceil};
+pub use bounds::{matches_within_static, score_within_ceil, static_within_live, weights_fit};
+pub use combining::{
+    first_and_others, scores_in_any_order, scores_in_pieces, scores_that_are_there,
+};
 pub use counts::{counts_are_there, counts_in_order};
 pub use documents::{slots_of_schema, terms_of_mentions};
 pub use one_word::is_one_word;
-pub use order::one_order;
-pub use page::{kept_by_keys, kept_of_front};
+pub use order::{one_order, sort_best_first};
+pub use page::{kept_by_keys, kept_of_front, slice};
 pub use reports::reports_are_there;
 pub use settled::{settled_is_least, sharp_is_least};

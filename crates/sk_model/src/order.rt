@@ -1,10 +1,20 @@
-//! Laws of the order of matches.
+//! The order of matches.
 ghost use Rattle.std.specs.Prelude.{◌≡◌, ◌≢◌, List, AllPairs, IsPermutation};
 ghost use Rattle.std.specs.List.Sorted.{IsSortedBy};
 ghost use Rattle.sk_base.specs.declared.rank.Rank.{Rank};
 ghost use Rattle.sk_base.specs.declared.rank.Order.{Order};
 ghost use Rattle.sk_base.specs.Before.{is_before};
 ghost use Rattle.sk_model.specs.Page.{best_first};
+
+use sk_base::{Order, Rank};
+
+/// The best first. It takes no memory.
+pub fn sort_best_first(ranks: &mut [Rank], order: &Order)
+    requires { AllPairs (λ x y. x.id ≢ y.id) ranks.old }
+    ensures { ranks.new ≡ best_first order.now ranks.old }
+{
+    ranks.sort_unstable_by(|a, b| a.compare(b, order));
+}
 
 /// A law: there is one order of a list of matches of different ids, so whatever sorts them gives `best_first`.
 pub fn one_order()

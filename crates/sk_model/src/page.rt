@@ -1,10 +1,20 @@
-//! Laws of the matches that are kept.
+//! The asked page, and laws of the matches that are kept.
 ghost use Rattle.std.specs.Prelude.{◌≡◌, ◌≤◌, ◌+◌, ℕ, List, length, take, drop, Option, Some};
 ghost use Rattle.sk_base.specs.declared.find.Collapse.{Collapse};
 ghost use Rattle.sk_base.specs.declared.rank.Rank.{Rank};
 ghost use Rattle.sk_base.specs.declared.rank.Order.{Order};
-ghost use Rattle.sk_model.specs.Page.{kept, count_key, dropped};
+ghost use Rattle.sk_model.specs.Page.{kept, count_key, dropped, slice};
 ghost use Rattle.sk_model.specs.Laws.{kept_number};
+
+use sk_base::Rank;
+
+/// The asked page of ordered matches, none where it begins behind the last.
+pub fn slice(ranks: &[Rank], first: u32, size: u32) -> &[Rank]
+    ensures { result.now ≡ slice first size ranks.now }
+{
+    let rest = &ranks[ranks.len().min(first as usize)..];
+    &rest[..rest.len().min(size as usize)]
+}
 
 /// Laws: under collapsing all matches of the empty key are kept, and of each other key as many as there are, or the most
 /// that may be kept. So how many are kept hangs on how often each key occurs, and neither on weights nor on the order.

@@ -1,7 +1,7 @@
 -- Depths and leaves, part by part.
 use Rattle.std.proofs.Common.{◌≡◌, ◌+◌, ◌&&◌, ℕ, false, max, nat_le, refl, arith}
 use Rattle.std.proofs.lemmas.Bool.Decides.{nat_tests}
-use Rattle.sk_query.specs.Trees.{Tree, nothing, all, term, wildcard, and_of, or_of, xor_of, max_of, and_not, and_maybe, filter_of, near, phrase, synonym, scale, range}
+use Rattle.sk_query.specs.Trees.{Tree, nothing, all, term, wildcard, parts, near, phrase, synonym, scale, range}
 use Rattle.sk_query.specs.Fits.{depth_of, depth_in}
 
 deep : (n : ℕ) → nat_le (1 + n) 0 ≡ false
@@ -13,13 +13,7 @@ is_deep nothing = refl
 is_deep all = refl
 is_deep (term t) = refl
 is_deep (wildcard prefix) = refl
-is_deep (and_of ts) = deep (depth_in ts)
-is_deep (or_of ts) = deep (depth_in ts)
-is_deep (xor_of ts) = deep (depth_in ts)
-is_deep (max_of ts) = deep (depth_in ts)
-is_deep (and_not ts) = deep (depth_in ts)
-is_deep (and_maybe ts) = deep (depth_in ts)
-is_deep (filter_of ts) = deep (depth_in ts)
+is_deep (parts form ts) = deep (depth_in ts)
 is_deep (near w texts) = refl
 is_deep (phrase w texts) = refl
 is_deep (synonym texts) = refl

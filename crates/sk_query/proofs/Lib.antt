@@ -1,2 +1,3 @@
 mod CountLemmas
 mod ShapeLemmas
+pub mod ViewLaws

@@ -1,7 +1,7 @@
 -- Which query trees fit.
 use Rattle.std.specs.Prelude.{ℕ, ◌+◌, ◌-◌, ◌*◌, ◌&&◌, max, nat_le, nat_lt, not, Bool, true, false, if◌then◌else◌, List, [], ◌∷◌, length, Option, Some, None, bytes_eq}
 use Rattle.std.specs.List.{list_all, list_any}
-use Rattle.sk_query.specs.Trees.{Tree, nothing, all, term, wildcard, and_of, or_of, xor_of, max_of, and_not, and_maybe, filter_of, near, phrase, synonym, scale, range, Trees, no_trees, tree}
+use Rattle.sk_query.specs.Trees.{Tree, nothing, all, term, wildcard, parts, near, phrase, synonym, scale, range, Trees, no_trees, tree}
 
 -- A string that is not empty.
 abbrev pub is_given : List ℕ → Bool
@@ -40,13 +40,7 @@ abbrev mutual
   leaves_of all = 0
   leaves_of (term t) = 1
   leaves_of (wildcard prefix) = 1
-  leaves_of (and_of ts) = leaves_in ts
-  leaves_of (or_of ts) = leaves_in ts
-  leaves_of (xor_of ts) = leaves_in ts
-  leaves_of (max_of ts) = leaves_in ts
-  leaves_of (and_not ts) = leaves_in ts
-  leaves_of (and_maybe ts) = leaves_in ts
-  leaves_of (filter_of ts) = leaves_in ts
+  leaves_of (parts form ts) = leaves_in ts
   leaves_of (near w texts) = length texts
   leaves_of (phrase w texts) = length texts
   leaves_of (synonym texts) = length texts
@@ -64,13 +58,7 @@ abbrev mutual
   depth_of all = 1
   depth_of (term t) = 1
   depth_of (wildcard prefix) = 1
-  depth_of (and_of ts) = 1 + depth_in ts
-  depth_of (or_of ts) = 1 + depth_in ts
-  depth_of (xor_of ts) = 1 + depth_in ts
-  depth_of (max_of ts) = 1 + depth_in ts
-  depth_of (and_not ts) = 1 + depth_in ts
-  depth_of (and_maybe ts) = 1 + depth_in ts
-  depth_of (filter_of ts) = 1 + depth_in ts
+  depth_of (parts form ts) = 1 + depth_in ts
   depth_of (near w texts) = 1
   depth_of (phrase w texts) = 1
   depth_of (synonym texts) = 1
@@ -88,13 +76,7 @@ abbrev mutual
   is_sound above all = true
   is_sound above (term t) = is_given t
   is_sound above (wildcard prefix) = is_given prefix
-  is_sound above (and_of ts) = has_parts ts && are_sound above ts
-  is_sound above (or_of ts) = has_parts ts && are_sound above ts
-  is_sound above (xor_of ts) = has_parts ts && are_sound above ts
-  is_sound above (max_of ts) = has_parts ts && are_sound above ts
-  is_sound above (and_not ts) = has_parts ts && are_sound above ts
-  is_sound above (and_maybe ts) = has_parts ts && are_sound above ts
-  is_sound above (filter_of ts) = has_parts ts && are_sound above ts
+  is_sound above (parts form ts) = has_parts ts && are_sound above ts
   is_sound above (near w texts) = is_window w && are_given texts
   is_sound above (phrase w texts) = is_window w && are_given texts
   is_sound above (synonym texts) = are_given texts && are_different texts

@@ -1,4 +1,3 @@
 pub mod Trees
 pub mod Fits
 pub mod Reading
-pub mod Forms

@@ -3,7 +3,8 @@ use Rattle.std.specs.Prelude.{ℕ, Bool, List, [], ◌∷◌, Option, Some, None
 use Rattle.std.specs.Option.{option_and_then}
 use Rattle.serde_json.specs.Data.{Data, null, boolean, number, string, array, object, Items, no_items, item, Members, no_members, member}
 use Rattle.serde_json.specs.Find.{as_u64, as_number, as_str}
-use Rattle.sk_query.specs.Trees.{Limit, unbounded, Tree, nothing, all, term, wildcard, and_of, or_of, xor_of, max_of, and_not, and_maybe, filter_of, near, phrase, synonym, scale, range, Trees, no_trees, tree}
+use Rattle.sk_query.specs.declared.form.Form.{Form}
+use Rattle.sk_query.specs.Trees.{Limit, unbounded, Tree, nothing, all, term, wildcard, parts, near, phrase, synonym, scale, range, Trees, no_trees, tree}
 use Rattle.sk_query.specs.Trees.{number as number_limit, bytes as bytes_limit}
 use Rattle.sk_query.specs.Fits.{is_window, is_factor, is_slot, fits_tree}
 
@@ -74,15 +75,15 @@ leaf_named name (number n) = None
 leaf_named name (object ms) = None
 
 -- The form of several queries, by its name.
-abbrev pub parts_named : List ℕ → Option (Trees → Tree)
+abbrev pub parts_named : List ℕ → Option Form
 parts_named name =
-    if bytes_eq name (codes "and") then Some and_of
-    else (if bytes_eq name (codes "or") then Some or_of
-    else (if bytes_eq name (codes "xor") then Some xor_of
-    else (if bytes_eq name (codes "max") then Some max_of
-    else (if bytes_eq name (codes "and_not") then Some and_not
-    else (if bytes_eq name (codes "and_maybe") then Some and_maybe
-    else (if bytes_eq name (codes "filter") then Some filter_of
+    if bytes_eq name (codes "and") then Some Form.And
+    else (if bytes_eq name (codes "or") then Some Form.Or
+    else (if bytes_eq name (codes "xor") then Some Form.Xor
+    else (if bytes_eq name (codes "max") then Some Form.Max
+    else (if bytes_eq name (codes "and_not") then Some Form.AndNot
+    else (if bytes_eq name (codes "and_maybe") then Some Form.AndMaybe
+    else (if bytes_eq name (codes "filter") then Some Form.Filter
     else None))))))
 
 abbrev mutual
@@ -101,12 +102,12 @@ abbrev mutual
   shape_in (member name d (member other e ms)) = None
 
   -- The tree of a member, by its name: a form of several queries with an array of them, a factor and a query, or a form without a query inside.
-  pub shape_named : Option (Trees → Tree) → List ℕ → Data → Option Tree
+  pub shape_named : Option Form → List ℕ → Data → Option Tree
   shape_named (Some form) name null = None
   shape_named (Some form) name (boolean b) = None
   shape_named (Some form) name (number n) = None
   shape_named (Some form) name (string s) = None
-  shape_named (Some form) name (array ds) = option_map form (shapes_of ds)
+  shape_named (Some form) name (array ds) = option_map (parts form) (shapes_of ds)
   shape_named (Some form) name (object ms) = None
   shape_named None name null = None
   shape_named None name (boolean b) = None

@@ -1,5 +1,6 @@
 -- Query trees, as every definition takes them.
-use Rattle.std.specs.Prelude.{ℕ, List, [], ◌∷◌, map}
+use Rattle.std.specs.Prelude.{ℕ, List, [], ◌∷◌, map, Option, Some, None}
+use Rattle.sk_query.specs.declared.form.Form.{Form}
 use Rattle.sk_query.specs.declared.query.Bound.{Bound}
 use Rattle.sk_query.specs.declared.query.Query.{Query, fold-Query}
 use Rattle.sk_query.specs.declared.query.Query.TheOpen.{Query-F}
@@ -11,19 +12,13 @@ pub data Limit : Type 0 where
   bytes : List ℕ → Limit
 
 mutual
-  -- A query: sixteen forms.
+  -- A query: one of nine forms without a part or with one, or one of the seven forms of several, with its parts.
   pub data Tree : Type 0 where
     nothing : Tree
     all : Tree
     term : List ℕ → Tree
     wildcard : List ℕ → Tree
-    and_of : Trees → Tree
-    or_of : Trees → Tree
-    xor_of : Trees → Tree
-    max_of : Trees → Tree
-    and_not : Trees → Tree
-    and_maybe : Trees → Tree
-    filter_of : Trees → Tree
+    parts : Form → Trees → Tree
     near : ℕ → List (List ℕ) → Tree
     phrase : ℕ → List (List ℕ) → Tree
     synonym : List (List ℕ) → Tree
@@ -52,13 +47,13 @@ query_step Query-F.Nothing = nothing
 query_step Query-F.All = all
 query_step (Query-F.Term t) = term t
 query_step (Query-F.Wildcard t) = wildcard t
-query_step (Query-F.And v) = and_of (trees_from v.items)
-query_step (Query-F.Or v) = or_of (trees_from v.items)
-query_step (Query-F.Xor v) = xor_of (trees_from v.items)
-query_step (Query-F.Max v) = max_of (trees_from v.items)
-query_step (Query-F.AndNot v) = and_not (trees_from v.items)
-query_step (Query-F.AndMaybe v) = and_maybe (trees_from v.items)
-query_step (Query-F.Filter v) = filter_of (trees_from v.items)
+query_step (Query-F.And v) = parts Form.And (trees_from v.items)
+query_step (Query-F.Or v) = parts Form.Or (trees_from v.items)
+query_step (Query-F.Xor v) = parts Form.Xor (trees_from v.items)
+query_step (Query-F.Max v) = parts Form.Max (trees_from v.items)
+query_step (Query-F.AndNot v) = parts Form.AndNot (trees_from v.items)
+query_step (Query-F.AndMaybe v) = parts Form.AndMaybe (trees_from v.items)
+query_step (Query-F.Filter v) = parts Form.Filter (trees_from v.items)
 query_step (Query-F.Near w texts) = near w texts
 query_step (Query-F.Phrase w texts) = phrase w texts
 query_step (Query-F.Synonym texts) = synonym texts
@@ -72,3 +67,16 @@ query_view = fold-Query Tree query_step
 -- The trees of queries.
 abbrev pub queries_view : List Query → Trees
 queries_view qs = trees_from (map query_view qs)
+
+-- The form and the parts of a query of several, and none of any other.
+abbrev pub form_of : Tree → Option (Form × Trees)
+form_of nothing = None
+form_of all = None
+form_of (term t) = None
+form_of (wildcard prefix) = None
+form_of (parts form ts) = Some (form, ts)
+form_of (near w texts) = None
+form_of (phrase w texts) = None
+form_of (synonym texts) = None
+form_of (scale f t) = None
+form_of (range slot lo hi) = None

@@ -1,8 +1,8 @@
-//! The forms of several queries, by their names.
-ghost use Rattle.std.specs.Prelude.{◌≡◌, option_map};
-ghost use Rattle.sk_query.specs.Trees.{query_view, queries_view};
+//! The forms of several queries.
+ghost use Rattle.std.specs.Prelude.{◌≡◌};
+ghost use Rattle.std.specs.Option.{option_map};
+ghost use Rattle.sk_query.specs.Trees.{parts, form_of, query_view, queries_view};
 ghost use Rattle.sk_query.specs.Reading.{parts_named};
-ghost use Rattle.sk_query.specs.Forms.{form_shown};
 
 use crate::{Queries, Query};
 
@@ -20,7 +20,7 @@ pub enum Form {
 
 /// The form with this name.
 pub fn parts_named(name: &str) -> Option<Form>
-    ensures { option_map form_shown result ≡ parts_named name.now }
+    ensures { result ≡ parts_named name.now }
 {
     match name {
         "and" => Some(Form::And),
@@ -34,17 +34,35 @@ pub fn parts_named(name: &str) -> Option<Form>
     }
 }
 
-/// The query of this form with these parts.
-pub fn joined(form: Form, parts: Queries) -> Query
-    ensures { query_view result ≡ form_shown form (queries_view parts.items) }
-{
-    match form {
-        Form::And => Query::And(parts),
-        Form::Or => Query::Or(parts),
-        Form::Xor => Query::Xor(parts),
-        Form::Max => Query::Max(parts),
-        Form::AndNot => Query::AndNot(parts),
-        Form::AndMaybe => Query::AndMaybe(parts),
-        Form::Filter => Query::Filter(parts),
+impl Query {
+    /// The query of this form with these parts.
+    pub fn joined(form: Form, queries: Queries) -> Query
+        ensures { query_view result ≡ parts form (queries_view queries.items) }
+    {
+        match form {
+            Form::And => Query::And(queries),
+            Form::Or => Query::Or(queries),
+            Form::Xor => Query::Xor(queries),
+            Form::Max => Query::Max(queries),
+            Form::AndNot => Query::AndNot(queries),
+            Form::AndMaybe => Query::AndMaybe(queries),
+            Form::Filter => Query::Filter(queries),
+        }
+    }
+
+    /// The form and the parts, where the query is of one of the forms of several.
+    pub fn parts(&self) -> Option<(Form, &[Query])>
+        ensures { option_map (λ p. (p.0, queries_view p.1.now)) result ≡ form_of (query_view self.entry.now) }
+    {
+        match self {
+            Query::And(queries) => Some((Form::And, queries)),
+            Query::Or(queries) => Some((Form::Or, queries)),
+            Query::Xor(queries) => Some((Form::Xor, queries)),
+            Query::Max(queries) => Some((Form::Max, queries)),
+            Query::AndNot(queries) => Some((Form::AndNot, queries)),
+            Query::AndMaybe(queries) => Some((Form::AndMaybe, queries)),
+            Query::Filter(queries) => Some((Form::Filter, queries)),
+            _ => None,
+        }
     }
 }

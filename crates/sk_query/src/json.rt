@@ -9,7 +9,7 @@ ghost use Rattle.sk_query.specs.Trees.{limit_of, query_view, queries_view};
 ghost use Rattle.sk_query.specs.Fits.{is_window, is_factor, is_slot, fits_tree};
 ghost use Rattle.sk_query.specs.Reading.{number_if, texts_of, windowed, limit_of_value, range_of, string_named, empty_named, filled_named, leaf_named, parts_named, shape_of, shape_in, shape_named, scaled, shapes_of, tree_of};
 
-use crate::form::{joined, parts_named};
+use crate::form::parts_named;
 use crate::limits::{is_factor, is_slot, is_window};
 use crate::{Bound, Queries, Query, TreeFault};
 use serde_json::{Map, Value};
@@ -69,7 +69,7 @@ fn shape_named(alloc: Global, name: &str, value: &Value) -> Result<Query, TreeFa
         Some(form) => match value {
             Value::Array(items) => {
                 let parts = shapes_of(alloc, items)?;
-                Ok(joined(form, parts))
+                Ok(Query::joined(form, parts))
             }
             _ => Err(TreeFault::Shape),
         },

@@ -8,6 +8,7 @@ mod limits;
 mod query;
 
 pub use fault::TreeFault;
+pub use form::Form;
 pub use json::from_json;
 pub use query::{Bound, Queries, Query};
 

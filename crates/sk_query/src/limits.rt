@@ -32,14 +32,14 @@ fn is_within(query: &Query, most: usize) -> bool
         return false;
     };
     match query {
-        Query::And(parts) => are_within(parts, inside),
-        Query::Or(parts) => are_within(parts, inside),
-        Query::Xor(parts) => are_within(parts, inside),
-        Query::Max(parts) => are_within(parts, inside),
-        Query::AndNot(parts) => are_within(parts, inside),
-        Query::AndMaybe(parts) => are_within(parts, inside),
-        Query::Filter(parts) => are_within(parts, inside),
         Query::Scale(_, part) => is_within(part, inside),
+        Query::And(parts)
+        | Query::Or(parts)
+        | Query::Xor(parts)
+        | Query::Max(parts)
+        | Query::AndNot(parts)
+        | Query::AndMaybe(parts)
+        | Query::Filter(parts) => are_within(parts, inside),
         _ => true,
     }
 }
@@ -67,13 +67,13 @@ fn room_behind(query: &Query, room: usize) -> Option<usize>
         Query::All => Some(room),
         Query::Term(_) => room.checked_sub(1),
         Query::Wildcard(_) => room.checked_sub(1),
-        Query::And(parts) => room_behind_parts(parts, room),
-        Query::Or(parts) => room_behind_parts(parts, room),
-        Query::Xor(parts) => room_behind_parts(parts, room),
-        Query::Max(parts) => room_behind_parts(parts, room),
-        Query::AndNot(parts) => room_behind_parts(parts, room),
-        Query::AndMaybe(parts) => room_behind_parts(parts, room),
-        Query::Filter(parts) => room_behind_parts(parts, room),
+        Query::And(parts)
+        | Query::Or(parts)
+        | Query::Xor(parts)
+        | Query::Max(parts)
+        | Query::AndNot(parts)
+        | Query::AndMaybe(parts)
+        | Query::Filter(parts) => room_behind_parts(parts, room),
         Query::Near(_, texts) => room.checked_sub(texts.as_slice().len()),
         Query::Phrase(_, texts) => room.checked_sub(texts.as_slice().len()),
         Query::Synonym(texts) => room.checked_sub(texts.as_slice().len()),
@@ -103,13 +103,13 @@ fn is_sound(query: &Query, above: u64) -> bool
         Query::All => true,
         Query::Term(term) => is_given(term),
         Query::Wildcard(prefix) => is_given(prefix),
-        Query::And(parts) => are_sound(parts, above),
-        Query::Or(parts) => are_sound(parts, above),
-        Query::Xor(parts) => are_sound(parts, above),
-        Query::Max(parts) => are_sound(parts, above),
-        Query::AndNot(parts) => are_sound(parts, above),
-        Query::AndMaybe(parts) => are_sound(parts, above),
-        Query::Filter(parts) => are_sound(parts, above),
+        Query::And(parts)
+        | Query::Or(parts)
+        | Query::Xor(parts)
+        | Query::Max(parts)
+        | Query::AndNot(parts)
+        | Query::AndMaybe(parts)
+        | Query::Filter(parts) => are_sound(parts, above),
         Query::Near(window, texts) => is_window(*window as u64) && are_given(texts.as_slice()),
         Query::Phrase(window, texts) => is_window(*window as u64) && are_given(texts.as_slice()),
         Query::Synonym(texts) => { are_given(texts.as_slice()) && are_different(texts.as_slice()) }

@@ -1,5 +1,5 @@
 -- What a shelf holds.
-use Rattle.std.specs.Prelude.{List, All}
+use Rattle.std.specs.Prelude.{◌≡◌, List, All}
 use Rattle.sk_base.specs.declared.schema.Field.{Field}
 use Rattle.sk_model.specs.Edits.{Live, IsLive}
 use Rattle.sk_base.specs.Loads.{IsLight}
@@ -8,6 +8,14 @@ use Rattle.sk_base.specs.Loads.{IsLight}
 pub record Shelved : Type 0 where
   pub fields : List Field
   pub live : Live
+
+-- The fields of a shelf's schema.
+abbrev pub fields_of : Shelved → List Field
+fields_of shelf = shelf.fields
+
+-- A shelf holds these live documents.
+abbrev pub holds : Shelved → Live → Type 0
+holds shelf live = shelf.live ≡ live
 
 -- The ids of the documents are as they must be, and none of the documents is too heavy to be scored.
 pub record IsShelved (live : Live) : Type 0 where

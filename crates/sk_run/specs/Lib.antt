@@ -3,6 +3,7 @@ pub mod Responses
 pub mod FindAnswers
 pub mod Statuses
 pub mod Forms
+pub mod Conclusions
 pub mod Meaning
 pub mod Lines
 pub mod Output

@@ -1,5 +1,5 @@
 //! The form of words `run`.
-ghost use Rattle.std.specs.Prelude.{◌≡◌, map, string_bytes, None};
+ghost use Rattle.std.specs.Prelude.{◌≡◌, ◌⊎◌, drop, map, string_bytes, None, IfOk, IfErr, IsErr};
 ghost use Rattle.sk_run.specs.declared.status.Status.TheVariants as Status;
 ghost use Rattle.sk_run.specs.Responses.{text_of, is_refusal, steps_of};
 ghost use Rattle.sk_run.specs.Forms.{is_form};
@@ -12,9 +12,10 @@ use crate::runs::answer_lines;
 use crate::{Status, Store};
 use sk_io::{Sink, Source};
 use sk_steps::Steps;
-use std::alloc::Global;
+use std::alloc::{AllocError, Global};
 use std::sync::ledger::Ledger;
-use std::{env, io};
+use std::env::Args;
+use std::io;
 
 /// Does what the words ask for. `run`: each line of `input` is a command, obeyed by a store of its own, and is answered on
 /// `output` before the next line is read.
@@ -45,10 +46,15 @@ fn is_form(words: &[String]) -> bool
     }
 }
 
-/// The words behind the program's name. Words that are not UTF-8 are none of the forms.
-pub fn words(rt: &HostRuntime) -> Result<Vec<String>, Status> {
-    match env::args(rt) {
-        Ok(args) => match args.skip(1).collect(rt.alloc()) {
+/// The arguments of a program, where they were read. Arguments that are not UTF-8 are none of the forms.
+pub fn arguments(alloc: Global, args: io::Result<Args>) -> Result<Vec<String>, Status>
+    ensures words { IfOk args (λ all. IfOk result (λ words. words.items ≡ all.rest.items)) }
+    ensures wanting { IfOk args (λ all. IfErr result (λ status. status ≡ Status.Memory)) }
+    ensures unread { IfErr args (λ error. IfErr result (λ status. (status ≡ Status.Usage) ⊎ (status ≡ Status.Memory))) }
+    ensures refused { IfErr args (λ error. IsErr result) }
+{
+    match args {
+        Ok(all) => match collected(alloc, all) {
             Ok(words) => Ok(words),
             Err(_) => Err(Status::Memory),
         },
@@ -59,5 +65,25 @@ pub fn words(rt: &HostRuntime) -> Result<Vec<String>, Status> {
                 Err(Status::Usage)
             }
         }
+    }
+}
+
+fn collected(alloc: Global, args: Args) -> Result<Vec<String>, AllocError>
+    ensures { IfOk result (λ words. words.items ≡ args.rest.items) }
+{
+    let mut words = Vec::new(alloc);
+    'words: for word in args {
+        words.push(word)?;
+    }
+    Ok(words)
+}
+
+/// The words behind the program's name, which is the first argument.
+pub fn words_of(arguments: &[String]) -> &[String]
+    ensures { result.now ≡ drop 1 arguments.now }
+{
+    match arguments {
+        [_, words @ ..] => words,
+        [] => arguments,
     }
 }

@@ -3,6 +3,7 @@
 #![tactic(auto)]
 
 mod answerer;
+mod conclusion;
 mod find_answer;
 mod form;
 mod machine;
@@ -14,8 +15,9 @@ mod status;
 mod store;
 
 pub use answerer::Answerer;
+pub use conclusion::conclude;
 pub use find_answer::FindAnswer;
-pub use form::{run, words};
+pub use form::{arguments, run, words_of};
 pub use machine::{Machine, response_to};
 pub use printed::Printed;
 pub use refusal::Refusal;

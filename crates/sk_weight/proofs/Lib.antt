@@ -1,0 +1,2 @@
+mod TogetherLemmas
+mod BoundLemmas
