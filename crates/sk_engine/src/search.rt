@@ -105,7 +105,7 @@ fn greatest_weight(list: &List, scheme: Scheme) -> Weight
 
 /// The rank of a document by its posting.
 fn rank_in(alloc: Global, scheme: Scheme, id: DocId, wdf: u32) -> Rank
-    ensures { result ≡ rank_in scheme (record { id = id; wdf = wdf }) }
+    ensures { result ≡ rank_in scheme (id, wdf) }
 {
     Rank {
         weight: weigh(scheme, wdf),
