@@ -1,7 +1,7 @@
 //! The walk over a text.
-ghost use Rattle.std.specs.Prelude.{◌≡◌, ◌≤◌, ◌<◌, ℕ, ◌++◌, IfOk, OnOk, length, take, chars, option_map};
-ghost use Rattle.sk_grammar.specs.Cutting.{byte_len, last_of, placed, tokens_in, tokens_of};
-ghost use Rattle.sk_grammar.specs.Pieces.{takes_mark, is_marked, mark_piece, last_piece};
+ghost use Rattle.std.specs.Prelude.{◌≡◌, ◌≤◌, ◌<◌, ℕ, ◌++◌, IfOk, List, OnOk, length, take, chars, option_map};
+ghost use Rattle.sk_grammar.specs.Cutting.{byte_len, last_of, placed, IsCut, tokens_from, tokens_in, tokens_of};
+ghost use Rattle.sk_grammar.specs.Pieces.{Piece, takes_mark, is_marked, mark_piece, last_piece};
 ghost use Rattle.sk_lexer.specs.Shown.{shown, mark_in, last_in, other_in, piece_in};
 
 use crate::fields::field_piece;
@@ -186,7 +186,8 @@ fn chars_of(alloc: Global, text: &str) -> Result<Vec<char>, AllocError>
 /// The tokens of the one cutting of `text` under `schema`. The text is walked over once.
 pub fn tokens(alloc: Global, text: &str, schema: &Schema) -> Result<Tokens, AllocError>
     requires { length text.now ≤ 1048576 }
-    ensures { IfOk result (λ ts. ts ≡ tokens_of schema.now text.now) }
+    ensures value { IfOk result (λ ts. ts ≡ tokens_of schema.now text.now) }
+    ensures cut { (pieces : List Piece) → IsCut schema.now (chars text.now) pieces → IfOk result (λ ts. ts ≡ tokens_from 0 (chars text.now) pieces) }
 {
     let cs = chars_of(alloc, text)?;
     tokens_in(alloc, schema, cs.as_slice())
