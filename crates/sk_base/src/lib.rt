@@ -7,6 +7,7 @@ mod doc;
 mod doc_entry;
 mod doc_lists;
 mod find;
+mod fitting;
 mod items;
 mod limits;
 mod positions;
