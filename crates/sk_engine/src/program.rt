@@ -14,7 +14,7 @@ use std::sync::ledger::{Blank, Ledger};
 pub fn start<S: Source, R: Source, K: Sink, E: Sink, L: Ledger>(
     blank: Blank,
     alloc: Global,
-    usage: &'static str,
+    usage: &'static [u8],
     arguments: Result<Vec<String>, Status>,
     input: &mut S,
     records: &mut R,

@@ -6,7 +6,7 @@ use Rattle.sk_base.specs.declared.command.Command.{Command}
 use Rattle.sk_base.specs.declared.command.Command.TheVariants as Command
 use Rattle.sk_base.specs.declared.schema.Field.{Field}
 use Rattle.sk_record.specs.declared.fault.LineFault.{LineFault}
-use Rattle.sk_record.specs.Values.{line_value}
+use Rattle.sk_record.specs.Lines.{line_value}
 use Rattle.sk_record.specs.Told.{Told, told_by}
 use Rattle.sk_record.specs.Outcome.{outcome}
 use Rattle.sk_run.specs.declared.machine.Machine.{Machine}

@@ -4,7 +4,7 @@ use Rattle.std.specs.List.{list_all}
 use Rattle.sk_io.specs.LineText.{most_line}
 use Rattle.sk_base.specs.declared.schema.Field.{Field}
 use Rattle.sk_record.specs.declared.fault.LineFault.{LineFault}
-use Rattle.sk_record.specs.Values.{line_value}
+use Rattle.sk_record.specs.Lines.{line_value}
 use Rattle.sk_record.specs.Told.{Told}
 use Rattle.sk_record.specs.Outcome.{outcome}
 use Rattle.sk_run.specs.declared.refusal.Refusal.{Refusal}

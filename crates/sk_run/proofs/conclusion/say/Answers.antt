@@ -27,15 +27,15 @@ whole_part (Some held) (Some more) (Some most) (Some last) xs ys p q k =
 
 pub returns-in_err-put_all-clause-err : goal.returns-in_err-put_all-clause-err
 returns-in_err-put_all-clause-err g c =
-    let part = first_part _ _ c.as_bytes.result.now (10 ∷ []) c.in_err-put_all.ensures.err in
-    search (Rattle.std.proofs.Common.rules, part, c.as_bytes.ensures.value)
+    let part = first_part _ _ c.args.message.now (10 ∷ []) c.in_err-put_all.ensures.err in
+    search (Rattle.std.proofs.Common.rules, part)
 
 pub returns-in_err-put_all-2-clause-err : goal.returns-in_err-put_all-2-clause-err
 returns-in_err-put_all-2-clause-err g c =
-    let part = second_part _ _ _ c.as_bytes.result.now (10 ∷ []) c.in_ok-put_all.ensures.ok c.in_err-put_all-2.ensures.err in
-    search (Rattle.std.proofs.Common.rules, part, c.as_bytes.ensures.value)
+    let part = second_part _ _ _ c.args.message.now (10 ∷ []) c.in_ok-put_all.ensures.ok c.in_err-put_all-2.ensures.err in
+    search (Rattle.std.proofs.Common.rules, part)
 
 pub returns-clause-err : goal.returns-clause-err
 returns-clause-err g c =
-    let part = whole_part _ _ _ _ c.as_bytes.result.now (10 ∷ []) c.in_ok-put_all.ensures.ok c.in_ok-put_all-2.ensures.ok c.finish.ensures.bytes in
-    search (Rattle.std.proofs.Common.rules, part, c.as_bytes.ensures.value)
+    let part = whole_part _ _ _ _ c.args.message.now (10 ∷ []) c.in_ok-put_all.ensures.ok c.in_ok-put_all-2.ensures.ok c.finish.ensures.bytes in
+    search (Rattle.std.proofs.Common.rules, part)
