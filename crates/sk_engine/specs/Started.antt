@@ -12,11 +12,14 @@ use Rattle.sk_run.specs.Ended.{Outside}
 use Rattle.sk_run.specs.Ran.{Ran}
 use Rattle.sk_engine.specs.Finds.{Shows}
 
--- What the run did whose arguments were read, or not: behind the first of them stand its words. Where they were not, nothing happened.
+-- What a run did that was given these words.
+abbrev pub RanWith : List (List ℕ) → Status → Outside → Outside → Type 0
+RanWith words status before after =
+    Ran (text_of answer_text) (is_refusal is_refused) (steps_of steps_in) (Answers nothing_live (DoesOnLive Shows)) (Closes ClosesSilently) Begins words status before after
+
+-- What a run did whose arguments were read, or not: behind the first of them stand its words. Where they were not, nothing happened.
 abbrev pub RanBy : Result (Vec (String Global) Global) Status → Status → Outside → Outside → Type 0
-RanBy (Ok arguments) status before after =
-    Ran (text_of answer_text) (is_refusal is_refused) (steps_of steps_in) (Answers nothing_live (DoesOnLive Shows)) (Closes ClosesSilently) Begins
-    (map string_bytes (drop 1 arguments.items)) status before after
+RanBy (Ok arguments) status before after = RanWith (map string_bytes (drop 1 arguments.items)) status before after
 RanBy (Err why) status before after = (status ≡ why) × (after ≡ before)
 
 -- What a program's run sees of the outside, but for its counter, which begins at 0.

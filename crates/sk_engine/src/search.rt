@@ -1,9 +1,6 @@
 //! One search: the matches of a query, the asked page of them, and their bounds.
-ghost use Rattle.std.specs.Prelude.{◌≡◌, ◌≢◌, ◌≤◌, ◌+◌, length, map, AllPairs, IfOk};
-ghost use Rattle.sk_base.specs.Before.{is_before};
-ghost use Rattle.sk_base.specs.declared.rank.Order.TheVariants.{Relevance};
-ghost use Rattle.sk_model.specs.Weights.{weigh};
-ghost use Rattle.sk_model.specs.Page.{best_first, slice};
+ghost use Rattle.std.specs.Prelude.{◌≡◌, ◌≤◌, ◌+◌, length, map, IfOk};
+ghost use Rattle.sk_model.specs.Page.{slice};
 ghost use Rattle.sk_model.specs.Reports.{Reports};
 ghost use Rattle.sk_engine.specs.Asked.{IsOneWord, AsksFor, IsAsked};
 ghost use Rattle.sk_engine.specs.Found.{rank_in, greatest_weight, hit_of, IsReportOf};
@@ -13,8 +10,10 @@ use sk_base::{
 };
 use sk_index::Index;
 use sk_lists::{Cursor, List};
+use sk_model::{slice, sort_best_first};
 use sk_steps::Steps;
 use sk_text::fold;
+use sk_weight::weigh;
 use std::alloc::{AllocError, Global};
 use std::sync::ledger::Ledger;
 
@@ -69,7 +68,7 @@ fn report_of<L: Ledger>(
     let greatest = greatest_weight(list, find.options.scheme);
     let count = list.length();
     let mut matches = all_matches(alloc, list, find.options.scheme, steps)?;
-    sort_best_first(&mut matches.ranks);
+    sort_best_first(&mut matches.ranks, &Order::Relevance);
     let hits = page(alloc, index, &matches.ranks, find.options.first, find.options.size, steps)?;
     let spent = matches.steps + hits.as_slice().len() as u128;
     Ok(Report {
@@ -80,16 +79,6 @@ fn report_of<L: Ledger>(
         greatest,
         steps: spent,
     })
-}
-
-fn weigh(scheme: Scheme, wdf: u32) -> Weight
-    ensures { result ≡ weigh scheme wdf }
-{
-    match scheme {
-        Scheme::Bool => 0,
-        Scheme::Coord => 1,
-        Scheme::Nnn => wdf as Weight,
-    }
 }
 
 /// No document of the list weighs more.
@@ -152,14 +141,6 @@ fn all_matches<L: Ledger>(
     })
 }
 
-/// The best first. It takes no memory.
-fn sort_best_first(ranks: &mut [Rank])
-    requires { AllPairs (λ x y. x.id ≢ y.id) ranks.old }
-    ensures { ranks.new ≡ best_first Relevance ranks.old }
-{
-    ranks.sort_unstable_by(|a, b| a.compare(b, &Order::Relevance));
-}
-
 /// A hit, with its document's payload, which is one reading.
 fn hit_of<L: Ledger>(
     alloc: Global,
@@ -194,16 +175,8 @@ fn page<L: Ledger>(
     ensures cost { IfOk result (λ hits. steps.new ≡ steps.old + length hits) }
     ensures later { steps.old ≤ steps.new }
 {
-    let hits = hits_of(alloc, index, page_of(ranks, first, size), steps)?;
+    let hits = hits_of(alloc, index, slice(ranks, first, size), steps)?;
     Ok(Items::from_vec(hits))
-}
-
-/// The ranks of a page, none where it begins behind the last.
-fn page_of(ranks: &[Rank], first: u32, size: u32) -> &[Rank]
-    ensures { result.now ≡ slice first size ranks.now }
-{
-    let rest = &ranks[ranks.len().min(first as usize)..];
-    &rest[..rest.len().min(size as usize)]
 }
 
 fn hits_of<L: Ledger>(

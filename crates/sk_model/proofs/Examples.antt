@@ -128,7 +128,7 @@ matches_of_red : matches (term (codes "red")) Scheme.Nnn Order.Relevance three �
 matches_of_red = refl
 
 -- a term of a document, and a document of terms alone
-abbrev has : List ℕ → ℕ → List ℕ → DocTerm
+abbrev pub has : List ℕ → ℕ → List ℕ → DocTerm
 has t wdf positions = record { term = t; wdf = wdf; positions = positions }
 
 abbrev text : List DocTerm → Doc
@@ -378,14 +378,14 @@ value_then_weight = refl
 -- ---- four documents: their language, a year in slot 0, and a site in slot 1
 
 -- the year as eight bytes: 1792 is 7 times 256
-abbrev year : ℕ → SlotValue
+abbrev pub year : ℕ → SlotValue
 year low = record { slot = 0; value = 0 ∷ 0 ∷ 0 ∷ 0 ∷ 0 ∷ 0 ∷ 7 ∷ low ∷ [] }
 
-abbrev site : List ℕ → SlotValue
+abbrev pub site : List ℕ → SlotValue
 site name = record { slot = 1; value = name }
 
 -- `red fox red` of 1990; `Red hen` of 2000; `fox den` of 2010; `the red-fox den` of no year
-abbrev four : Docs
+abbrev pub four : Docs
 four =
     (1, record { terms = has (codes "Len") 0 [] ∷ has (codes "fox") 1 (2 ∷ []) ∷ has (codes "red") 2 (1 ∷ 3 ∷ []) ∷ []; values = year 198 ∷ site (codes "a") ∷ []; payload = codes "one" })
     ∷ (2, record { terms = has (codes "Len") 0 [] ∷ has (codes "hen") 1 (2 ∷ []) ∷ has (codes "red") 1 (1 ∷ []) ∷ []; values = year 208 ∷ site (codes "a") ∷ []; payload = [] })

@@ -11,3 +11,6 @@ pub mod CountLaws
 pub mod ReportLaws
 pub mod SettledLaws
 mod Examples
+mod ScoreExamples
+mod BoundExamples
+mod PageExamples

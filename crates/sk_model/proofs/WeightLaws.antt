@@ -10,6 +10,7 @@ use Rattle.sk_base.specs.Numbers.{Docs, length_of, greatest_of, wild_length_of, 
 use Rattle.sk_query.specs.declared.form.Form.{Form}
 use Rattle.sk_query.specs.Trees.{Tree, nothing, all, term, wildcard, parts, near, phrase, synonym, scale, range, Trees, no_trees, tree}
 use Rattle.sk_query.specs.Fits.{is_sound, are_sound, has_parts, are_given, are_different, is_factor, leaves_of, leaves_in}
+use Rattle.sk_model.specs.Combining.{combined}
 use Rattle.sk_model.specs.Weights.{weigh_by}
 use Rattle.sk_model.specs.Scores.{terms_weight, wdf_sum, wild_wdf, score, scores}
 use Rattle.sk_model.specs.Bounds.{term_ceil, terms_ceil, lengths_of, greatests_of, joint_ceil, sum_in, greatest_in, first_in, ceil_of, ceil, ceils}
@@ -169,3 +170,10 @@ module _ (scheme : Scheme) where
       pub scores_fit : (ts : Trees) (factor : ℕ) → are_sound factor ts ≡ true → factor ≤ 65536 → AllAtMost (scores ts scheme factor d) (fits_in ts)
       scores_fit no_trees factor e f = tt
       scores_fit (tree t ts) factor e f = (score_fits t factor (first_so (is_sound factor t) (are_sound factor ts) e) f, scores_fit ts factor (second_so (is_sound factor t) (are_sound factor ts) e) f)
+
+    -- parts in any form, whose weights 64 bits hold
+    pub parts_small : (form : Form) (ts : Trees) (factor : ℕ) → are_sound factor ts ≡ true → factor ≤ 65536 → leaves_in ts ≤ 1024 → AtMost (combined form (scores ts scheme factor d)) (2 ^ 64 - 1)
+    parts_small form ts factor e f few =
+        let each = combined_le form (scores ts scheme factor d) (fits_in ts) (scores_fit ts factor e f) in
+        let sum : sum_in (fits_in ts) ≤ leaves_in ts * 2 ^ 45 = fits_sum ts in
+        at_most_more _ _ (2 ^ 64 - 1) each (omega (arith, ceil_of_sum form (fits_in ts), sum, few))

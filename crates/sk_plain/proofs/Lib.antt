@@ -1,4 +1,4 @@
-mod BoundLemmas
+mod SumLemmas
 mod FoundLemmas
 mod IdLemmas
 mod KeptLemmas

@@ -1,10 +1,8 @@
 //! The live documents that a query matches, and their order.
 ghost use Rattle.std.specs.Prelude.{◌≡◌, ◌≢◌, ◌≤◌, ◌<◌, ◌^◌, true, All, AllPairs, IfOk};
-ghost use Rattle.sk_base.specs.Before.{is_before};
 ghost use Rattle.sk_query.specs.Trees.{query_view};
 ghost use Rattle.sk_query.specs.Fits.{is_sound, leaves_of};
 ghost use Rattle.sk_model.specs.Matches.{value_for, rank_of, matches};
-ghost use Rattle.sk_model.specs.Page.{best_first, slice};
 ghost use Rattle.sk_base.specs.Loads.{IsLight};
 
 use crate::scores::score;
@@ -69,20 +67,4 @@ fn value_for(order: Order, doc: &Doc) -> &[u8]
         Order::ValueThenRelevance(key) => value_in(key.slot, values),
         Order::RelevanceThenValue(key) => value_in(key.slot, values),
     }
-}
-
-/// The best first. It takes no memory.
-pub fn sort_best_first(ranks: &mut [Rank], order: Order)
-    requires { AllPairs (λ x y. x.id ≢ y.id) ranks.old }
-    ensures { ranks.new ≡ best_first order ranks.old }
-{
-    ranks.sort_unstable_by(|a, b| a.compare(b, &order));
-}
-
-/// The asked page of ordered matches, none where it begins behind the last.
-pub fn slice(ranks: &[Rank], first: u32, size: u32) -> &[Rank]
-    ensures { result.now ≡ slice first size ranks.now }
-{
-    let rest = &ranks[ranks.len().min(first as usize)..];
-    &rest[..rest.len().min(size as usize)]
 }

@@ -4,9 +4,9 @@ ghost use Rattle.sk_model.specs.Matches.{key_of};
 ghost use Rattle.sk_model.specs.Page.{best_first, is_kept, kept_behind, kept_of, count_key};
 ghost use Rattle.sk_model.specs.Counts.{kept_by, dropped_by};
 
-use crate::found::sort_best_first;
 use crate::terms::value_in;
 use sk_base::{Bytes, Collapse, Doc, DocId, Find, Order, Rank};
+use sk_model::sort_best_first;
 use std::alloc::{AllocError, Global};
 use std::collections::BTreeMap;
 
@@ -65,7 +65,7 @@ fn best_first(alloc: Global, ranks: &[Rank], order: Order) -> Result<Vec<Rank>, 
     ensures { IfOk result (λ ordered. ordered.items ≡ best_first order ranks.now) }
 {
     let mut ordered = copy_of(alloc, ranks)?;
-    sort_best_first(&mut ordered, order);
+    sort_best_first(&mut ordered, &order);
     Ok(ordered)
 }
 

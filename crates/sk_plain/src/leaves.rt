@@ -8,11 +8,11 @@ ghost use Rattle.sk_base.specs.Loads.{load_of};
 
 use crate::positions::{is_near, is_phrase};
 use crate::terms::{has_prefix, has_term, wdf_of, wild_wdf};
-use crate::weight::weigh_by;
 use sk_base::{Doc, DocTerm, Scheme, Text, Weight};
+use sk_weight::weigh_by;
 
 /// A term weighs its wdf where the document has it.
-pub fn term_score(scheme: Scheme, factor: u64, word: &str, doc: &Doc) -> Option<Weight>
+pub fn term_score(scheme: Scheme, factor: u64, word: &[u8], doc: &Doc) -> Option<Weight>
     requires factor { factor ≤ 65536 }
     requires light { load_of doc.now.terms < 2 ^ 29 }
     ensures value { result ≡ score (term word.now) scheme factor doc.now }
@@ -27,7 +27,7 @@ pub fn term_score(scheme: Scheme, factor: u64, word: &str, doc: &Doc) -> Option<
 }
 
 /// All terms of the document that begin so, as one.
-pub fn wild_score(scheme: Scheme, factor: u64, prefix: &str, doc: &Doc) -> Option<Weight>
+pub fn wild_score(scheme: Scheme, factor: u64, prefix: &[u8], doc: &Doc) -> Option<Weight>
     requires factor { factor ≤ 65536 }
     requires light { load_of doc.now.terms < 2 ^ 29 }
     ensures value { result ≡ score (wildcard prefix.now) scheme factor doc.now }
@@ -106,7 +106,9 @@ pub fn synonym_score(scheme: Scheme, factor: u64, words: &[Text], doc: &Doc) -> 
 fn has_any(words: &[Text], terms: &[DocTerm]) -> bool
     ensures { result ≡ list_any (λ t. has_term t terms.now) words.now }
 {
-    words.iter().any(|word| has_term(word.as_str(), terms))
+    words
+        .iter()
+        .any(|word| has_term(word.as_str().as_bytes(), terms))
 }
 
 /// The weights of these words, added.
@@ -119,7 +121,11 @@ fn terms_weight(scheme: Scheme, factor: u64, words: &[Text], terms: &[DocTerm]) 
 {
     let mut sum = 0;
     'words: for word in words {
-        sum += weigh_by(factor, scheme, u64::from(wdf_of(word.as_str(), terms)));
+        sum += weigh_by(
+            factor,
+            scheme,
+            u64::from(wdf_of(word.as_str().as_bytes(), terms)),
+        );
     }
     sum
 }
@@ -133,7 +139,7 @@ fn wdf_sum(words: &[Text], terms: &[DocTerm]) -> u64
 {
     let mut sum = 0;
     'words: for word in words {
-        sum += u64::from(wdf_of(word.as_str(), terms));
+        sum += u64::from(wdf_of(word.as_str().as_bytes(), terms));
     }
     sum
 }

@@ -16,7 +16,7 @@ pub fn live_of(docs: &BTreeMap<DocId, Doc>) -> usize
 }
 
 /// How many documents have the term.
-pub fn length_of(term: &str, docs: &BTreeMap<DocId, Doc>) -> usize
+pub fn length_of(term: &[u8], docs: &BTreeMap<DocId, Doc>) -> usize
     ensures value { result ≡ length_of term.now docs.now.entries }
     ensures bound { result ≤ length docs.now.entries }
 {
@@ -30,7 +30,7 @@ pub fn length_of(term: &str, docs: &BTreeMap<DocId, Doc>) -> usize
 }
 
 /// The greatest wdf of the term in any document, and 0 where none has it.
-pub fn greatest_of(term: &str, docs: &BTreeMap<DocId, Doc>) -> u32
+pub fn greatest_of(term: &[u8], docs: &BTreeMap<DocId, Doc>) -> u32
     ensures { result ≡ greatest_of term.now docs.now.entries }
 {
     let mut most = 0u32;

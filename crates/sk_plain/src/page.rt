@@ -8,11 +8,13 @@ ghost use Rattle.sk_model.specs.Reports.{payload_of};
 ghost use Rattle.sk_base.specs.Loads.{IsLight};
 ghost use Rattle.sk_plain.specs.Pages.{hit_of, report_for};
 
-use crate::bounds::ceil;
-use crate::found::{matches, slice};
+use crate::counted::Counted;
+use crate::found::matches;
 use crate::kept::{dropped_by, kept_by, key_of};
 use sk_base::{Doc, DocId, Find, Hits, Rank, Ranked, Report, Text};
+use sk_model::slice;
 use sk_query::Query;
+use sk_weight::ceil;
 use std::alloc::{AllocError, Global};
 use std::collections::BTreeMap;
 
@@ -40,7 +42,7 @@ pub fn report_of(
         lower: count,
         estimate: count,
         upper: count,
-        greatest: ceil(docs, query, find.options.scheme, 1),
+        greatest: ceil(&Counted::new(docs), query, find.options.scheme, 1),
         steps,
     })
 }

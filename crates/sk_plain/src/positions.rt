@@ -13,7 +13,7 @@ pub fn is_near(window: u32, words: &[Text], terms: &[DocTerm]) -> bool
     let [first, rest @ ..] = words else {
         return false;
     };
-    'places: for place in positions_of(first.as_str(), terms) {
+    'places: for place in positions_of(first.as_str().as_bytes(), terms) {
         if near_from(window, *place, *place, rest, terms) {
             return true;
         }
@@ -30,7 +30,7 @@ fn near_from(window: u32, least: u32, most: u32, words: &[Text], terms: &[DocTer
     let [first, rest @ ..] = words else {
         return most - least < window;
     };
-    'places: for place in positions_of(first.as_str(), terms) {
+    'places: for place in positions_of(first.as_str().as_bytes(), terms) {
         if near_from(window, least.min(*place), most.max(*place), rest, terms) {
             return true;
         }
@@ -45,7 +45,7 @@ pub fn is_phrase(window: u32, words: &[Text], terms: &[DocTerm]) -> bool
     let [first, rest @ ..] = words else {
         return false;
     };
-    'places: for place in positions_of(first.as_str(), terms) {
+    'places: for place in positions_of(first.as_str().as_bytes(), terms) {
         if phrase_from(window, *place, *place, rest, terms) {
             return true;
         }
@@ -62,7 +62,7 @@ fn phrase_from(window: u32, start: u32, last: u32, words: &[Text], terms: &[DocT
     let [first, rest @ ..] = words else {
         return last - start < window;
     };
-    'places: for place in positions_of(first.as_str(), terms) {
+    'places: for place in positions_of(first.as_str().as_bytes(), terms) {
         if last < *place && phrase_from(window, start, *place, rest, terms) {
             return true;
         }

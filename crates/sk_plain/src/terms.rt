@@ -8,19 +8,19 @@ ghost use Rattle.sk_base.specs.Loads.{load_of};
 use sk_base::{DocTerm, SlotValue};
 
 /// Whether the term is there.
-pub fn has_term(term: &str, terms: &[DocTerm]) -> bool
+pub fn has_term(term: &[u8], terms: &[DocTerm]) -> bool
     ensures { result ≡ has_term term.now terms.now }
 {
-    terms.iter().any(|one| one.term.as_str() == term)
+    terms.iter().any(|one| one.term.as_str().as_bytes() == term)
 }
 
 /// The wdf of a term, and 0 where it is not there.
-pub fn wdf_of(term: &str, terms: &[DocTerm]) -> u32
+pub fn wdf_of(term: &[u8], terms: &[DocTerm]) -> u32
     ensures value { result ≡ wdf_of term.now terms.now }
     ensures bound { result ≤ load_of terms.now }
 {
     'terms: for one in terms {
-        if one.term.as_str() == term {
+        if one.term.as_str().as_bytes() == term {
             return one.wdf;
         }
     }
@@ -28,11 +28,11 @@ pub fn wdf_of(term: &str, terms: &[DocTerm]) -> u32
 }
 
 /// The places of a term, and none where it is not there.
-pub fn positions_of<'a>(term: &str, terms: &'a [DocTerm]) -> &'a [u32]
+pub fn positions_of<'a>(term: &[u8], terms: &'a [DocTerm]) -> &'a [u32]
     ensures { result.now ≡ positions_of term.now terms.now }
 {
     'terms: for one in terms {
-        if one.term.as_str() == term {
+        if one.term.as_str().as_bytes() == term {
             return one.positions.as_slice();
         }
     }
@@ -40,14 +40,14 @@ pub fn positions_of<'a>(term: &str, terms: &'a [DocTerm]) -> &'a [u32]
 }
 
 /// Whether a term begins with the prefix.
-pub fn has_prefix(prefix: &str, terms: &[DocTerm]) -> bool
+pub fn has_prefix(prefix: &[u8], terms: &[DocTerm]) -> bool
     ensures { result ≡ list_any (λ one. begins_with one.term prefix.now) terms.now }
 {
     terms.iter().any(|one| begins_with(one, prefix))
 }
 
 /// The wdfs of the terms that begin with the prefix, added.
-pub fn wild_wdf(prefix: &str, terms: &[DocTerm]) -> u64
+pub fn wild_wdf(prefix: &[u8], terms: &[DocTerm]) -> u64
     requires { load_of terms.now < 2 ^ 29 }
     ensures value { result ≡ wild_wdf prefix.now terms.now }
     ensures bound { result ≤ load_of terms.now }
@@ -61,10 +61,10 @@ pub fn wild_wdf(prefix: &str, terms: &[DocTerm]) -> u64
     sum
 }
 
-pub fn begins_with(one: &DocTerm, prefix: &str) -> bool
+pub fn begins_with(one: &DocTerm, prefix: &[u8]) -> bool
     ensures { result ≡ begins_with one.now.term prefix.now }
 {
-    one.term.as_str().as_bytes().starts_with(prefix.as_bytes())
+    one.term.as_str().as_bytes().starts_with(prefix)
 }
 
 /// The value in a slot, and the empty one where there is none.

@@ -11,7 +11,7 @@ use std::collections::BTreeMap;
 use std::collections::btree_map::Iter;
 
 /// The lengths of the terms that begin with the prefix, added, and no more than there are documents.
-pub fn wild_length_of(prefix: &str, docs: &BTreeMap<DocId, Doc>) -> usize
+pub fn wild_length_of(prefix: &[u8], docs: &BTreeMap<DocId, Doc>) -> usize
     ensures value { result ≡ wild_length_of prefix.now docs.now.entries }
     ensures bound { result ≤ length docs.now.entries }
 {
@@ -24,7 +24,7 @@ pub fn wild_length_of(prefix: &str, docs: &BTreeMap<DocId, Doc>) -> usize
 }
 
 /// The greatest wdfs of the terms that begin with the prefix, added, and no more than any wdf.
-pub fn wild_greatest_of(prefix: &str, docs: &BTreeMap<DocId, Doc>) -> u64
+pub fn wild_greatest_of(prefix: &[u8], docs: &BTreeMap<DocId, Doc>) -> u64
     ensures value { result ≡ wild_greatest_of prefix.now docs.now.entries }
     ensures bound { result ≤ 2 ^ 29 - 1 }
 {
@@ -38,7 +38,7 @@ pub fn wild_greatest_of(prefix: &str, docs: &BTreeMap<DocId, Doc>) -> u64
 
 /// The sum with the lengths of those of these terms that no document behind has.
 fn add_lengths(
-    prefix: &str,
+    prefix: &[u8],
     terms: &[DocTerm],
     behind: &Iter<'_, DocId, Doc>,
     docs: &BTreeMap<DocId, Doc>,
@@ -57,7 +57,7 @@ fn add_lengths(
 
 /// The length of a term that begins with the prefix and that no document behind has.
 fn last_length(
-    prefix: &str,
+    prefix: &[u8],
     one: &DocTerm,
     behind: &Iter<'_, DocId, Doc>,
     docs: &BTreeMap<DocId, Doc>,
@@ -65,8 +65,8 @@ fn last_length(
     ensures value { result ≡ (if begins_with one.now.term prefix.now && not (some_has one.now.term behind.now) then length_of one.now.term docs.now.entries else 0) }
     ensures bound { result ≤ length docs.now.entries }
 {
-    if begins_with(one, prefix) && is_last(one.term.as_str(), behind) {
-        length_of(one.term.as_str(), docs)
+    if begins_with(one, prefix) && is_last(one.term.as_str().as_bytes(), behind) {
+        length_of(one.term.as_str().as_bytes(), docs)
     } else {
         0
     }
@@ -74,7 +74,7 @@ fn last_length(
 
 /// The same of their greatest wdfs.
 fn add_greatests(
-    prefix: &str,
+    prefix: &[u8],
     terms: &[DocTerm],
     behind: &Iter<'_, DocId, Doc>,
     docs: &BTreeMap<DocId, Doc>,
@@ -85,15 +85,17 @@ fn add_greatests(
 {
     let mut sum = sum;
     'terms: for one in terms {
-        if begins_with(one, prefix) && is_last(one.term.as_str(), behind) {
-            sum = (sum + u64::from(greatest_of(one.term.as_str(), docs))).min(536_870_911);
+        if begins_with(one, prefix) && is_last(one.term.as_str().as_bytes(), behind) {
+            sum = (sum + u64::from(greatest_of(one.term.as_str().as_bytes(), docs))).min(
+                536_870_911,
+            );
         }
     }
     sum
 }
 
 /// Whether none of the documents has the term.
-fn is_last(term: &str, behind: &Iter<'_, DocId, Doc>) -> bool
+fn is_last(term: &[u8], behind: &Iter<'_, DocId, Doc>) -> bool
     ensures { result ≡ not (some_has term.now behind.now) }
 {
     let Ok(behind) = behind.clone() else {

@@ -1,0 +1,132 @@
+-- Pages of hits, each with its id, its weight and how many were collapsed into it, and the true counts, worked out by hand.
+use Rattle.std.proofs.Common.{◌≡◌, ℕ, Bool, true, false, ◌∷◌, [], List, length, refl, Option, Some, None, map, codes}
+use Rattle.sk_base.specs.declared.find.Ask.TheVariants as Ask
+use Rattle.sk_base.specs.declared.find.Collapse.{Collapse}
+use Rattle.sk_base.specs.declared.find.Find.{Find}
+use Rattle.sk_base.specs.declared.find.Join.TheVariants as Join
+use Rattle.sk_base.specs.declared.find.Scheme.{Scheme}
+use Rattle.sk_base.specs.declared.rank.Order.{Order}
+use Rattle.sk_base.specs.declared.rank.SortKey.{SortKey}
+use Rattle.sk_base.specs.Numbers.{Docs}
+use Rattle.sk_query.specs.declared.form.Form.{Form}
+use Rattle.sk_query.specs.Trees.{unbounded, number, bytes, Tree, nothing, all, term, wildcard, parts, near, phrase, synonym, scale, range, trees_from}
+use Rattle.sk_model.specs.Matches.{key_of}
+use Rattle.sk_model.specs.Counts.{kept_by, dropped_by}
+use Rattle.sk_model.specs.Reports.{found_by, page_of}
+use Rattle.sk_model.proofs.Examples.{four, has, site}
+
+abbrev key : ℕ → Bool → SortKey
+key slot reverse = record { slot = slot; reverse = reverse }
+
+abbrev by : ℕ → ℕ → Option Collapse
+by slot most = Some (record { slot = slot; max = most })
+
+-- a find, of which the query is given beside it
+abbrev asks : Scheme → Order → Option Collapse → ℕ → ℕ → Find
+asks scheme order collapse first size = record { ask = Ask.Text (codes "red") Join.Or; options = record { scheme = scheme; first = first; size = size; check = 0 }; order = order; collapse = collapse }
+
+-- its page over documents
+abbrev page : Docs → Tree → Find → List (ℕ × ℕ × ℕ)
+page docs query find = map (λ rank. (rank.id, rank.weight, dropped_by find docs (key_of find.collapse docs rank) (found_by query find docs))) (page_of query find docs)
+
+-- how many it keeps in all
+abbrev count : Docs → Tree → Find → ℕ
+count docs query find = length (kept_by find docs (found_by query find docs))
+
+abbrev red_fox : Tree
+red_fox = parts Form.Or (trees_from (term (codes "red") ∷ term (codes "fox") ∷ []))
+
+-- `red` or `fox` in the orders, and pages of them
+abbrev ordered : List (Find × List (ℕ × ℕ × ℕ))
+ordered =
+    (asks Scheme.Nnn Order.Relevance None 0 10, (1, 3, 0) ∷ (4, 2, 0) ∷ (2, 1, 0) ∷ (3, 1, 0) ∷ [])
+    ∷ (asks Scheme.Coord Order.Relevance None 0 10, (1, 2, 0) ∷ (4, 2, 0) ∷ (2, 1, 0) ∷ (3, 1, 0) ∷ [])
+    ∷ (asks Scheme.Bool Order.Relevance None 0 10, (1, 0, 0) ∷ (2, 0, 0) ∷ (3, 0, 0) ∷ (4, 0, 0) ∷ [])
+    ∷ (asks Scheme.Nnn (Order.Value (key 0 false)) None 0 10, (4, 2, 0) ∷ (1, 3, 0) ∷ (2, 1, 0) ∷ (3, 1, 0) ∷ [])
+    ∷ (asks Scheme.Nnn (Order.Value (key 0 true)) None 0 10, (3, 1, 0) ∷ (2, 1, 0) ∷ (1, 3, 0) ∷ (4, 2, 0) ∷ [])
+    ∷ (asks Scheme.Nnn (Order.Value (key 1 false)) None 0 10, (1, 3, 0) ∷ (2, 1, 0) ∷ (3, 1, 0) ∷ (4, 2, 0) ∷ [])
+    ∷ (asks Scheme.Nnn (Order.Value (key 1 true)) None 0 10, (3, 1, 0) ∷ (4, 2, 0) ∷ (1, 3, 0) ∷ (2, 1, 0) ∷ [])
+    ∷ (asks Scheme.Nnn (Order.Value (key 7 true)) None 0 10, (1, 3, 0) ∷ (2, 1, 0) ∷ (3, 1, 0) ∷ (4, 2, 0) ∷ [])
+    ∷ (asks Scheme.Nnn (Order.ValueThenRelevance (key 1 false)) None 0 10, (1, 3, 0) ∷ (2, 1, 0) ∷ (4, 2, 0) ∷ (3, 1, 0) ∷ [])
+    ∷ (asks Scheme.Nnn (Order.ValueThenRelevance (key 1 true)) None 0 10, (4, 2, 0) ∷ (3, 1, 0) ∷ (1, 3, 0) ∷ (2, 1, 0) ∷ [])
+    ∷ (asks Scheme.Bool (Order.ValueThenRelevance (key 1 true)) None 0 10, (3, 0, 0) ∷ (4, 0, 0) ∷ (1, 0, 0) ∷ (2, 0, 0) ∷ [])
+    ∷ (asks Scheme.Coord (Order.RelevanceThenValue (key 0 false)) None 0 2, (4, 2, 0) ∷ (1, 2, 0) ∷ [])
+    ∷ (asks Scheme.Coord (Order.RelevanceThenValue (key 0 true)) None 0 10, (1, 2, 0) ∷ (4, 2, 0) ∷ (3, 1, 0) ∷ (2, 1, 0) ∷ [])
+    ∷ (asks Scheme.Nnn Order.Relevance None 1 2, (4, 2, 0) ∷ (2, 1, 0) ∷ [])
+    ∷ (asks Scheme.Nnn Order.Relevance None 3 10, (3, 1, 0) ∷ [])
+    ∷ (asks Scheme.Nnn Order.Relevance None 4 10, [])
+    ∷ (asks Scheme.Nnn Order.Relevance None 4294967295 4294967295, [])
+    ∷ (asks Scheme.Nnn Order.Relevance None 0 0, [])
+    ∷ (asks Scheme.Nnn Order.Relevance None 2 1, (2, 1, 0) ∷ [])
+    ∷ []
+
+ordered_pages : map (λ row. page four red_fox row.0) ordered ≡ map (λ row. row.1) ordered
+ordered_pages = refl
+
+ordered_counts : map (λ row. count four red_fox row.0) ordered ≡ map (λ row. 4) ordered
+ordered_counts = refl
+
+-- queries, and their ten first hits by relevance
+abbrev queries : List (Tree × List (ℕ × ℕ × ℕ) × ℕ)
+queries =
+    (parts Form.Xor (trees_from ((term (codes "red")) ∷ (term (codes "fox")) ∷ (term (codes "red")) ∷ [])), (1, 5, 0) ∷ (4, 3, 0) ∷ (3, 1, 0) ∷ [], 3)
+    ∷ (parts Form.Max (trees_from ((term (codes "red")) ∷ (term (codes "fox")) ∷ [])), (1, 2, 0) ∷ (2, 1, 0) ∷ (3, 1, 0) ∷ (4, 1, 0) ∷ [], 4)
+    ∷ (parts Form.And (trees_from ((term (codes "red")) ∷ (term (codes "fox")) ∷ [])), (1, 3, 0) ∷ (4, 2, 0) ∷ [], 2)
+    ∷ (phrase 2 (codes "red" ∷ codes "fox" ∷ []), (1, 3, 0) ∷ (4, 2, 0) ∷ [], 2)
+    ∷ (all, (1, 0, 0) ∷ (2, 0, 0) ∷ (3, 0, 0) ∷ (4, 0, 0) ∷ [], 4)
+    ∷ (nothing, [], 0)
+    ∷ []
+
+query_pages : map (λ row. page four row.0 (asks Scheme.Nnn Order.Relevance None 0 10)) queries ≡ map (λ row. row.1) queries
+query_pages = refl
+
+query_counts : map (λ row. count four row.0 (asks Scheme.Nnn Order.Relevance None 0 10)) queries ≡ map (λ row. row.2) queries
+query_counts = refl
+
+-- collapsed on the site or the year
+abbrev collapsed : List (Find × List (ℕ × ℕ × ℕ) × ℕ)
+collapsed =
+    (asks Scheme.Nnn Order.Relevance (by 1 1) 0 10, (1, 3, 1) ∷ (4, 2, 1) ∷ [], 2)
+    ∷ (asks Scheme.Nnn Order.Relevance (by 1 2) 0 10, (1, 3, 0) ∷ (4, 2, 0) ∷ (2, 1, 0) ∷ (3, 1, 0) ∷ [], 4)
+    ∷ (asks Scheme.Nnn Order.Relevance (by 0 1) 0 10, (1, 3, 0) ∷ (4, 2, 0) ∷ (2, 1, 0) ∷ (3, 1, 0) ∷ [], 4)
+    ∷ (asks Scheme.Nnn Order.Relevance (by 7 1) 0 10, (1, 3, 0) ∷ (4, 2, 0) ∷ (2, 1, 0) ∷ (3, 1, 0) ∷ [], 4)
+    ∷ (asks Scheme.Nnn (Order.Value (key 0 true)) (by 1 1) 0 10, (3, 1, 1) ∷ (2, 1, 1) ∷ [], 2)
+    ∷ (asks Scheme.Nnn Order.Relevance (by 1 1) 0 1, (1, 3, 1) ∷ [], 2)
+    ∷ (asks Scheme.Nnn Order.Relevance (by 1 1) 1 10, (4, 2, 1) ∷ [], 2)
+    ∷ (asks Scheme.Nnn Order.Relevance (by 1 1) 2 10, [], 2)
+    ∷ (asks Scheme.Nnn Order.Relevance None 1 1, (4, 2, 0) ∷ [], 4)
+    ∷ []
+
+collapsed_pages : map (λ row. page four red_fox row.0) collapsed ≡ map (λ row. row.1) collapsed
+collapsed_pages = refl
+
+collapsed_counts : map (λ row. count four red_fox row.0) collapsed ≡ map (λ row. row.2) collapsed
+collapsed_counts = refl
+
+-- six documents, three of the first site and two of none, by the wdf of x
+abbrev six : Docs
+six =
+    (1, record { terms = has (codes "x") 1 [] ∷ []; values = site (codes "a") ∷ []; payload = [] })
+    ∷ (2, record { terms = has (codes "x") 2 [] ∷ []; values = site (codes "a") ∷ []; payload = [] })
+    ∷ (3, record { terms = has (codes "x") 3 [] ∷ []; values = site (codes "a") ∷ []; payload = [] })
+    ∷ (4, record { terms = has (codes "x") 1 [] ∷ []; values = site (codes "b") ∷ []; payload = [] })
+    ∷ (5, record { terms = has (codes "x") 4 [] ∷ []; values = []; payload = [] })
+    ∷ (6, record { terms = has (codes "x") 1 [] ∷ []; values = []; payload = [] })
+    ∷ []
+
+-- documents of no site are kept apart
+abbrev apart : List (Find × List (ℕ × ℕ × ℕ) × ℕ)
+apart =
+    (asks Scheme.Nnn Order.Relevance None 0 10, (5, 4, 0) ∷ (3, 3, 0) ∷ (2, 2, 0) ∷ (1, 1, 0) ∷ (4, 1, 0) ∷ (6, 1, 0) ∷ [], 6)
+    ∷ (asks Scheme.Nnn Order.Relevance (by 1 1) 0 10, (5, 4, 0) ∷ (3, 3, 2) ∷ (4, 1, 0) ∷ (6, 1, 0) ∷ [], 4)
+    ∷ (asks Scheme.Nnn Order.Relevance (by 1 2) 0 10, (5, 4, 0) ∷ (3, 3, 1) ∷ (2, 2, 1) ∷ (4, 1, 0) ∷ (6, 1, 0) ∷ [], 5)
+    ∷ (asks Scheme.Nnn Order.Relevance (by 1 3) 0 10, (5, 4, 0) ∷ (3, 3, 0) ∷ (2, 2, 0) ∷ (1, 1, 0) ∷ (4, 1, 0) ∷ (6, 1, 0) ∷ [], 6)
+    ∷ (asks Scheme.Nnn Order.Relevance (by 1 1) 1 2, (3, 3, 2) ∷ (4, 1, 0) ∷ [], 4)
+    ∷ (asks Scheme.Nnn Order.Relevance (by 1 2) 2 2, (2, 2, 1) ∷ (4, 1, 0) ∷ [], 5)
+    ∷ []
+
+apart_pages : map (λ row. page six (term (codes "x")) row.0) apart ≡ map (λ row. row.1) apart
+apart_pages = refl
+
+apart_counts : map (λ row. count six (term (codes "x")) row.0) apart ≡ map (λ row. row.2) apart
+apart_counts = refl
