@@ -10,7 +10,7 @@ use std::marker::Model;
 pub(crate) const FULL: usize = 512;
 
 /// Numbers of terms, at least one. Contracts see it as the list of these.
-#[derive(Debug, Drop)]
+#[derive(Drop)]
 pub(crate) struct Block {
     numbers: Vec<usize>,
 }
