@@ -108,18 +108,18 @@ range_takes : (f : ℕ) (cs : List ℕ) → IfSome (range_piece f cs) (Takes (le
 range_takes f [] = tt
 range_takes f (c ∷ cs) = if_some (suc (length cs)) (runs_on c) _ _ (λ e. run_takes _ c cs e) (λ _. tt)
 
-value_takes : (f : ℕ) (kind : FieldKind) (cs : List ℕ) → IfSome (value_piece f kind cs) (Takes (length cs))
+pub value_takes : (f : ℕ) (kind : FieldKind) (cs : List ℕ) → IfSome (value_piece f kind cs) (Takes (length cs))
 value_takes f (FieldKind.Text prefix step) cs = text_takes f cs
 value_takes f (FieldKind.Filter prefix) cs = filter_takes f cs
 value_takes f (FieldKind.Number slot) cs = range_takes f cs
 value_takes f (FieldKind.Word slot) cs = range_takes f cs
 
 -- The value of a field, if there is one.
-field_value_takes : (f : ℕ) (o : Option Field) (cs : List ℕ) → IfSome (option_and_then (λ field. value_piece f (Field.kind field) cs) o) (Takes (length cs))
+pub field_value_takes : (f : ℕ) (o : Option Field) (cs : List ℕ) → IfSome (option_and_then (λ field. value_piece f (Field.kind field) cs) o) (Takes (length cs))
 field_value_takes f None cs = tt
 field_value_takes f (Some field) cs = value_takes f (Field.kind field) cs
 
-colon_takes : (fields : List Field) (f : ℕ) (cs : List ℕ) → IfSome (colon_piece fields f cs) (Takes (length cs))
+pub colon_takes : (fields : List Field) (f : ℕ) (cs : List ℕ) → IfSome (colon_piece fields f cs) (Takes (length cs))
 colon_takes fields f [] = tt
 colon_takes fields f (c ∷ cs) =
     if_some (suc (length cs)) (c == 58) _ _ (λ _. more_takes _ 1 (length cs) (suc (length cs)) (omega arith) (field_value_takes f (slice_get fields f) cs)) (λ _. tt)

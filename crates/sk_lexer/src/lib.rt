@@ -1,13 +1,12 @@
-// A library with one function.
+//! Cuts a query text into its tokens.
 #![tactic(auto)]
 
-ghost use Rattle.std.specs.Prelude.{◌≡◌};
-ghost use Rattle.sk_lexer.specs.Echo.{echo_of};
+mod fields;
+mod groups;
+mod operators;
+mod piece;
+mod quotes;
+mod runs;
+mod walk;
 
-// The `ensures` clause is the contract: what `echo` returns is `echo_of` of its argument, a definition
-// in `specs/Echo.antt`, which a caller's clause can cite too.
-pub fn echo(x: usize) -> usize
-    ensures { result ≡ echo_of x }
-{
-    x
-}
+pub use walk::tokens;

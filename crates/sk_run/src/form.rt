@@ -1,8 +1,9 @@
 //! The form of words `run`.
-ghost use Rattle.std.specs.Prelude.{◌≡◌, ◌⊎◌, drop, map, string_bytes, None, IfOk, IfErr, IsErr};
+ghost use Rattle.std.specs.Prelude.{◌≡◌, drop, map, string_bytes, None, IfOk, IfErr, IsErr};
 ghost use Rattle.sk_run.specs.declared.status.Status.TheVariants as Status;
 ghost use Rattle.sk_run.specs.Responses.{text_of, is_refusal, steps_of};
-ghost use Rattle.sk_run.specs.Forms.{is_form};
+ghost use Rattle.std.specs.IoError.{error_kind};
+ghost use Rattle.sk_run.specs.Forms.{is_form, status_for};
 ghost use Rattle.sk_run.specs.Output.{Answers, Closes, Begins};
 ghost use Rattle.sk_run.specs.Ended.{Outside};
 ghost use Rattle.sk_run.specs.Ran.{Ran};
@@ -50,7 +51,7 @@ fn is_form(words: &[String]) -> bool
 pub fn arguments(alloc: Global, args: io::Result<Args>) -> Result<Vec<String>, Status>
     ensures words { IfOk args (λ all. IfOk result (λ words. words.items ≡ all.rest.items)) }
     ensures wanting { IfOk args (λ all. IfErr result (λ status. status ≡ Status.Memory)) }
-    ensures unread { IfErr args (λ error. IfErr result (λ status. (status ≡ Status.Usage) ⊎ (status ≡ Status.Memory))) }
+    ensures unread { IfErr args (λ error. IfErr result (λ status. status ≡ status_for (error_kind error))) }
     ensures refused { IfErr args (λ error. IsErr result) }
 {
     match args {
@@ -59,15 +60,22 @@ pub fn arguments(alloc: Global, args: io::Result<Args>) -> Result<Vec<String>, S
             Err(_) => Err(Status::Memory),
         },
         Err(error) => {
-            if error.kind() == io::ErrorKind::OutOfMemory {
-                Err(Status::Memory)
-            } else {
-                Err(Status::Usage)
-            }
+            Err(status_for(error.kind()))
         }
     }
 }
 
+/// The status of a run whose arguments were not read.
+fn status_for(kind: io::ErrorKind) -> Status
+    ensures { result ≡ status_for kind }
+{
+    match kind {
+        io::ErrorKind::OutOfMemory => Status::Memory,
+        _ => Status::Usage,
+    }
+}
+
+/// All that the iterator gives.
 fn collected(alloc: Global, args: Args) -> Result<Vec<String>, AllocError>
     ensures { IfOk result (λ words. words.items ≡ args.rest.items) }
 {
