@@ -7,6 +7,9 @@ mod mentioned;
 mod slots;
 mod term_map;
 
+#[cfg(test)]
+mod tests;
+
 pub use building::build;
 pub use sk_base::{Doc, DocTerm, DocTerms, Positions, SlotValue, SlotValues};
 

@@ -7,4 +7,7 @@ mod slot_lists;
 mod stats;
 mod term_lists;
 
+#[cfg(test)]
+mod tests;
+
 pub use index::Index;

@@ -10,7 +10,7 @@ use std::alloc::AllocError;
 use std::collections::BTreeMap;
 
 /// The list of all documents, a list for each term, and one for each slot. Each shows how long it is, and no entry.
-#[derive(Debug, Drop)]
+#[derive(Drop)]
 pub(crate) struct Lists {
     pub all: List,
     pub terms: TermLists,

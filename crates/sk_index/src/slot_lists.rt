@@ -9,14 +9,14 @@ use std::alloc::{AllocError, Global};
 use std::marker::Model;
 
 /// A slot, and who has a value in it.
-#[derive(Debug, Drop)]
+#[derive(Drop)]
 pub(crate) struct SlotEntry {
     pub slot: u32,
     pub list: SlotList,
 }
 
 /// A list for each slot in which a document has a value, or had one.
-#[derive(Debug, Drop)]
+#[derive(Drop)]
 pub(crate) struct SlotLists {
     alloc: Global,
     slots: Vec<SlotEntry>,

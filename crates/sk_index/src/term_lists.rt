@@ -13,7 +13,7 @@ use std::alloc::{AllocError, Global};
 use std::marker::Model;
 
 /// Terms, and for each the documents that have it. A term that was given a number keeps it; its list may become empty.
-#[derive(Debug, Drop)]
+#[derive(Drop)]
 pub(crate) struct TermLists {
     alloc: Global,
     dict: Dict,
@@ -21,7 +21,7 @@ pub(crate) struct TermLists {
 }
 
 /// A number of a list that is known without a reading.
-#[derive(Clone, Copy, Debug)]
+#[derive(Clone, Copy)]
 pub(crate) enum Figure {
     Length,
     Greatest,
