@@ -1,5 +1,5 @@
 -- The query of a text, by splitting.
-use Rattle.std.specs.Prelude.{ℕ, ◌&&◌, not, Bool, true, false, List, [], ◌∷◌, map, filter, if◌then◌else◌, Option, Some, None}
+use Rattle.std.specs.Prelude.{ℕ, ◌&&◌, not, Bool, true, false, List, [], ◌∷◌, map, reverse, filter, if◌then◌else◌, Option, Some, None}
 use Rattle.sk_base.specs.declared.schema.Field.{Field}
 use Rattle.sk_base.specs.declared.find.Join.{Join}
 use Rattle.sk_query.specs.declared.form.Form.TheVariants as Form
@@ -32,11 +32,6 @@ abbrev pub at : (Kind → Bool) → Part → Bool
 at test (operator k) = test k
 at test _ = false
 
--- The first part is.
-abbrev pub first_at : (Kind → Bool) → List Part → Bool
-first_at test [] = false
-first_at test (p ∷ ps) = at test p
-
 -- A part put before the first of these lists.
 abbrev pub in_front : Part → List (List Part) → List (List Part)
 in_front p [] = (p ∷ []) ∷ []
@@ -57,18 +52,18 @@ abbrev pub in_run : Part → List Run → List Run
 in_run p [] = record { negative = false; inside = p ∷ [] } ∷ []
 in_run p (run ∷ more) = record { negative = run.negative; inside = p ∷ run.inside } ∷ more
 
--- The runs of these parts, the first standing behind NOT or not. AND directly before NOT is passed over.
-abbrev pub runs : Bool → List Part → List Run
-runs negative [] = record { negative = negative; inside = [] } ∷ []
-runs negative (p ∷ ps) =
-    if at is_and p then (if first_at is_not ps then runs negative ps else record { negative = negative; inside = [] } ∷ runs false ps)
-    else (if at is_not p then record { negative = negative; inside = [] } ∷ runs true ps
-    else in_run p (runs negative ps))
+-- The runs of these parts, the first being negative or not. Where AND or nothing stands right before them (`fresh`), NOT begins no run of its own:
+-- so AND NOT is NOT, and NOT that stands first has no run before it.
+abbrev pub runs : Bool → Bool → List Part → List Run
+runs fresh negative [] = record { negative = negative; inside = [] } ∷ []
+runs fresh negative (p ∷ ps) =
+    if at is_not p then (if fresh then runs false true ps else record { negative = negative; inside = [] } ∷ runs false true ps)
+    else (if at is_and p then record { negative = negative; inside = [] } ∷ runs true false ps
+    else in_run p (runs false negative ps))
 
--- The runs of a part of XOR. NOT that stands first has no run before it.
+-- The runs of a part of XOR.
 abbrev pub runs_in : List Part → List Run
-runs_in [] = runs false []
-runs_in (p ∷ ps) = if at is_not p then runs true ps else runs false (p ∷ ps)
+runs_in ps = runs true false ps
 
 abbrev pub is_positive : Run → Bool
 is_positive run = not run.negative
@@ -93,16 +88,16 @@ xor_tree join ps = joined Form.Xor (map (and_tree join) (split is_xor ps))
 abbrev pub parts_tree : Join → List Part → Tree
 parts_tree join ps = joined Form.Or (map (xor_tree join) (split is_or ps))
 
--- The part that a bracket is, by what stands inside.
+-- The part that a bracket is, by the parts inside, the last of which stands first.
 abbrev pub closed_part : Join → List Part → Part
 closed_part join [] = empty
-closed_part join (p ∷ ps) = unit (parts_tree join (chained (p ∷ ps)))
+closed_part join (p ∷ ps) = unit (parts_tree join (reverse (p ∷ ps)))
 
 abbrev mutual
   -- The part that a token or a bracket is, where the brackets around it give this prefix. What a bracket's own field says holds inside.
   pub nest_part : List Field → Join → List ℕ → Nest → Part
   nest_part fields join around (single k) = part_of fields around k
-  nest_part fields join around (bracket field ns) = closed_part join (nest_parts fields join (prefix_in fields around field) ns)
+  nest_part fields join around (bracket field ns) = closed_part join (chained [] (nest_parts fields join (prefix_in fields around field) ns))
 
   pub nest_parts : List Field → Join → List ℕ → Nests → List Part
   nest_parts fields join around no_nests = []
@@ -110,7 +105,7 @@ abbrev mutual
 
 -- The query of tokens without a fault, by their kinds.
 abbrev pub tree_in : List Field → Join → List Kind → Tree
-tree_in fields join ks = parts_tree join (chained (nest_parts fields join [] (Levels.here (levels_of ks))))
+tree_in fields join ks = parts_tree join (reverse (chained [] (nest_parts fields join [] (Levels.here (levels_of ks)))))
 
 -- The query of tokens that have this fault or none.
 abbrev pub meant_or : List Field → Join → Option (FaultKind × ℕ) → List Token → Option Tree

@@ -85,25 +85,25 @@ part_of fields around (Kind.Near n) = link false n
 part_of fields around (Kind.Adj n) = link true n
 part_of fields around k = operator k
 
--- The greatest distance and all terms of a word, a link and a chain.
-abbrev pub linked_words : List (List ℕ) → Bool → ℕ → Part → List Part → List Part
-linked_words ts ordered n (chain o m us) ps = chain ordered (max n m) (ts ++ us) ∷ ps
-linked_words ts ordered n p ps = chain ordered n ts ∷ p ∷ ps
+-- Words behind a link, with what stands before that, the last first: they go to the chain there, which then has the greater distance.
+abbrev pub linked : Bool → ℕ → List Part → Bool → ℕ → List (List ℕ) → List Part
+linked ordered n (chain o m ts ∷ before) p k us = chain ordered (max m n) (ts ++ us) ∷ before
+linked ordered n before p k us = chain p k us ∷ link ordered n ∷ before
 
--- A word before other parts, the words among which are linked already: behind it may stand a link, and a word or a chain.
-abbrev pub link_word : ℕ → List (List ℕ) → List Part → List Part
-link_word k ts (link ordered n ∷ p ∷ ps) = linked_words ts ordered n p ps
-link_word k ts ps = chain false k ts ∷ ps
+-- Words behind other parts, the last of which stands first.
+abbrev pub with_words : List Part → Bool → ℕ → List (List ℕ) → List Part
+with_words (link ordered n ∷ before) p k us = linked ordered n before p k us
+with_words before p k us = chain p k us ∷ before
 
--- A part before others, the words among which are linked already.
-abbrev pub linked : Part → List Part → List Part
-linked (chain o k ts) ps = link_word k ts ps
-linked p ps = p ∷ ps
+-- A part behind others, the last of which stands first.
+abbrev pub with_part : List Part → Part → List Part
+with_part before (chain ordered n ts) = with_words before ordered n ts
+with_part before p = p ∷ before
 
--- The parts with their words linked.
-abbrev pub chained : List Part → List Part
-chained [] = []
-chained (p ∷ ps) = linked p (chained ps)
+-- Parts behind others, the last of which stands first, with the words that are linked put together.
+abbrev pub chained : List Part → List Part → List Part
+chained before [] = before
+chained before (p ∷ ps) = chained (with_part before p) ps
 
 -- The query of a chain: its window is the greatest distance and one for each word but the first. One word is a term.
 abbrev pub chain_tree : Bool → ℕ → List (List ℕ) → Tree
