@@ -100,7 +100,14 @@ fn note_value(
 {
     match (kind, value) {
         (FieldKind::Text(prefix, step), Some(FieldValue::Text(text))) => {
-            note_text(alloc, gathered, prefix.as_str(), *step, before, text.as_str())
+            note_text(
+                alloc,
+                gathered,
+                prefix.as_str(),
+                *step,
+                before,
+                text.as_str(),
+            )
         }
         _ => Ok(()),
     }
@@ -159,7 +166,12 @@ fn note_filters(
     ensures load { OnOk result (load_of gathered.new.terms ≡ load_of gathered.old.terms) }
 {
     'fields: for place in 0..fields.len() {
-        note_filter(alloc, gathered, &fields[place].kind, value_at(place, values))?;
+        note_filter(
+            alloc,
+            gathered,
+            &fields[place].kind,
+            value_at(place, values),
+        )?;
     }
     Ok(())
 }

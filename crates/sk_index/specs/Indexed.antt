@@ -1,5 +1,5 @@
 -- What an index holds, and what its readers give.
-use Rattle.std.specs.Prelude.{◌≡◌, ℕ, List, [], map, Option, Some, None, if◌then◌else◌}
+use Rattle.std.specs.Prelude.{ℕ, List, [], map, Option, Some, None, if◌then◌else◌}
 use Rattle.std.specs.List.{filter_map}
 use Rattle.sk_lists.specs.Postings.{Postings}
 use Rattle.sk_values.specs.SlotValues.{SlotValues}
@@ -7,7 +7,7 @@ use Rattle.sk_base.specs.declared.schema.Field.{Field}
 use Rattle.sk_base.specs.Documents.{has_term, wdf_of, has_value, value_in}
 use Rattle.sk_base.specs.Numbers.{Docs}
 use Rattle.sk_model.specs.Documents.{Document}
-use Rattle.sk_model.specs.Edits.{Live, document_at}
+use Rattle.sk_model.specs.Edits.{Live}
 
 -- What an index holds: the fields of its schema, the live documents, and the terms that were given a number, by number.
 pub record Indexed : Type 0 where

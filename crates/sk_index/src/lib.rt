@@ -6,7 +6,6 @@ mod lists;
 mod slot_lists;
 mod stats;
 mod term_lists;
-
 #[cfg(test)]
 mod tests;
 

@@ -25,11 +25,18 @@ impl Stats for Index {
     }
 
     fn wild_length(&self, prefix: &[u8]) -> u32 {
-        self.documents.beside().terms.sum(prefix, Figure::Length, self.documents.beside().all.length())
+        self.documents.beside().terms.sum(
+            prefix,
+            Figure::Length,
+            self.documents.beside().all.length(),
+        )
     }
 
     fn wild_greatest(&self, prefix: &[u8]) -> u32 {
-        self.documents.beside().terms.sum(prefix, Figure::Greatest, MOST_WDF)
+        self.documents
+            .beside()
+            .terms
+            .sum(prefix, Figure::Greatest, MOST_WDF)
     }
 
     fn slot_length(&self, slot: u32) -> u32 {

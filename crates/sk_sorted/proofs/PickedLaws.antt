@@ -3,7 +3,7 @@ use Rattle.std.proofs.Common.{◌≡◌, ◌≢◌, ℕ, ◌<◌, ◌≤◌, Lis
 use Rattle.std.specs.List.{filter_map, cons_option}
 use Rattle.std.proofs.lemmas.Bool.{cases_order, cases_eq}
 use Rattle.sk_sorted.specs.Entries.{RiseAbove, put, without, found}
-use Rattle.sk_sorted.proofs.EntryLaws.{put-after, put-before, put-front, without-here, without-other, found-here, found-other}
+use Rattle.sk_sorted.proofs.EntryLaws.{put-after, put-before, without-here, without-other, found-here, found-other}
 
 -- with the entry that is picked, if any
 abbrev pub with_picked : {Y : Type 0} → Option (ℕ × Y) → List (ℕ × Y) → List (ℕ × Y)

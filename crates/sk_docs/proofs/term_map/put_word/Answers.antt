@@ -2,7 +2,6 @@ use Rattle.std.proofs.Common.{ap, ◌∙◌, sym, arith, refl, ◌∷◌, []}
 use Rattle.sk_docs.specs.Entries.{terms_in}
 use Rattle.sk_docs.proofs.EntryLemmas.{set_noted, load_of_one, below_of_one}
 use Rattle.sk_docs.proofs.term_map.put_word.Goals as goal
-use Rattle.sk_base.specs.Loads.{load_of}
 
 pub push-requires : goal.push-requires
 push-requires c = record { behind = below_of_one c.args.place c.args.found.now.entries _ c.in-Some.known.now (sym c.in-Some.ensures.value) c.requires.places }
