@@ -1,1 +1,3 @@
 pub mod RankLaws
+mod Examples
+mod FittingLemmas

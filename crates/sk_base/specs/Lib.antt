@@ -7,3 +7,4 @@ pub mod Records
 pub mod Documents
 pub mod Numbers
 pub mod Loads
+pub mod Fitting

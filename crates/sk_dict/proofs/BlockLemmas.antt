@@ -47,9 +47,9 @@ headed (y ∷ ys) x some e = ap (λ w. w ∷ ys) (sym e)
 pub from_first : (blocks : List (List ℕ)) (b first : ℕ) → BeginsWith blocks b first → concat (drop b blocks) ≡ first ∷ (drop 1 (in_block blocks b) ++ concat (drop (b + 1) blocks))
 from_first blocks b first h = blocks_from blocks b h.there ∙ ap (λ w. w ++ concat (drop (b + 1) blocks)) (headed (in_block blocks b) first h.some h.is)
 
--- a list by the number at a slot
-pub numbers_at : (numbers : List ℕ) (slot : ℕ) → slot < length numbers → numbers ≡ take slot numbers ++ get_or numbers slot 0 ∷ drop (slot + 1) numbers
-numbers_at numbers slot lt = sym (take-append-drop slot numbers) ∙ ap (λ w. take slot numbers ++ w) (drop_more numbers slot 0 lt)
+-- a list by the number at a offset
+pub numbers_at : (numbers : List ℕ) (offset : ℕ) → offset < length numbers → numbers ≡ take offset numbers ++ get_or numbers offset 0 ∷ drop (offset + 1) numbers
+numbers_at numbers offset lt = sym (take-append-drop offset numbers) ∙ ap (λ w. take offset numbers ++ w) (drop_more numbers offset 0 lt)
 
 module _ (terms : List (List ℕ)) (key : List ℕ) (behind : Bool) where
   -- the first number of a block in the middle passes
@@ -75,7 +75,7 @@ module _ (terms : List (List ℕ)) (key : List ℕ) (behind : Bool) where
         (subst (IsRising terms) (blocks_at blocks middle ∙ ap (λ w. concat (take middle blocks) ++ w) (from_first blocks middle first begins)) rising) p);
   }
 
-  -- the number at a slot in the middle passes
+  -- the number at a offset in the middle passes
   pub parted_low : (numbers : List ℕ) (low middle high : ℕ) → IsRising terms numbers → IsParted (passes terms key behind) numbers low high → middle < high
       → passes terms key behind (get_or numbers middle 0) ≡ true → IsParted (passes terms key behind) numbers (middle + 1) high
   parted_low numbers low middle high rising h lt p =
@@ -131,22 +131,22 @@ block_rises terms blocks b lt r = IsRising-front terms (in_block blocks b) (conc
     (subst (IsRising terms) (blocks_from blocks b lt) (IsRising-rest terms (concat (take b blocks)) (concat (drop b blocks)) (subst (IsRising terms) (blocks_at blocks b) r)))
 
 -- the order, cut in a block
-pub order_at : (blocks : List (List ℕ)) (b slot : ℕ) → b < length blocks → concat blocks ≡ front_of blocks b slot ++ rest_from blocks b slot
-order_at blocks b slot lt =
-    let whole : concat blocks ≡ concat (take b blocks) ++ ((take slot (in_block blocks b) ++ drop slot (in_block blocks b)) ++ concat (drop (b + 1) blocks)) =
+pub order_at : (blocks : List (List ℕ)) (b offset : ℕ) → b < length blocks → concat blocks ≡ front_of blocks b offset ++ rest_from blocks b offset
+order_at blocks b offset lt =
+    let whole : concat blocks ≡ concat (take b blocks) ++ ((take offset (in_block blocks b) ++ drop offset (in_block blocks b)) ++ concat (drop (b + 1) blocks)) =
     blocks_at blocks b ∙ ap (λ w. concat (take b blocks) ++ w) (blocks_from blocks b lt)
-    ∙ ap (λ w. concat (take b blocks) ++ (w ++ concat (drop (b + 1) blocks))) (sym (take-append-drop slot (in_block blocks b))) in
+    ∙ ap (λ w. concat (take b blocks) ++ (w ++ concat (drop (b + 1) blocks))) (sym (take-append-drop offset (in_block blocks b))) in
     whole ∙ simp append_assoc
 
--- a block was found, and a slot in it
-pub place_splits : (test : ℕ → Bool) (blocks : List (List ℕ)) (b slot : ℕ) → b < length blocks
+-- a block was found, and a offset in it
+pub place_splits : (test : ℕ → Bool) (blocks : List (List ℕ)) (b offset : ℕ) → b < length blocks
     → Each (λ n. test n ≡ true) (concat (take b blocks)) → Each (λ n. test n ≡ false) (concat (drop (b + 1) blocks))
-    → Each (λ n. test n ≡ true) (take slot (in_block blocks b)) → Each (λ n. test n ≡ false) (drop slot (in_block blocks b))
-    → IsSplit test (concat blocks) (front_of blocks b slot) (rest_from blocks b slot)
-place_splits test blocks b slot lt front back low high = record {
-  whole = order_at blocks b slot lt;
-  passed = Each-append (λ n. test n ≡ true) (concat (take b blocks)) (take slot (in_block blocks b)) front low;
-  left = Each-append (λ n. test n ≡ false) (drop slot (in_block blocks b)) (concat (drop (b + 1) blocks)) high back;
+    → Each (λ n. test n ≡ true) (take offset (in_block blocks b)) → Each (λ n. test n ≡ false) (drop offset (in_block blocks b))
+    → IsSplit test (concat blocks) (front_of blocks b offset) (rest_from blocks b offset)
+place_splits test blocks b offset lt front back low high = record {
+  whole = order_at blocks b offset lt;
+  passed = Each-append (λ n. test n ≡ true) (concat (take b blocks)) (take offset (in_block blocks b)) front low;
+  left = Each-append (λ n. test n ≡ false) (drop offset (in_block blocks b)) (concat (drop (b + 1) blocks)) high back;
 }
 
 -- all numbers where one block is another
@@ -157,11 +157,11 @@ concat-set blocks b block lt =
     ∙ ap (λ k. concat (take b blocks) ++ (block ++ concat (drop k blocks))) next
 
 -- a number put into a block stands at its place in the order
-pub block_put : (blocks : List (List ℕ)) (b slot number : ℕ) (block new : List ℕ) → b < length blocks → block ≡ get_or blocks b block → new ≡ insert block slot number
-    → concat (set blocks b new) ≡ front_of blocks b slot ++ number ∷ rest_from blocks b slot
-block_put blocks b slot number block new lt is e =
-    let same : new ≡ insert (in_block blocks b) slot number = e ∙ ap (λ w. insert w slot number) (read_block blocks b block lt is) in
-    let whole : concat (set blocks b new) ≡ concat (take b blocks) ++ ((take slot (in_block blocks b) ++ number ∷ drop slot (in_block blocks b)) ++ concat (drop (b + 1) blocks)) =
+pub block_put : (blocks : List (List ℕ)) (b offset number : ℕ) (block new : List ℕ) → b < length blocks → block ≡ get_or blocks b block → new ≡ insert block offset number
+    → concat (set blocks b new) ≡ front_of blocks b offset ++ number ∷ rest_from blocks b offset
+block_put blocks b offset number block new lt is e =
+    let same : new ≡ insert (in_block blocks b) offset number = e ∙ ap (λ w. insert w offset number) (read_block blocks b block lt is) in
+    let whole : concat (set blocks b new) ≡ concat (take b blocks) ++ ((take offset (in_block blocks b) ++ number ∷ drop offset (in_block blocks b)) ++ concat (drop (b + 1) blocks)) =
     concat-set blocks b new lt ∙ ap (λ w. concat (take b blocks) ++ (w ++ concat (drop (b + 1) blocks))) same in
     whole ∙ simp append_assoc
 
@@ -187,55 +187,55 @@ block_cut blocks made b half block read upper lower lt is grown seen high low =
     }
 
 -- the order where a block was not changed
-pub room_there : (blocks : List (List ℕ)) (b slot : ℕ) → b < length blocks → slot ≤ length (in_block blocks b) → length (in_block blocks b) < 512 → HasRoom blocks blocks b slot b slot
-room_there blocks b slot lt le room = record { there = lt; within = le; room = room; front = refl; rest = refl }
+pub room_there : (blocks : List (List ℕ)) (b offset : ℕ) → b < length blocks → offset ≤ length (in_block blocks b) → length (in_block blocks b) < 512 → HasRoom blocks blocks b offset b offset
+room_there blocks b offset lt le room = record { there = lt; within = le; room = room; front = refl; rest = refl }
 
-module _ (old new : List (List ℕ)) (b slot half : ℕ) (lt : b < length old) (h : IsCut old new b half) where
-  -- a slot of the lower half stands where it stood
-  pub room_below : slot ≤ half → half ≤ length (in_block old b) → half < 512 → HasRoom old new b slot b slot
+module _ (old new : List (List ℕ)) (b offset half : ℕ) (lt : b < length old) (h : IsCut old new b half) where
+  -- a offset of the lower half stands where it stood
+  pub room_below : offset ≤ half → half ≤ length (in_block old b) → half < 512 → HasRoom old new b offset b offset
   room_below le fits small =
       let block : List ℕ = in_block old b in
       let size : length (take half block) ≡ half = length-take-le half block fits in
       let next : b + 1 < length new = omega (arith, h.longer) in
-      let whole : drop slot (take half block) ++ drop half block ≡ drop slot block =
-      sym (drop-append-le slot (take half block) (drop half block) (omega arith)) ∙ ap (drop slot) (take-append-drop half block) in
+      let whole : drop offset (take half block) ++ drop half block ≡ drop offset block =
+      sym (drop-append-le offset (take half block) (drop half block) (omega arith)) ∙ ap (drop offset) (take-append-drop half block) in
       record {
         there = omega (arith, h.longer);
         within = rw h.lower (omega arith);
         room = rw h.lower (omega arith);
-        front = ap (λ w. concat w ++ take slot (in_block new b)) h.before ∙ ap (λ w. concat (take b old) ++ take slot w) h.lower ∙ ap (λ w. concat (take b old) ++ w) (take-take slot half block le);
-        rest = ap (λ w. drop slot w ++ concat (drop (b + 1) new)) h.lower
-            ∙ ap (λ w. drop slot (take half block) ++ w) (blocks_from new (b + 1) next ∙ ap (λ w. w ++ concat (drop (b + 1 + 1) new)) h.upper ∙ ap (λ w. drop half block ++ concat w) h.after)
-            ∙ sym (append_assoc (drop slot (take half block)) (drop half block) (concat (drop (b + 1) old))) ∙ ap (λ w. w ++ concat (drop (b + 1) old)) whole;
+        front = ap (λ w. concat w ++ take offset (in_block new b)) h.before ∙ ap (λ w. concat (take b old) ++ take offset w) h.lower ∙ ap (λ w. concat (take b old) ++ w) (take-take offset half block le);
+        rest = ap (λ w. drop offset w ++ concat (drop (b + 1) new)) h.lower
+            ∙ ap (λ w. drop offset (take half block) ++ w) (blocks_from new (b + 1) next ∙ ap (λ w. w ++ concat (drop (b + 1 + 1) new)) h.upper ∙ ap (λ w. drop half block ++ concat w) h.after)
+            ∙ sym (append_assoc (drop offset (take half block)) (drop half block) (concat (drop (b + 1) old))) ∙ ap (λ w. w ++ concat (drop (b + 1) old)) whole;
       }
 
-  -- a slot behind it stands in the upper half
-  pub room_above : half < slot → slot ≤ length (in_block old b) → length (in_block old b) ≤ 512 → 0 < half → HasRoom old new b slot (b + 1) (slot - half)
+  -- a offset behind it stands in the upper half
+  pub room_above : half < offset → offset ≤ length (in_block old b) → length (in_block old b) ≤ 512 → 0 < half → HasRoom old new b offset (b + 1) (offset - half)
   room_above gt le bounded some =
       let block : List ℕ = in_block old b in
       let size : length (drop half block) ≡ length block - half = length-drop half block in
       let there : b < length new = omega (arith, h.longer) in
-      let sum : half + (slot - half) ≡ slot = omega arith in
-      let low : take half block ++ take (slot - half) (drop half block) ≡ take slot block =
-      ap (λ w. w ++ take (slot - half) (drop half block)) (sym (take-take half slot block (omega arith)))
-      ∙ ap (λ w. take half (take slot block) ++ w) (sym (ap (λ k. drop half (take k block)) (sym sum) ∙ drop-take half (slot - half) block))
-      ∙ take-append-drop half (take slot block) in
+      let sum : half + (offset - half) ≡ offset = omega arith in
+      let low : take half block ++ take (offset - half) (drop half block) ≡ take offset block =
+      ap (λ w. w ++ take (offset - half) (drop half block)) (sym (take-take half offset block (omega arith)))
+      ∙ ap (λ w. take half (take offset block) ++ w) (sym (ap (λ k. drop half (take k block)) (sym sum) ∙ drop-take half (offset - half) block))
+      ∙ take-append-drop half (take offset block) in
       record {
         there = omega (arith, h.longer);
         within = rw h.upper (omega arith);
         room = rw h.upper (omega arith);
-        front = ap (λ w. concat w ++ take (slot - half) (in_block new (b + 1))) (take_more new b [] there)
-            ∙ ap (λ w. w ++ take (slot - half) (in_block new (b + 1))) (concat-append (take b new) (in_block new b ∷ []))
-            ∙ ap (λ w. (concat w ++ (in_block new b ++ [])) ++ take (slot - half) (in_block new (b + 1))) h.before
-            ∙ ap (λ w. (concat (take b old) ++ (w ++ [])) ++ take (slot - half) (in_block new (b + 1))) h.lower
-            ∙ ap (λ w. (concat (take b old) ++ (take half block ++ [])) ++ take (slot - half) w) h.upper
-            ∙ ap (λ w. (concat (take b old) ++ w) ++ take (slot - half) (drop half block)) (append-nil (take half block))
-            ∙ append_assoc (concat (take b old)) (take half block) (take (slot - half) (drop half block))
+        front = ap (λ w. concat w ++ take (offset - half) (in_block new (b + 1))) (take_more new b [] there)
+            ∙ ap (λ w. w ++ take (offset - half) (in_block new (b + 1))) (concat-append (take b new) (in_block new b ∷ []))
+            ∙ ap (λ w. (concat w ++ (in_block new b ++ [])) ++ take (offset - half) (in_block new (b + 1))) h.before
+            ∙ ap (λ w. (concat (take b old) ++ (w ++ [])) ++ take (offset - half) (in_block new (b + 1))) h.lower
+            ∙ ap (λ w. (concat (take b old) ++ (take half block ++ [])) ++ take (offset - half) w) h.upper
+            ∙ ap (λ w. (concat (take b old) ++ w) ++ take (offset - half) (drop half block)) (append-nil (take half block))
+            ∙ append_assoc (concat (take b old)) (take half block) (take (offset - half) (drop half block))
             ∙ ap (λ w. concat (take b old) ++ w) low;
-        rest = ap (λ w. drop (slot - half) w ++ concat (drop (b + 1 + 1) new)) h.upper ∙ ap (λ w. drop (slot - half) (drop half block) ++ concat w) h.after
-            ∙ ap (λ w. w ++ concat (drop (b + 1) old)) (drop-drop (slot - half) half block ∙ ap (λ k. drop k block) sum);
+        rest = ap (λ w. drop (offset - half) w ++ concat (drop (b + 1 + 1) new)) h.upper ∙ ap (λ w. drop (offset - half) (drop half block) ++ concat w) h.after
+            ∙ ap (λ w. w ++ concat (drop (b + 1) old)) (drop-drop (offset - half) half block ∙ ap (λ k. drop k block) sum);
       }
 
 -- blocks that have room at the place have the same order
-pub room_same : (old new : List (List ℕ)) (b slot a c : ℕ) → b < length old → HasRoom old new b slot a c → concat new ≡ concat old
-room_same old new b slot a c lt h = order_at new a c h.there ∙ ap (λ w. w ++ rest_from new a c) h.front ∙ ap (λ w. front_of old b slot ++ w) h.rest ∙ sym (order_at old b slot lt)
+pub room_same : (old new : List (List ℕ)) (b offset a c : ℕ) → b < length old → HasRoom old new b offset a c → concat new ≡ concat old
+room_same old new b offset a c lt h = order_at new a c h.there ∙ ap (λ w. w ++ rest_from new a c) h.front ∙ ap (λ w. front_of old b offset ++ w) h.rest ∙ sym (order_at old b offset lt)

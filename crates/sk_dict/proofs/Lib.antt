@@ -7,3 +7,4 @@ mod OrderLemmas
 mod HeadLemmas
 mod FindLemmas
 mod PrefixLemmas
+mod Examples

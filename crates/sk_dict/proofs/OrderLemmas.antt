@@ -68,17 +68,17 @@ module _ (terms : List (List ℕ)) (order front : List ℕ) (key : List ℕ) (be
   first_left (n ∷ ns) s = some_left n ns s
 
 -- the same of what was read at a place among the blocks
-pub first_found : (now terms : List (List ℕ)) (blocks seen again : List (List ℕ)) (key : List ℕ) (behind : Bool) (b slot : ℕ) (r : Option ℕ)
+pub first_found : (now terms : List (List ℕ)) (blocks seen again : List (List ℕ)) (key : List ℕ) (behind : Bool) (b offset : ℕ) (r : Option ℕ)
     → terms ≡ now → seen ≡ blocks → again ≡ blocks → IsOrder terms (concat blocks)
-    → IsSplit (passes terms key behind) (concat seen) (front_of seen b slot) (rest_from seen b slot) → r ≡ slice_get (rest_from again b slot) 0
+    → IsSplit (passes terms key behind) (concat seen) (front_of seen b offset) (rest_from seen b offset) → r ≡ slice_get (rest_from again b offset) 0
     → MatchOption r (AllPassed now key behind) (λ n. IsFirst now key behind n)
-first_found now terms blocks seen again key behind b slot r is same_seen same_again o s e =
+first_found now terms blocks seen again key behind b offset r is same_seen same_again o s e =
     let whole : IsOrder now (concat seen) = subst (λ w. IsOrder now (concat w)) (sym same_seen) (subst (λ w. IsOrder w (concat blocks)) is o) in
-    let split : IsSplit (passes now key behind) (concat seen) (front_of seen b slot) (rest_from seen b slot) =
-    subst (λ w. IsSplit (passes w key behind) (concat seen) (front_of seen b slot) (rest_from seen b slot)) is s in
-    let found : r ≡ slice_get (rest_from seen b slot) 0 = e ∙ ap (λ w. slice_get (rest_from w b slot) 0) (same_again ∙ sym same_seen) in
+    let split : IsSplit (passes now key behind) (concat seen) (front_of seen b offset) (rest_from seen b offset) =
+    subst (λ w. IsSplit (passes w key behind) (concat seen) (front_of seen b offset) (rest_from seen b offset)) is s in
+    let found : r ≡ slice_get (rest_from seen b offset) 0 = e ∙ ap (λ w. slice_get (rest_from w b offset) 0) (same_again ∙ sym same_seen) in
     subst (λ w. MatchOption w (AllPassed now key behind) (λ n. IsFirst now key behind n)) (sym found)
-    (first_left now (concat seen) (front_of seen b slot) key behind whole (rest_from seen b slot) split)
+    (first_left now (concat seen) (front_of seen b offset) key behind whole (rest_from seen b offset) split)
 
 -- there are no blocks
 pub none_found : (now terms : List (List ℕ)) (blocks : List (List ℕ)) (key : List ℕ) (behind : Bool) → terms ≡ now → length blocks ≡ 0 → IsOrder terms (concat blocks)

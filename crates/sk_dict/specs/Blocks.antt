@@ -2,24 +2,24 @@
 use Rattle.std.specs.Prelude.{◌≡◌, ◌<◌, ◌≤◌, ◌+◌, ℕ, List, [], ◌++◌, length, take, drop, slice_index_or}
 use Rattle.std.specs.List.{concat}
 
--- a block has at least one number, and at most 512
+-- A block has at least one number, and at most 512.
 pub record IsBlock (numbers : List ℕ) : Type 0 where
   pub some : 0 < length numbers
   pub bounded : length numbers ≤ 512
 
--- the numbers of a block
+-- The numbers of a block.
 abbrev pub in_block : List (List ℕ) → ℕ → List ℕ
 in_block blocks b = slice_index_or blocks b []
 
--- what stands before a slot of a block
+-- What stands before a offset of a block.
 abbrev pub front_of : List (List ℕ) → ℕ → ℕ → List ℕ
-front_of blocks b slot = concat (take b blocks) ++ take slot (in_block blocks b)
+front_of blocks b offset = concat (take b blocks) ++ take offset (in_block blocks b)
 
--- what stands from there on
+-- What stands from there on.
 abbrev pub rest_from : List (List ℕ) → ℕ → ℕ → List ℕ
-rest_from blocks b slot = drop slot (in_block blocks b) ++ concat (drop (b + 1) blocks)
+rest_from blocks b offset = drop offset (in_block blocks b) ++ concat (drop (b + 1) blocks)
 
--- the block became two, and the others stayed
+-- The block became two, and the others stayed.
 pub record IsCut (old new : List (List ℕ)) (b half : ℕ) : Type 0 where
   pub longer : length new ≡ length old + 1
   pub before : take b new ≡ take b old
@@ -27,10 +27,10 @@ pub record IsCut (old new : List (List ℕ)) (b half : ℕ) : Type 0 where
   pub upper : in_block new (b + 1) ≡ drop half (in_block old b)
   pub after : drop (b + 1 + 1) new ≡ drop (b + 1) old
 
--- the slot c of the block a stands where the slot `slot` of the block b stood, and the block has room
-pub record HasRoom (old new : List (List ℕ)) (b slot a c : ℕ) : Type 0 where
+-- The offset c of the block a stands where the offset `offset` of the block b stood, and the block has room.
+pub record HasRoom (old new : List (List ℕ)) (b offset a c : ℕ) : Type 0 where
   pub there : a < length new
   pub within : c ≤ length (in_block new a)
   pub room : length (in_block new a) < 512
-  pub front : front_of new a c ≡ front_of old b slot
-  pub rest : rest_from new a c ≡ rest_from old b slot
+  pub front : front_of new a c ≡ front_of old b offset
+  pub rest : rest_from new a c ≡ rest_from old b offset

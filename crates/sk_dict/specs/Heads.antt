@@ -2,20 +2,20 @@
 use Rattle.std.specs.Prelude.{◌≡◌, ◌<◌, ◌+◌, ◌*◌, ℕ, zero, suc, List, length, drop, map, slice_index}
 use Rattle.sk_dict.specs.Terms.{term_at}
 
--- each is a byte
+-- Each is a byte.
 abbrev pub AreBytes : List ℕ → Type 0
 AreBytes bs = (i : ℕ) → slice_index bs i < 256
 
--- a number with the first n bytes written behind it; a byte past the end counts as 0
+-- A number with the first n bytes written behind it; a byte past the end counts as 0.
 abbrev pub followed_by : ℕ → ℕ → List ℕ → ℕ
 followed_by high zero bs = high
 followed_by high (suc n) bs = followed_by (high * 256 + slice_index bs 0) n (drop 1 bs)
 
--- the first eight bytes, the first the highest
+-- The first eight bytes, the first the highest.
 unfoldable pub head_of : List ℕ → ℕ
 head_of bs = followed_by 0 8 bs
 
--- the heads of all terms, which are bytes
+-- The heads of all terms, which are bytes.
 pub record AreHeads (terms : List (List ℕ)) (heads : List ℕ) : Type 0 where
   pub heads_are : heads ≡ map head_of terms
   pub bytes : (n : ℕ) → n < length terms → AreBytes (term_at terms n)

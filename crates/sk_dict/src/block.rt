@@ -10,7 +10,7 @@ use std::marker::Model;
 pub(crate) const FULL: usize = 512;
 
 /// Numbers of terms, at least one. Contracts see it as the list of these.
-#[derive(Debug, Drop)]
+#[derive(Drop)]
 pub(crate) struct Block {
     numbers: Vec<usize>,
 }
@@ -43,23 +43,23 @@ impl Block {
         self.numbers.as_slice()
     }
 
-    /// Puts the number at the slot, and moves those from there on by one.
-    pub fn insert(&mut self, slot: usize, number: usize) -> Result<(), AllocError>
-        requires within { slot ≤ length self.old }
+    /// Puts the number at the offset, and moves those from there on by one.
+    pub fn insert(&mut self, offset: usize, number: usize) -> Result<(), AllocError>
+        requires within { offset ≤ length self.old }
         requires room { length self.old < FULL }
-        ensures ok { OnOk result (self.new ≡ insert self.old slot number) }
+        ensures ok { OnOk result (self.new ≡ insert self.old offset number) }
         ensures err { OnErr result (self.new ≡ self.old) }
     {
-        self.numbers.insert(slot, number)?;
+        self.numbers.insert(offset, number)?;
         Ok(())
     }
 
-    /// A copy of the numbers from the slot on.
-    pub fn upper(&self, slot: usize) -> Result<Block, AllocError>
-        requires { slot < length self.now }
-        ensures { IfOk result (λ b. b ≡ drop slot self.now) }
+    /// A copy of the numbers from the offset on.
+    pub fn upper(&self, offset: usize) -> Result<Block, AllocError>
+        requires { offset < length self.now }
+        ensures { IfOk result (λ b. b ≡ drop offset self.now) }
     {
-        let numbers = Vec::from_slice(*self.numbers.allocator(), &self.numbers[slot..])?;
+        let numbers = Vec::from_slice(*self.numbers.allocator(), &self.numbers[offset..])?;
         Ok(Block { numbers })
     }
 

@@ -9,10 +9,12 @@ use crate::order::{find_place, number_at, put};
 use crate::terms::Terms;
 use sk_base::Term;
 use std::alloc::{AllocError, Global};
+use std::fmt::{Debug, Error, Formatter, Write};
 use std::marker::Model;
 
-/// Terms, each with a number from 0 in the order in which they came. Contracts see it as the list of the terms by number.
-#[derive(Debug, Drop)]
+/// Terms, each with a number from 0 in the order in which they came. Contracts see it as the list of the terms by number;
+/// `Debug` tells how many there are, and shows none.
+#[derive(Drop)]
 pub struct Dict {
     terms: Terms,
     blocks: Vec<Block>,
@@ -146,5 +148,11 @@ impl Dict {
                 Err(fault)
             }
         }
+    }
+}
+
+impl Debug for Dict {
+    fn fmt<W: Write>(&self, f: &mut Formatter<W>) -> Result<(), Error> {
+        write!(f, "Dict of {}", self.len())
     }
 }

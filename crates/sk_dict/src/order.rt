@@ -13,11 +13,11 @@ use std::alloc::{AllocError, Global};
 // Where a full block is cut.
 const HALF: usize = 256;
 
-/// A place in the order: before the number in this slot of this block.
+/// A place in the order: before the number in this offset of this block.
 #[derive(Clone, Copy, Debug)]
 pub(crate) struct Place {
     pub block: usize,
-    pub slot: usize,
+    pub offset: usize,
 }
 
 // The last block whose first term is passed, or the first block.
@@ -74,24 +74,24 @@ pub(crate) fn find_place(terms: &Terms, blocks: &[Block], key: &[u8], behind: bo
     requires known { Each (IsKnown terms.now) (concat blocks.now) }
     requires some { 0 < length blocks.now }
     ensures there { result.block < length blocks.now }
-    ensures within { result.slot ≤ length (in_block blocks.now result.block) }
+    ensures within { result.offset ≤ length (in_block blocks.now result.block) }
     ensures split { IsSplit (passes terms.now key.now behind) (concat blocks.now)
-        (front_of blocks.now result.block result.slot) (rest_from blocks.now result.block result.slot) }
+        (front_of blocks.now result.block result.offset) (rest_from blocks.now result.block result.offset) }
 {
     let head = head_of(key);
     let block = find_block(terms, blocks, key, head, behind);
-    let slot = find_slot(terms, blocks[block].numbers(), key, head, behind);
-    Place { block, slot }
+    let offset = find_slot(terms, blocks[block].numbers(), key, head, behind);
+    Place { block, offset }
 }
 
 /// The number at the place, or none at the end.
 pub(crate) fn number_at(blocks: &[Block], place: Place) -> Option<usize>
     requires { place.block < length blocks.now }
-    ensures { result ≡ slice_get (rest_from blocks.now place.block place.slot) 0 }
+    ensures { result ≡ slice_get (rest_from blocks.now place.block place.offset) 0 }
 {
     let numbers = blocks[place.block].numbers();
-    if place.slot < numbers.len() {
-        return Some(numbers[place.slot]);
+    if place.offset < numbers.len() {
+        return Some(numbers[place.offset]);
     }
     let next = place.block + 1;
     if next < blocks.len() {
@@ -117,32 +117,32 @@ fn cut(blocks: &mut Vec<Block>, block: usize, half: usize) -> Result<(), AllocEr
 // The place again, in a block that has room: a full one is cut.
 fn make_room(blocks: &mut Vec<Block>, place: Place) -> Result<Place, AllocError>
     requires there { place.block < length blocks.old.items }
-    requires within { place.slot ≤ length (in_block blocks.old.items place.block) }
-    ensures ok { IfOk result (λ p. HasRoom blocks.old.items blocks.new.items place.block place.slot p.block p.slot) }
+    requires within { place.offset ≤ length (in_block blocks.old.items place.block) }
+    ensures ok { IfOk result (λ p. HasRoom blocks.old.items blocks.new.items place.block place.offset p.block p.offset) }
     ensures same { concat blocks.new.items ≡ concat blocks.old.items }
 {
     if blocks[place.block].numbers().len() < FULL {
         return Ok(place);
     }
     cut(blocks, place.block, HALF)?;
-    if place.slot <= HALF {
+    if place.offset <= HALF {
         return Ok(place);
     }
     Ok(Place {
         block: place.block + 1,
-        slot: place.slot - HALF,
+        offset: place.offset - HALF,
     })
 }
 
 // Puts the number into the block.
 fn put_at(blocks: &mut Vec<Block>, place: Place, number: usize) -> Result<(), AllocError>
     requires there { place.block < length blocks.old.items }
-    requires within { place.slot ≤ length (in_block blocks.old.items place.block) }
+    requires within { place.offset ≤ length (in_block blocks.old.items place.block) }
     requires room { length (in_block blocks.old.items place.block) < FULL }
-    ensures ok { OnOk result (concat blocks.new.items ≡ front_of blocks.old.items place.block place.slot ++ number ∷ rest_from blocks.old.items place.block place.slot) }
+    ensures ok { OnOk result (concat blocks.new.items ≡ front_of blocks.old.items place.block place.offset ++ number ∷ rest_from blocks.old.items place.block place.offset) }
     ensures err { OnErr result (concat blocks.new.items ≡ concat blocks.old.items) }
 {
-    blocks[place.block].insert(place.slot, number)?;
+    blocks[place.block].insert(place.offset, number)?;
     Ok(())
 }
 

@@ -10,7 +10,7 @@ use std::cmp::Ordering;
 use std::marker::Model;
 
 /// Terms, each with its first eight bytes as a number, which most comparisons need alone. Contracts see the list of the terms.
-#[derive(Debug, Drop)]
+#[derive(Drop)]
 pub(crate) struct Terms {
     terms: Vec<Term>,
     heads: Vec<u64>,

@@ -3,7 +3,7 @@ use Rattle.std.proofs.Common.{◌≡◌, ◌<◌, ◌≤◌, ◌+◌, ◌*◌, �
 use Rattle.std.specs.List.{list_all}
 use Rattle.std.proofs.lemmas.Bool.Decides.{nat_tests}
 use Rattle.std.proofs.lemmas.List.Elements.{All-head, All-tail, All-cons, All-append, All-weaker}
-use Rattle.std.proofs.lemmas.List.Sums.{sum_by-cons, fold-append, AllPass-from_list_all}
+use Rattle.std.proofs.lemmas.List.Sums.{fold-append, AllPass-from_list_all}
 use Rattle.std.specs.Prelude.{Option, Some}
 use Rattle.std.specs.Ordering.{match_ordering, nat_cmp}
 use Rattle.std.specs.Cmp.Lexicographic.{slice_cmp}
@@ -20,20 +20,21 @@ use Rattle.sk_base.specs.Fields.{is_kind, is_field}
 use Rattle.sk_base.specs.Names.{is_prefix, is_name}
 use Rattle.sk_base.specs.Records.{bytes_of_value, bytes_of_values, most_bytes}
 use Rattle.sk_model.specs.Documents.{Occurrence, occurrence, is_indexed, placed_at, placed_from, joined, noted, value_at, occurrences_of, occurrences_from, text_fields, filter_term, is_given, filter_terms_of, filter_terms_from}
-use Rattle.sk_docs.specs.Gathered.{Gathered, after, weight_of, LieBelow, HasRoom, occurrences_among, bytes_of_given, bytes_from}
+use Rattle.sk_docs.specs.Gathered.{Gathered, after, LieBelow, CanGather, occurrences_among, bytes_of_given, bytes_from}
+use Rattle.sk_base.specs.Loads.{load_of}
 
 -- ---- one mention more
 
-weight_step : (one m : DocTerm) (more put : List DocTerm) (r : Ordering) → weight_of put ≡ weight_of more + m.wdf
-    → weight_of (match_ordering r (m ∷ one ∷ more) (joined one m ∷ more) (one ∷ put)) ≡ weight_of (one ∷ more) + m.wdf
-weight_step one m more put Less h = omega (arith, sum_by-cons (λ (t : DocTerm). t.wdf) m (one ∷ more))
-weight_step one m more put Equal h = omega (arith, sum_by-cons (λ (t : DocTerm). t.wdf) (joined one m) more, sum_by-cons (λ (t : DocTerm). t.wdf) one more)
-weight_step one m more put Greater h = omega (arith, h, sum_by-cons (λ (t : DocTerm). t.wdf) one put, sum_by-cons (λ (t : DocTerm). t.wdf) one more)
+load_step : (one m : DocTerm) (more put : List DocTerm) (r : Ordering) → load_of put ≡ load_of more + m.wdf
+    → load_of (match_ordering r (m ∷ one ∷ more) (joined one m ∷ more) (one ∷ put)) ≡ load_of (one ∷ more) + m.wdf
+load_step one m more put Less h = omega (arith)
+load_step one m more put Equal h = omega (arith)
+load_step one m more put Greater h = omega (arith, h)
 
 -- its wdf is added to the sum
-pub weight-noted : (terms : List DocTerm) (m : DocTerm) → weight_of (noted terms m) ≡ weight_of terms + m.wdf
-weight-noted [] m = omega (arith, sum_by-cons (λ (t : DocTerm). t.wdf) m [])
-weight-noted (one ∷ more) m = weight_step one m more (noted more m) (slice_cmp nat_cmp m.term one.term) (weight-noted more m)
+pub load-noted : (terms : List DocTerm) (m : DocTerm) → load_of (noted terms m) ≡ load_of terms + m.wdf
+load-noted [] m = omega arith
+load-noted (one ∷ more) m = load_step one m more (noted more m) (slice_cmp nat_cmp m.term one.term) (load-noted more m)
 
 -- the places of one term lie below
 abbrev Below : ℕ → DocTerm → Type 0
@@ -77,10 +78,10 @@ abbrev pub OfField : ℕ → List Occurrence → Type 0
 OfField before [] = Unit {0}
 OfField before (o ∷ os) = ((o.step ≤ 256) × (o.before ≡ before)) × OfField before os
 
-room_one : (g : Gathered) (before more rest : ℕ) (o : Occurrence) → HasRoom g before more → o.step ≤ 256 → o.before ≡ before → g.next + 1 + rest ≤ most_bytes + 1
-    → HasRoom (after g (o ∷ [])) before rest
+room_one : (g : Gathered) (before more rest : ℕ) (o : Occurrence) → CanGather g before more → o.step ≤ 256 → o.before ≡ before → g.next + 1 + rest ≤ most_bytes + 1
+    → CanGather (after g (o ∷ [])) before rest
 room_one g before more rest o room step same few = record {
-  weights = omega (arith, weight-noted g.terms (placed_at g.next o), room.weights);
+  loads = omega (arith, load-noted g.terms (placed_at g.next o), room.loads);
   places = below-noted (g.next + 1 + 100 * before) g.terms (placed_at g.next o)
       (All-cons (λ p. p < g.next + 1 + 100 * before) (g.next + 100 * o.before) [] (omega (arith, same)) (λ k d lt. absurd (omega arith)))
       (below_weaker (g.next + 100 * before) (g.next + 1 + 100 * before) g.terms (omega arith) room.places);
@@ -88,15 +89,15 @@ room_one g before more rest o room step same few = record {
   fields = room.fields;
 }
 
-room_less : (g : Gathered) (before more rest : ℕ) → HasRoom g before more → g.next + rest ≤ most_bytes + 1 → HasRoom g before rest
-room_less g before more rest room few = record { weights = room.weights; places = room.places; few = few; fields = room.fields }
+room_less : (g : Gathered) (before more rest : ℕ) → CanGather g before more → g.next + rest ≤ most_bytes + 1 → CanGather g before rest
+room_less g before more rest room few = record { loads = room.loads; places = room.places; few = few; fields = room.fields }
 
 -- so many words later there is room for the rest
-pub room_after : (g : Gathered) (before more rest : ℕ) (os : List Occurrence) → HasRoom g before more → OfField before os → g.next + length os + rest ≤ most_bytes + 1
-    → HasRoom (after g os) before rest
-room_after g before more rest [] room own few = room_less (after g []) before more rest (subst (λ h. HasRoom h before more) (sym (after_none g)) room) few
+pub room_after : (g : Gathered) (before more rest : ℕ) (os : List Occurrence) → CanGather g before more → OfField before os → g.next + length os + rest ≤ most_bytes + 1
+    → CanGather (after g os) before rest
+room_after g before more rest [] room own few = room_less (after g []) before more rest (subst (λ h. CanGather h before more) (sym (after_none g)) room) few
 room_after g before more rest (o ∷ os) room own few =
-    subst (λ h. HasRoom h before rest) (sym (after_one g o os))
+    subst (λ h. CanGather h before rest) (sym (after_one g o os))
     (room_after (after g (o ∷ [])) before (length os + rest) rest os (room_one g before more (length os + rest) o room own.0.0 own.0.1 (omega arith)) own.1 (omega arith))
 
 -- ---- the words of a text
@@ -132,9 +133,9 @@ among_length prefix step before (w ∷ ws) = among_length_step prefix step befor
 -- what is gathered of the words of a text, the rest of which is still to come
 pub record InText (prefix : List ℕ) (step before : ℕ) (start now : Gathered) (rest all : List Word) : Type 0 where
   pub left : after now (occurrences_among prefix step before rest) ≡ after start (occurrences_among prefix step before all)
-  pub room : HasRoom now before (length rest)
+  pub room : CanGather now before (length rest)
 
-pub text_starts : (prefix : List ℕ) (step before more : ℕ) (start : Gathered) (all : List Word) → HasRoom start before more → length all ≤ more
+pub text_starts : (prefix : List ℕ) (step before more : ℕ) (start : Gathered) (all : List Word) → CanGather start before more → length all ≤ more
     → InText prefix step before start start all all
 text_starts prefix step before more start all room few = record { left = refl; room = room_less start before more (length all) room (omega (arith, room.few, few)) }
 
@@ -146,7 +147,7 @@ text_goes_on prefix step before start now new w rest all small far put =
     record {
       left = ap (λ g. after g (occurrences_among prefix step before rest)) put ∙ sym (after-append now one (occurrences_among prefix step before rest))
           ∙ ap (after now) (sym (among_more prefix step before w rest)) ∙ far.left;
-      room = subst (λ g. HasRoom g before (length rest)) (sym put)
+      room = subst (λ g. CanGather g before (length rest)) (sym put)
           (room_after now before (length (w ∷ rest)) (length rest) one far.room (among_of_field prefix step before (w ∷ []) small)
           (omega (arith, far.room.few, among_length prefix step before (w ∷ []))));
     }
@@ -222,20 +223,20 @@ bytes_all (entry ∷ entries) =
 -- what is gathered of the fields, the rest of which is still to come
 pub record InFields (values : List Entry) (start now : Gathered) (place before : ℕ) (rest all : List Field) : Type 0 where
   pub left : after now (occurrences_from place before rest values) ≡ after start (occurrences_from 0 0 all values)
-  pub room : HasRoom now before (bytes_from place values)
+  pub room : CanGather now before (bytes_from place values)
   pub few : before ≤ place
 
-pub fields_start : (values : List Entry) (start : Gathered) (all : List Field) → HasRoom start 0 (bytes_of_values values) → InFields values start start 0 0 all all
-fields_start values start all room = record { left = refl; room = subst (HasRoom start 0) (sym (bytes_all values)) room; few = omega arith }
+pub fields_start : (values : List Entry) (start : Gathered) (all : List Field) → CanGather start 0 (bytes_of_values values) → InFields values start start 0 0 all all
+fields_start values start all room = record { left = refl; room = subst (CanGather start 0) (sym (bytes_all values)) room; few = omega arith }
 
 pub room_here : (values : List Entry) (start now : Gathered) (place before : ℕ) (rest all : List Field) → InFields values start now place before rest all
-    → HasRoom now before (bytes_of_given (value_at place values))
+    → CanGather now before (bytes_of_given (value_at place values))
 room_here values start now place before rest all far =
     room_less now before (bytes_from place values) (bytes_of_given (value_at place values)) far.room (omega (arith, far.room.few, bytes_here place values))
 
-room_next : (g : Gathered) (before more fields : ℕ) → HasRoom g before more → before + fields ≤ 64 → HasRoom g (before + fields) more
+room_next : (g : Gathered) (before more fields : ℕ) → CanGather g before more → before + fields ≤ 64 → CanGather g (before + fields) more
 room_next g before more fields room few = record {
-  weights = room.weights;
+  loads = room.loads;
   places = below_weaker (g.next + 100 * before) (g.next + 100 * (before + fields)) g.terms (omega arith) room.places;
   few = room.few;
   fields = few;
@@ -253,7 +254,7 @@ fields_go_on values start now new place before field rest all sound here far put
     record {
       left = ap (λ g. after g more) put ∙ sym (after-append now own more) ∙ far.left;
       room = room_next new before (bytes_from (place + 1) values) (text_fields field.kind)
-          (subst (λ g. HasRoom g before (bytes_from (place + 1) values)) (sym put)
+          (subst (λ g. CanGather g before (bytes_from (place + 1) values)) (sym put)
           (room_after now before (bytes_from place values) (bytes_from (place + 1) values) own far.room (of_field field.kind before (value_at place values) sound)
           (omega (arith, next, count, far.room.few, bytes_here place values))))
           (omega (arith, far.few, one_text_field field.kind));
@@ -283,20 +284,20 @@ filters_go_on prefix terms new text texts put =
     ∙ sym (fold-append noted terms (map (filter_term prefix) (filter is_given (text ∷ []))) (map (filter_term prefix) (filter is_given texts)))
     ∙ ap (fold noted terms) (sym (filters_step prefix text texts (is_given text)))
 
-filter_weight_step : (prefix : List ℕ) (terms : List DocTerm) (texts : List (List ℕ)) → weight_of (fold noted terms (map (filter_term prefix) texts)) ≡ weight_of terms
-filter_weight_step prefix terms [] = refl
-filter_weight_step prefix terms (text ∷ texts) =
-    let one : weight_of (noted terms (filter_term prefix text)) ≡ weight_of terms = omega (arith, weight-noted terms (filter_term prefix text)) in
-    filter_weight_step prefix (noted terms (filter_term prefix text)) texts ∙ one
+filter_load_step : (prefix : List ℕ) (terms : List DocTerm) (texts : List (List ℕ)) → load_of (fold noted terms (map (filter_term prefix) texts)) ≡ load_of terms
+filter_load_step prefix terms [] = refl
+filter_load_step prefix terms (text ∷ texts) =
+    let one : load_of (noted terms (filter_term prefix text)) ≡ load_of terms = omega (arith, load-noted terms (filter_term prefix text)) in
+    filter_load_step prefix (noted terms (filter_term prefix text)) texts ∙ one
 
-filter_weight_of : (kind : FieldKind) (value : Option FieldValue) (terms : List DocTerm) → weight_of (fold noted terms (filter_terms_of kind value)) ≡ weight_of terms
-filter_weight_of (FieldKind.Filter prefix) (Some (FieldValue.Filter texts)) terms = filter_weight_step prefix terms (filter is_given texts)
-filter_weight_of _ _ terms = refl
+filter_load_of : (kind : FieldKind) (value : Option FieldValue) (terms : List DocTerm) → load_of (fold noted terms (filter_terms_of kind value)) ≡ load_of terms
+filter_load_of (FieldKind.Filter prefix) (Some (FieldValue.Filter texts)) terms = filter_load_step prefix terms (filter is_given texts)
+filter_load_of _ _ terms = refl
 
 -- what filters give adds nothing to the wdfs
-pub filter_weight : (place : ℕ) (fields : List Field) (values : List Entry) (terms : List DocTerm) → weight_of (fold noted terms (filter_terms_from place fields values)) ≡ weight_of terms
-filter_weight place [] values terms = refl
-filter_weight place (field ∷ fields) values terms =
+pub filter_load : (place : ℕ) (fields : List Field) (values : List Entry) (terms : List DocTerm) → load_of (fold noted terms (filter_terms_from place fields values)) ≡ load_of terms
+filter_load place [] values terms = refl
+filter_load place (field ∷ fields) values terms =
     let own = filter_terms_of field.kind (value_at place values) in
     let more = filter_terms_from (place + 1) fields values in
-    ap weight_of (fold-append noted terms own more) ∙ filter_weight (place + 1) fields values (fold noted terms own) ∙ filter_weight_of field.kind (value_at place values) terms
+    ap load_of (fold-append noted terms own more) ∙ filter_load (place + 1) fields values (fold noted terms own) ∙ filter_load_of field.kind (value_at place values) terms

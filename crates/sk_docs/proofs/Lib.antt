@@ -1,3 +1,4 @@
 mod EntryLemmas
 mod GatherLemmas
 mod SlotLemmas
+mod Examples

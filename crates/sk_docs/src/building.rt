@@ -1,5 +1,6 @@
 //! Builds the document of a record.
-ghost use Rattle.std.specs.Prelude.{◌≡◌, ◌<◌, ◌^◌, sum_by, IfOk};
+ghost use Rattle.std.specs.Prelude.{◌≡◌, ℕ, IfOk};
+ghost use Rattle.sk_base.specs.Loads.{IsLight};
 ghost use Rattle.sk_base.specs.Records.{FitsValues};
 ghost use Rattle.sk_model.specs.Documents.{document_of};
 
@@ -11,7 +12,7 @@ use std::alloc::{AllocError, Global};
 pub fn build(alloc: Global, schema: &Schema, given: &Record) -> Result<Doc, AllocError>
     requires fits { FitsValues schema.now given.now.values }
     ensures value { IfOk result (λ doc. doc ≡ document_of schema.now given.now) }
-    ensures small { IfOk result (λ doc. sum_by (λ t. t.wdf) doc.terms < 2 ^ 29) }
+    ensures light { IfOk result (λ doc. (id : ℕ) → IsLight (id, doc)) }
 {
     let fields = schema.fields();
     let values = given.values.as_slice();

@@ -18,9 +18,10 @@ ghost use Rattle.sk_model.specs.Documents.{
   noted,
   terms_of,
 };
-ghost use Rattle.sk_docs.specs.Gathered.{HasRoom, after, weight_of, occurrences_among, bytes_of_given};
+ghost use Rattle.sk_docs.specs.Gathered.{CanGather, after, occurrences_among, bytes_of_given};
+ghost use Rattle.sk_base.specs.Loads.{load_of};
 
-use crate::tally::Tally;
+use crate::term_map::TermMap;
 use sk_base::{DocTerms, Entry, Field, FieldKind, FieldValue, Text, prefixed};
 use sk_text::{Word, words};
 use std::alloc::{AllocError, Global};
@@ -31,12 +32,12 @@ pub fn terms(alloc: Global, fields: &[Field], values: &[Entry]) -> Result<DocTer
     requires few { length fields.now ≤ 64 }
     requires small { bytes_of_values values.now ≤ most_bytes }
     ensures value { IfOk result (λ terms. terms ≡ terms_of (mentions fields.now values.now)) }
-    ensures small { IfOk result (λ terms. weight_of terms < 2 ^ 29) }
+    ensures light { IfOk result (λ terms. load_of terms < 2 ^ 29) }
 {
-    let mut tally = Tally::new(alloc);
-    note_texts(alloc, &mut tally, fields, values)?;
-    note_filters(alloc, &mut tally, fields, values)?;
-    tally.into_terms(alloc)
+    let mut gathered = TermMap::new(alloc);
+    note_texts(alloc, &mut gathered, fields, values)?;
+    note_filters(alloc, &mut gathered, fields, values)?;
+    gathered.into_terms(alloc)
 }
 
 /// The value that is given for the field at this place.
@@ -54,20 +55,20 @@ pub fn value_at(place: usize, values: &[Entry]) -> Option<&FieldValue>
 /// Notes the words of all texts, in the order of the schema.
 fn note_texts(
     alloc: Global,
-    tally: &mut Tally,
+    gathered: &mut TermMap,
     fields: &[Field],
     values: &[Entry],
 ) -> Result<(), AllocError>
     requires sound { list_all is_field fields.now ≡ true }
     requires few { length fields.now ≤ 64 }
-    requires room { HasRoom tally.old 0 (bytes_of_values values.now) }
-    ensures value { OnOk result (tally.new ≡ after tally.old (occurrences_from 0 0 fields.now values.now)) }
-    ensures small { OnOk result (weight_of tally.new.terms < 2 ^ 29) }
+    requires room { CanGather gathered.old 0 (bytes_of_values values.now) }
+    ensures value { OnOk result (gathered.new ≡ after gathered.old (occurrences_from 0 0 fields.now values.now)) }
+    ensures light { OnOk result (load_of gathered.new.terms < 2 ^ 29) }
 {
     let mut before = 0;
     'fields: for place in 0..fields.len() {
         let kind = &fields[place].kind;
-        note_value(alloc, tally, kind, before, value_at(place, values))?;
+        note_value(alloc, gathered, kind, before, value_at(place, values))?;
         let own = text_fields(kind);
         before += own;
     }
@@ -87,19 +88,19 @@ fn text_fields(kind: &FieldKind) -> u32
 /// Notes the words of a value, where it is a text.
 fn note_value(
     alloc: Global,
-    tally: &mut Tally,
+    gathered: &mut TermMap,
     kind: &FieldKind,
     before: u32,
     value: Option<&FieldValue>,
 ) -> Result<(), AllocError>
     requires sound { is_kind kind.now ≡ true }
-    requires room { HasRoom tally.old before (bytes_of_given (option_copied value)) }
-    ensures value { OnOk result (tally.new ≡ after tally.old (occurrences_of kind.now before (option_copied value.entry))) }
-    ensures count { OnOk result (tally.new.next ≤ tally.old.next + bytes_of_given (option_copied value.entry)) }
+    requires room { CanGather gathered.old before (bytes_of_given (option_copied value)) }
+    ensures value { OnOk result (gathered.new ≡ after gathered.old (occurrences_of kind.now before (option_copied value.entry))) }
+    ensures count { OnOk result (gathered.new.next ≤ gathered.old.next + bytes_of_given (option_copied value.entry)) }
 {
     match (kind, value) {
         (FieldKind::Text(prefix, step), Some(FieldValue::Text(text))) => {
-            note_text(alloc, tally, prefix.as_str(), *step, before, text.as_str())
+            note_text(alloc, gathered, prefix.as_str(), *step, before, text.as_str())
         }
         _ => Ok(()),
     }
@@ -108,20 +109,20 @@ fn note_value(
 /// Notes the words of a text.
 fn note_text(
     alloc: Global,
-    tally: &mut Tally,
+    gathered: &mut TermMap,
     prefix: &str,
     step: u32,
     before: u32,
     text: &str,
 ) -> Result<(), AllocError>
     requires step { step ≤ 256 }
-    requires room { HasRoom tally.old before (length text.now) }
-    ensures value { OnOk result (tally.new ≡ after tally.old (occurrences_in prefix.now step before text.now)) }
-    ensures count { OnOk result (tally.new.next ≤ tally.old.next + length text.now) }
+    requires room { CanGather gathered.old before (length text.now) }
+    ensures value { OnOk result (gathered.new ≡ after gathered.old (occurrences_in prefix.now step before text.now)) }
+    ensures count { OnOk result (gathered.new.next ≤ gathered.old.next + length text.now) }
 {
     let found = words(alloc, text)?;
     'words: for word in found.as_slice() {
-        note_word(alloc, tally, prefix, step, before, word)?;
+        note_word(alloc, gathered, prefix, step, before, word)?;
     }
     Ok(())
 }
@@ -129,36 +130,36 @@ fn note_text(
 /// Notes a word, if it is indexed.
 fn note_word(
     alloc: Global,
-    tally: &mut Tally,
+    gathered: &mut TermMap,
     prefix: &str,
     step: u32,
     before: u32,
     word: &Word,
 ) -> Result<(), AllocError>
     requires step { step ≤ 256 }
-    requires room { HasRoom tally.old before 1 }
-    ensures { OnOk result (tally.new ≡ after tally.old (occurrences_among prefix.now step before (word.now ∷ []))) }
+    requires room { CanGather gathered.old before 1 }
+    ensures { OnOk result (gathered.new ≡ after gathered.old (occurrences_among prefix.now step before (word.now ∷ []))) }
 {
     let text = word.term.as_str();
     if text.len() > 64 {
         return Ok(());
     }
     let term = prefixed(alloc, prefix, text)?;
-    tally.note_word(alloc, term.as_str(), step, before)
+    gathered.note_word(alloc, term.as_str(), step, before)
 }
 
 /// Notes the texts of all filters, in the order of the schema.
 fn note_filters(
     alloc: Global,
-    tally: &mut Tally,
+    gathered: &mut TermMap,
     fields: &[Field],
     values: &[Entry],
 ) -> Result<(), AllocError>
-    ensures value { OnOk result (tally.new.terms ≡ fold noted tally.old.terms (filter_terms_from 0 fields.now values.now)) }
-    ensures weight { OnOk result (weight_of tally.new.terms ≡ weight_of tally.old.terms) }
+    ensures value { OnOk result (gathered.new.terms ≡ fold noted gathered.old.terms (filter_terms_from 0 fields.now values.now)) }
+    ensures load { OnOk result (load_of gathered.new.terms ≡ load_of gathered.old.terms) }
 {
     'fields: for place in 0..fields.len() {
-        note_filter(alloc, tally, &fields[place].kind, value_at(place, values))?;
+        note_filter(alloc, gathered, &fields[place].kind, value_at(place, values))?;
     }
     Ok(())
 }
@@ -166,15 +167,15 @@ fn note_filters(
 /// Notes the texts of a value, where it is that of a filter.
 fn note_filter(
     alloc: Global,
-    tally: &mut Tally,
+    gathered: &mut TermMap,
     kind: &FieldKind,
     value: Option<&FieldValue>,
 ) -> Result<(), AllocError>
-    ensures { OnOk result (tally.new.terms ≡ fold noted tally.old.terms (filter_terms_of kind.now (option_copied value.entry))) }
+    ensures { OnOk result (gathered.new.terms ≡ fold noted gathered.old.terms (filter_terms_of kind.now (option_copied value.entry))) }
 {
     match (kind, value) {
         (FieldKind::Filter(prefix), Some(FieldValue::Filter(texts))) => {
-            note_filter_texts(alloc, tally, prefix.as_str(), texts.as_slice())
+            note_filter_texts(alloc, gathered, prefix.as_str(), texts.as_slice())
         }
         _ => Ok(()),
     }
@@ -183,14 +184,14 @@ fn note_filter(
 /// Notes those of the texts that are not empty.
 fn note_filter_texts(
     alloc: Global,
-    tally: &mut Tally,
+    gathered: &mut TermMap,
     prefix: &str,
     texts: &[Text],
 ) -> Result<(), AllocError>
-    ensures { OnOk result (tally.new.terms ≡ fold noted tally.old.terms (map (filter_term prefix.now) (filter is_given texts.now))) }
+    ensures { OnOk result (gathered.new.terms ≡ fold noted gathered.old.terms (map (filter_term prefix.now) (filter is_given texts.now))) }
 {
     'texts: for text in texts {
-        note_filter_text(alloc, tally, prefix, text.as_str())?;
+        note_filter_text(alloc, gathered, prefix, text.as_str())?;
     }
     Ok(())
 }
@@ -198,15 +199,15 @@ fn note_filter_texts(
 /// Notes a text of a filter, if it is not empty.
 fn note_filter_text(
     alloc: Global,
-    tally: &mut Tally,
+    gathered: &mut TermMap,
     prefix: &str,
     text: &str,
 ) -> Result<(), AllocError>
-    ensures { OnOk result (tally.new.terms ≡ fold noted tally.old.terms (map (filter_term prefix.now) (filter is_given (text.now ∷ [])))) }
+    ensures { OnOk result (gathered.new.terms ≡ fold noted gathered.old.terms (map (filter_term prefix.now) (filter is_given (text.now ∷ [])))) }
 {
     if text.is_empty() {
         return Ok(());
     }
     let term = prefixed(alloc, prefix, text)?;
-    tally.note_filter(alloc, term.as_str())
+    gathered.note_filter(alloc, term.as_str())
 }

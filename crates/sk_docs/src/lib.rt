@@ -2,13 +2,14 @@
 #![tactic(auto)]
 
 mod building;
-mod found;
 mod gathering;
+mod mentioned;
 mod slots;
-mod tally;
+mod term_map;
+
+#[cfg(test)]
+mod tests;
 
 pub use building::build;
 pub use sk_base::{Doc, DocTerm, DocTerms, Positions, SlotValue, SlotValues};
 
-#[cfg(test)]
-mod tests;

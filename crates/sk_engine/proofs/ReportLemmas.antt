@@ -7,6 +7,7 @@ use Rattle.sk_base.specs.declared.doc_entry.DocTerm.{DocTerm}
 use Rattle.sk_base.specs.declared.find.Find.{Find}
 use Rattle.sk_base.specs.declared.find.Scheme.{Scheme}
 use Rattle.sk_base.specs.declared.rank.Rank.{Rank}
+use Rattle.sk_base.specs.declared.schema.Field.{Field}
 use Rattle.sk_base.specs.declared.rank.Order.{Order}
 use Rattle.sk_base.specs.declared.report.Report.{Report}
 use Rattle.sk_base.specs.Documents.{has_term, wdf_of}
@@ -30,7 +31,7 @@ by_one : (n : ℕ) → n * 1 ≡ n
 by_one n = omega arith
 
 one_match : (b : Bool) (scheme : Scheme) (id n : ℕ) (ranks : List Rank) (ps : Postings) → ranks ≡ map (rank_in scheme) ps
-    → cons_option (option_map (λ w. record { weight = w; value = []; id = id }) (if b then Some (weigh_by 1 scheme n) else None)) ranks ≡ map (rank_in scheme) (cons_option (if b then Some (record { id = id; wdf = n }) else None) ps)
+    → cons_option (option_map (λ w. record { weight = w; value = []; id = id }) (if b then Some (weigh_by 1 scheme n) else None)) ranks ≡ map (rank_in scheme) (cons_option (if b then Some (id, n) else None) ps)
 one_match true scheme id n ranks ps e = λ i. record { weight = by_one (weigh scheme n) i; value = []; id = id } ∷ e i
 one_match false scheme id n ranks ps e = e
 
@@ -39,7 +40,7 @@ matches_of : (t : List ℕ) (scheme : Scheme) (docs : Docs) → filter_map (rank
 matches_of t scheme [] = refl
 matches_of t scheme (one ∷ docs) = one_match (has_term t one.1.terms) scheme one.0 (wdf_of t one.1.terms) _ _ (matches_of t scheme docs)
 
-one_counted : (b : Bool) (id n m : ℕ) (ps : Postings) → m ≡ length ps → cond b 1 0 + m ≡ length (cons_option (if b then Some (record { id = id; wdf = n }) else None) ps)
+one_counted : (b : Bool) (id n m : ℕ) (ps : Postings) → m ≡ length ps → cond b 1 0 + m ≡ length (cons_option (if b then Some (id, n) else None) ps)
 one_counted true id n m ps e = omega (arith, e)
 one_counted false id n m ps e = omega (arith, e)
 
@@ -58,7 +59,7 @@ no_wdf t (one ∷ more) e =
       | false ↦ λ h. no_wdf t more h
     ] e
 
-none_greater : (b : Bool) (id n m : ℕ) (ps : Postings) → (b ≡ false → n ≡ 0) → m ≡ greatest_wdf ps → max n m ≡ greatest_wdf (cons_option (if b then Some (record { id = id; wdf = n }) else None) ps)
+none_greater : (b : Bool) (id n m : ℕ) (ps : Postings) → (b ≡ false → n ≡ 0) → m ≡ greatest_wdf ps → max n m ≡ greatest_wdf (cons_option (if b then Some (id, n) else None) ps)
 none_greater true id n m ps none e = ap (max n) e
 none_greater false id n m ps none e = let zero : n ≡ 0 = none refl in omega (arith, e)
 
@@ -67,7 +68,7 @@ greatest_wdf_in : (t : List ℕ) (docs : Docs) → greatest_of t docs ≡ greate
 greatest_wdf_in t [] = refl
 greatest_wdf_in t (one ∷ docs) = none_greater (has_term t one.1.terms) one.0 (wdf_of t one.1.terms) _ _ (no_wdf t one.1.terms) (greatest_wdf_in t docs)
 
-none_behind : (b : Bool) (id n : ℕ) (more : Bool) (ps : Postings) → (b || more) ≡ false → (more ≡ false → ps ≡ []) → cons_option (if b then Some (record { id = id; wdf = n }) else None) ps ≡ []
+none_behind : (b : Bool) (id n : ℕ) (more : Bool) (ps : Postings) → (b || more) ≡ false → (more ≡ false → ps ≡ []) → cons_option (if b then Some (id, n) else None) ps ≡ []
 none_behind true id n more ps e h = absurd (true≢false e)
 none_behind false id n more ps e h = h e
 
@@ -155,6 +156,6 @@ reported_for find docs list report t order alone is so =
     }
 
 -- the report of a term's postings is one that the find may have
-pub reported : (find : Find) (docs : Docs) (list : Postings) (report : Report) (t : List ℕ) → query_of find.ask ≡ Some (term t) → find.order ≡ Order.Relevance → find.collapse ≡ None → list ≡ postings t docs
-    → IsReportOf find docs list report → ReportsOn (query_of find.ask) find docs report
-reported find docs list report t asked order alone is so = subst (λ (q : Option Tree). ReportsOn q find docs report) (sym asked) (reported_for find docs list report t order alone is so)
+pub reported : (fields : List Field) (find : Find) (docs : Docs) (list : Postings) (report : Report) (t : List ℕ) → query_of fields find.ask ≡ Some (term t) → find.order ≡ Order.Relevance → find.collapse ≡ None → list ≡ postings t docs
+    → IsReportOf find docs list report → ReportsOn (query_of fields find.ask) find docs report
+reported fields find docs list report t asked order alone is so = subst (λ (q : Option Tree). ReportsOn q find docs report) (sym asked) (reported_for find docs list report t order alone is so)

@@ -4,8 +4,9 @@ use Rattle.std.proofs.lemmas.List.{map-append, length-map}
 use Rattle.sk_base.specs.declared.rank.Rank.{Rank}
 use Rattle.sk_base.specs.declared.find.Scheme.{Scheme}
 use Rattle.sk_lists.specs.declared.cursor.Cursor.{Cursor}
-use Rattle.sk_lists.specs.declared.posting.Posting.{Posting}
-use Rattle.sk_lists.specs.Postings.{Postings, ArePostings, RiseAbove, from, first_id, first_wdf}
+use Rattle.sk_sorted.specs.Entries.{AreSorted, from, first_id}
+use Rattle.sk_sorted.proofs.PlaceLaws.{ids_rise, id_at-get_or}
+use Rattle.sk_lists.specs.Postings.{Postings, first_wdf}
 use Rattle.sk_lists.specs.Cursor.{unread, left, IsOn}
 use Rattle.sk_lists.proofs.WalkLaws.{WalkedSoFar, walk_more, walk_stops}
 use Rattle.sk_engine.specs.Found.{rank_in}
@@ -22,7 +23,7 @@ pub matched_more : (scheme : Scheme) (list : Postings) (ranks more : List Rank) 
     → MatchedSoFar scheme list ranks c begun now spent
     → Some id ≡ first_id (left c list)
     → wdf ≡ first_wdf (left c list)
-    → rank ≡ rank_in scheme (record { id = id; wdf = wdf })
+    → rank ≡ rank_in scheme (id, wdf)
     → more ≡ ranks ++ rank ∷ []
     → IsOn next list
     → left next list ≡ from (id + 1) (left c list)
@@ -31,11 +32,11 @@ pub matched_more : (scheme : Scheme) (list : Postings) (ranks more : List Rank) 
     → later ≡ now + count
     → MatchedSoFar scheme list more next begun later (spent + count)
 matched_more scheme list ranks more c next begun now later spent id wdf count rank so head is weighs pushed on behind rest within paid = record {
-  found = so.found ++ record { id = id; wdf = first_wdf (left c list) } ∷ [];
+  found = so.found ++ (id, first_wdf (left c list)) ∷ [];
   are =
       pushed ∙ (λ i. so.are i ++ weighs i ∷ [])
-      ∙ ap (λ (w : ℕ). map (rank_in scheme) so.found ++ rank_in scheme (record { id = id; wdf = w }) ∷ []) is
-      ∙ sym (map-append (rank_in scheme) so.found (record { id = id; wdf = first_wdf (left c list) } ∷ []));
+      ∙ ap (λ (w : ℕ). map (rank_in scheme) so.found ++ rank_in scheme (id, w) ∷ []) is
+      ∙ sym (map-append (rank_in scheme) so.found ((id, first_wdf (left c list)) ∷ []));
   far = rw paid (walk_more list so.found c next begun now id count so.far head on behind rest within);
   spent_is = omega (arith, so.spent_is, paid);
 }
@@ -45,45 +46,34 @@ pub matched_last : (scheme : Scheme) (list : Postings) (ranks more : List Rank) 
     → MatchedSoFar scheme list ranks c begun now spent
     → Some id ≡ first_id (left c list)
     → wdf ≡ first_wdf (left c list)
-    → rank ≡ rank_in scheme (record { id = id; wdf = wdf })
+    → rank ≡ rank_in scheme (id, wdf)
     → more ≡ ranks ++ rank ∷ []
     → id ≡ 2 ^ 32 - 1
     → (more ≡ map (rank_in scheme) list) × (spent ≡ length list)
 matched_last scheme list ranks more c begun now spent id wdf rank so head is weighs pushed last =
     let ends = walk_stops list so.found c begun now id so.far head last in (
       pushed ∙ (λ i. so.are i ++ weighs i ∷ [])
-          ∙ ap (λ (w : ℕ). map (rank_in scheme) so.found ++ rank_in scheme (record { id = id; wdf = w }) ∷ []) is
-          ∙ sym (map-append (rank_in scheme) so.found (record { id = id; wdf = first_wdf (left c list) } ∷ []))
+          ∙ ap (λ (w : ℕ). map (rank_in scheme) so.found ++ rank_in scheme (id, w) ∷ []) is
+          ∙ sym (map-append (rank_in scheme) so.found ((id, first_wdf (left c list)) ∷ []))
           ∙ ap (map (rank_in scheme)) ends.0,
       omega (arith, ends.1, so.spent_is),
     )
 
-above : (low : ℕ) (ps : Postings) (j : ℕ) (d : Posting) → RiseAbove low ps → j < length ps → let p : Posting = get_or ps j d in low < p.id
-above low [] j d h l = absurd (omega arith)
-above low (p ∷ ps) zero d h l = h.0
-above low (p ∷ ps) (suc j) d h l = let later = above p.id ps j d h.1 (omega arith) in omega (arith, h.0, later)
-
-apart_from : (low : ℕ) (ps : Postings) → RiseAbove low ps → (i j : ℕ) (d : Posting) → i < j → j < length ps → let p : Posting = get_or ps i d in let q : Posting = get_or ps j d in p.id < q.id
-apart_from low [] h i j d l m = absurd (omega arith)
-apart_from low (p ∷ ps) h zero zero d l m = absurd (omega arith)
-apart_from low (p ∷ ps) h zero (suc j) d l m = above p.id ps j d h.1 (omega arith)
-apart_from low (p ∷ ps) h (suc i) zero d l m = absurd (omega arith)
-apart_from low (p ∷ ps) h (suc i) (suc j) d l m = apart_from p.id ps h.1 i j d (omega arith) (omega arith)
-
 unequal : (a b : ℕ) → a < b → a ≢ b
 unequal a b l e = absurd (omega (arith, l, e))
 
-rank_at : (scheme : Scheme) (ps : Postings) (i : ℕ) (d : Rank) (p : Posting) → i < length ps → let r : Rank = get_or (map (rank_in scheme) ps) i d in let q : Posting = get_or ps i p in r.id ≡ q.id
+rank_at : (scheme : Scheme) (ps : Postings) (i : ℕ) (d : Rank) (p : ℕ × ℕ) → i < length ps → let r : Rank = get_or (map (rank_in scheme) ps) i d in let q : ℕ × ℕ = get_or ps i p in r.id ≡ q.0
 rank_at scheme [] i d p l = absurd (omega arith)
 rank_at scheme (q ∷ ps) zero d p l = refl
 rank_at scheme (q ∷ ps) (suc i) d p l = rank_at scheme ps i d p (omega arith)
 
 -- the matches of a list have different ids
-pub ids_apart : (scheme : Scheme) (ps : Postings) → ArePostings ps → AllPairs (λ (x y : Rank). x.id ≢ y.id) (map (rank_in scheme) ps)
+pub ids_apart : (scheme : Scheme) (ps : Postings) → AreSorted ps → AllPairs (λ (x y : Rank). x.id ≢ y.id) (map (rank_in scheme) ps)
 ids_apart scheme ps sound i j d l m =
     let long : length (map (rank_in scheme) ps) ≡ length ps = length-map ps (rank_in scheme) in
-    let none : Posting = record { id = 0; wdf = 0 } in
-    let rises = apart_from 0 ps sound.rise i j none l (omega (arith, long, m)) in
-    let first = rank_at scheme ps i d none (omega (arith, long, l, m)) in
-    let second = rank_at scheme ps j d none (omega (arith, long, m)) in
+    let none : ℕ × ℕ = (0, 0) in
+    let within : j < length ps = omega (arith, long, m) in
+    let rises = ids_rise 0 ps sound.rise i j l within in
+    let first = rank_at scheme ps i d none (omega (arith, l, within)) ∙ id_at-get_or ps i none (omega (arith, l, within)) in
+    let second = rank_at scheme ps j d none within ∙ id_at-get_or ps j none within in
     λ e. unequal _ _ rises (sym first ∙ e ∙ second)

@@ -1,15 +1,28 @@
 -- Which finds are answered so far.
-use Rattle.std.specs.Prelude.{◌≡◌, ◌≤◌, ◌+◌, ◌&&◌, ◌==◌, Bool, true, false, is_none, None}
+use Rattle.std.specs.Prelude.{◌≡◌, ◌≤◌, ◌+◌, ◌&&◌, ◌==◌, ℕ, Bool, true, false, is_none, List, Some, None}
 use Rattle.sk_base.specs.declared.find.Ask.{Ask}
 use Rattle.sk_base.specs.declared.find.Find.{Find}
 use Rattle.sk_base.specs.declared.find.Scheme.{Scheme}
 use Rattle.sk_base.specs.declared.rank.Order.{Order}
-use Rattle.sk_run.specs.Asked.{is_one_word, is_word_ask}
+use Rattle.sk_base.specs.declared.find.Join.TheVariants as Join
+use Rattle.sk_base.specs.declared.schema.Field.{Field}
+use Rattle.sk_text.specs.Terms.{term_of}
+use Rattle.sk_query.specs.Trees.{term}
+use Rattle.sk_model.specs.Queries.{is_one_word, query_of}
+
+-- One word, with nothing said on how words are joined.
+abbrev pub is_word_ask : Ask → Bool
+is_word_ask (Ask.Text text Join.Or) = is_one_word text
+is_word_ask (Ask.Text text Join.And) = false
+is_word_ask (Ask.Tree value) = false
 
 -- The query is a text of one word. (Other texts, and trees, are not answered as yet.)
 abbrev pub IsOneWord : Ask → Type 0
-IsOneWord (Ask.Text text join) = is_one_word text ≡ true
-IsOneWord (Ask.Tree value) = ⊥
+IsOneWord ask = is_word_ask ask ≡ true
+
+-- Under any fields the query is the term of the word.
+abbrev pub AsksFor : Ask → List ℕ → Type 0
+AsksFor ask word = (fields : List Field) → query_of fields ask ≡ Some (term (term_of word))
 
 -- A word is asked for, the page ends within the first 100,000 hits, the best by weight come first, and nothing is collapsed.
 pub record IsAsked (find : Find) : Type 0 where

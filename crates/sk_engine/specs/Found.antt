@@ -7,7 +7,6 @@ use Rattle.sk_base.specs.declared.rank.Order.TheVariants as Order
 use Rattle.sk_base.specs.declared.report.Ranked.{Ranked}
 use Rattle.sk_base.specs.declared.report.Report.{Report}
 use Rattle.sk_base.specs.Numbers.{Docs}
-use Rattle.sk_lists.specs.declared.posting.Posting.{Posting}
 use Rattle.sk_lists.specs.Postings.{Postings, greatest_wdf}
 use Rattle.sk_model.specs.Weights.{weigh}
 use Rattle.sk_model.specs.Edits.{document_at}
@@ -15,8 +14,8 @@ use Rattle.sk_model.specs.Page.{best_first, slice}
 use Rattle.sk_model.specs.Reports.{payload_of}
 
 -- the rank of a document by its posting
-abbrev pub rank_in : Scheme → Posting → Rank
-rank_in scheme posting = record { weight = weigh scheme posting.wdf; value = []; id = posting.id }
+abbrev pub rank_in : Scheme → ℕ × ℕ → Rank
+rank_in scheme posting = record { weight = weigh scheme posting.1; value = []; id = posting.0 }
 
 -- the weight of the greatest wdf, 0 where there is none
 abbrev pub greatest_weight : Scheme → Postings → ℕ

@@ -2,11 +2,13 @@
 #![tactic(auto)]
 
 mod asked;
+mod program;
 mod runs;
 mod search;
 mod session;
 mod store;
 
+pub use program::start;
 pub use runs::run;
 pub use session::{Answer, Session};
 pub use sk_run::Status;

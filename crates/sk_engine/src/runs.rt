@@ -1,9 +1,12 @@
 //! The run over the lines of a source.
-ghost use Rattle.std.specs.Prelude.{◌≡◌, ◌^◌, ◌↔◌, ℕ, List, Some, false, map, string_bytes, true};
-ghost use Rattle.sk_io.specs.Causes.{Rose};
-ghost use Rattle.sk_run.specs.Statuses.{IsFinished, IsCutShort, IsBrokenOff};
-ghost use Rattle.sk_run.specs.Ends.{Finishes, CutsShort, BreaksOff, TakesAll};
-ghost use Rattle.sk_run.specs.Forms.{is_form};
+ghost use Rattle.std.specs.Prelude.{◌≡◌, map, string_bytes};
+ghost use Rattle.sk_model.specs.Edits.{nothing_live};
+ghost use Rattle.sk_run.specs.declared.status.Status.TheVariants as Status;
+ghost use Rattle.sk_run.specs.Responses.{text_of, is_refusal, steps_of};
+ghost use Rattle.sk_run.specs.FindAnswers.{answer_text, is_refused, steps_in};
+ghost use Rattle.sk_run.specs.Output.{Answers, Closes, Begins, DoesOnLive, ClosesSilently};
+ghost use Rattle.sk_run.specs.Ended.{Outside};
+ghost use Rattle.sk_run.specs.Ran.{Ran};
 ghost use Rattle.sk_engine.specs.Finds.{Shows};
 
 use crate::{Session, Status};
@@ -22,29 +25,13 @@ pub fn run<S: Source, R: Source, K: Sink, L: Ledger>(
     output: &mut K,
     steps: &mut Steps<L>,
 ) -> Status
-    // The input was read to its end: the output is one that the definitions allow, and the counter rose by the steps printed.
-    ensures whole { IsFinished result → (bytes : List ℕ) → S.left input.old ≡ Some bytes
-        → Finishes Shows bytes result (S.left input.new) (K.held output.old) (K.held output.new) steps.old steps.new }
-    ensures settled { IsFinished result → K.settled output.new ≡ true }
+    // The main theorem: `Ran` says what each status means, and what was read, put, settled and counted by then.
+    ensures ran { Ran (text_of answer_text) (is_refusal is_refused) (steps_of steps_in) (Answers nothing_live (DoesOnLive Shows)) (Closes ClosesSilently) Begins (map string_bytes words.now) result
+        (record { left = S.left input.old; read_faults = S.faults input.old; held = K.held output.old; write_faults = K.faults output.old; settled = K.settled output.old; finishes = K.finishes output.old; steps = steps.old })
+        (record { left = S.left input.new; read_faults = S.faults input.new; held = K.held output.new; write_faults = K.faults output.new; settled = K.settled output.new; finishes = K.finishes output.new; steps = steps.new }) }
 
-    // The words are no form, and nothing was read or written.
-    ensures usage { (result ≡ Status.Usage) ↔ (is_form (map string_bytes words.now) ≡ false) }
-    ensures untouched { result ≡ Status.Usage → (input.new ≡ input.old) × (output.new ≡ output.old) × (steps.new ≡ steps.old) }
-
-    // Why the run stopped before the end.
-    ensures read_fault { result ≡ Status.ReadFault → Rose (S.faults input.old) (S.faults input.new) }
-    ensures write_fault { result ≡ Status.WriteFault → Rose (K.faults output.old) (K.faults output.new) }
-    ensures too_much { result ≡ Status.TooMuch → (bytes : List ℕ) → S.left input.old ≡ Some bytes
-        → TakesAll (2 ^ 40) bytes (S.left input.new) }
-
-    // What was put then: after a read fault or too much, the answers to all lines whose end was taken; after a write fault or
-    // want of memory, a front of the answers.
-    ensures cut_short { IsCutShort result → (bytes : List ℕ) → S.left input.old ≡ Some bytes
-        → CutsShort Shows bytes (S.left input.new) (K.held output.old) (K.held output.new) }
-    ensures broken_off { IsBrokenOff result → (bytes : List ℕ) → S.left input.old ≡ Some bytes
-        → BreaksOff Shows bytes (S.left input.new) (K.held output.old) (K.held output.new) }
-
-    // The words do not touch the records.
+    // Words that are no form touch nothing, and no words touch the records.
+    ensures untouched { result ≡ Status.Usage → (input.new ≡ input.old) × (output.new ≡ output.old) }
     ensures records { records.new ≡ records.old }
 {
     sk_run::run::<Session, _, _, _>(alloc, words, input, output, steps)

@@ -1,11 +1,8 @@
 //! One search: the matches of a query, the asked page of them, and their bounds.
-ghost use Rattle.std.specs.Prelude.{◌≡◌, ◌+◌, length, map, Some, IfOk};
-ghost use Rattle.sk_text.specs.Terms.{term_of};
-ghost use Rattle.sk_query.specs.Trees.{term};
-ghost use Rattle.sk_model.specs.Queries.{query_of};
+ghost use Rattle.std.specs.Prelude.{◌≡◌, ◌≤◌, ◌+◌, length, map, IfOk};
 ghost use Rattle.sk_model.specs.Page.{slice};
 ghost use Rattle.sk_model.specs.Reports.{Reports};
-ghost use Rattle.sk_engine.specs.Asked.{IsOneWord, IsAsked};
+ghost use Rattle.sk_engine.specs.Asked.{IsOneWord, AsksFor, IsAsked};
 ghost use Rattle.sk_engine.specs.Found.{rank_in, greatest_weight, hit_of, IsReportOf};
 
 use sk_base::{
@@ -28,8 +25,9 @@ pub fn search<L: Ledger>(
     steps: &mut Steps<L>,
 ) -> Result<Report, AllocError>
     requires { IsAsked find.now }
-    ensures report { IfOk result (λ report. Reports find.now index.now.live report) }
+    ensures report { IfOk result (λ report. Reports index.now.fields find.now index.now.live report) }
     ensures cost { IfOk result (λ report. steps.new ≡ steps.old + report.steps) }
+    ensures later { steps.old ≤ steps.new }
 {
     let term = fold(alloc, word_of(&find.ask))?;
     match index.number_of(term.as_str().as_bytes()) {
@@ -48,7 +46,7 @@ pub fn search<L: Ledger>(
 /// The word that is asked for.
 fn word_of(ask: &Ask) -> &str
     requires { IsOneWord ask.now }
-    ensures { query_of ask.entry.now ≡ Some (term (term_of result.now)) }
+    ensures { AsksFor ask.entry.now result.now }
 {
     match ask {
         Ask::Text(word, _) => word.as_str(),
@@ -65,6 +63,7 @@ fn report_of<L: Ledger>(
 ) -> Result<Report, AllocError>
     ensures report { IfOk result (IsReportOf find.now index.now.live.documents list.now) }
     ensures cost { IfOk result (λ report. steps.new ≡ steps.old + report.steps) }
+    ensures later { steps.old ≤ steps.new }
 {
     let greatest = greatest_weight(list, find.options.scheme);
     let count = list.length();
@@ -95,7 +94,7 @@ fn greatest_weight(list: &List, scheme: Scheme) -> Weight
 
 /// The rank of a document by its posting.
 fn rank_in(alloc: Global, scheme: Scheme, id: DocId, wdf: u32) -> Rank
-    ensures { result ≡ rank_in scheme (record { id = id; wdf = wdf }) }
+    ensures { result ≡ rank_in scheme (id, wdf) }
 {
     Rank {
         weight: weigh(scheme, wdf),
@@ -120,6 +119,7 @@ fn all_matches<L: Ledger>(
     ensures ranks { IfOk result (λ matches. matches.ranks.items ≡ map (rank_in scheme) list.now) }
     ensures steps { IfOk result (λ matches. matches.steps ≡ length list.now) }
     ensures cost { IfOk result (λ matches. steps.new ≡ steps.old + matches.steps) }
+    ensures later { steps.old ≤ steps.new }
 {
     let mut ranks = Vec::new(alloc);
     let mut cursor = Cursor::open(list, steps);
@@ -173,6 +173,7 @@ fn page<L: Ledger>(
 ) -> Result<Hits, AllocError>
     ensures hits { IfOk result (λ hits. hits ≡ map (hit_of index.now.live.documents) (slice first size ranks.now)) }
     ensures cost { IfOk result (λ hits. steps.new ≡ steps.old + length hits) }
+    ensures later { steps.old ≤ steps.new }
 {
     let hits = hits_of(alloc, index, slice(ranks, first, size), steps)?;
     Ok(Items::from_vec(hits))
@@ -186,6 +187,7 @@ fn hits_of<L: Ledger>(
 ) -> Result<Vec<Ranked>, AllocError>
     ensures hits { IfOk result (λ hits. hits.items ≡ map (hit_of index.now.live.documents) ranks.now) }
     ensures cost { IfOk result (λ hits. steps.new ≡ steps.old + length hits.items) }
+    ensures later { steps.old ≤ steps.new }
 {
     let mut hits = Vec::new(alloc);
     'ranks: for rank in ranks {

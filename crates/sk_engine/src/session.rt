@@ -1,5 +1,5 @@
 //! A session: the documents under one schema.
-ghost use Rattle.std.specs.Prelude.{◌≡◌, ◌+◌, IfOk};
+ghost use Rattle.std.specs.Prelude.{◌≡◌, ◌≤◌, ◌+◌, IfOk};
 ghost use Rattle.sk_base.specs.Records.{FitsEdit};
 ghost use Rattle.sk_model.specs.Edits.{Live, nothing_live, edited, reply_to};
 ghost use Rattle.sk_engine.specs.Asked.{IsAsked};
@@ -54,8 +54,9 @@ impl Session {
     /// The asked page of the documents that the query matches.
     pub fn find<L: Ledger>(&self, find: &Find, steps: &mut Steps<L>) -> Result<Answer, AllocError>
         requires { IsAsked find.now }
-        ensures answer { IfOk result (λ answer. (live : Live) → SessionHolds self.now live → IsAnswer find.now live answer) }
+        ensures answer { IfOk result (λ answer. (live : Live) → SessionHolds self.now live → IsAnswer (fields_of self.now) find.now live answer) }
         ensures cost { IfOk result (λ answer. steps.new ≡ steps.old + steps_in answer) }
+        ensures later { steps.old ≤ steps.new }
     {
         let report = search(self.index.allocator(), &self.index, find, steps)?;
         Ok(Answer::Found(report))

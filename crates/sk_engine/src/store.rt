@@ -1,25 +1,43 @@
 //! A session as the store of a run.
-ghost use Rattle.std.specs.Prelude.{◌≡◌, ◌+◌, IfOk, true};
+ghost use Rattle.std.specs.Prelude.{◌≡◌, ◌≤◌, ◌+◌, IfOk, true};
+ghost use Rattle.sk_base.specs.Records.{FitsEdit, FitsFind};
+ghost use Rattle.sk_base.specs.declared.command.Command.TheVariants as Command;
 ghost use Rattle.sk_model.specs.Edits.{Live};
 ghost use Rattle.sk_run.specs.Responses.{steps_of};
+ghost use Rattle.sk_run.specs.FindAnswers.{steps_in as steps_told};
+ghost use Rattle.sk_run.specs.Machines.{Did};
+ghost use Rattle.sk_run.specs.Output.{DoesOnLive};
 ghost use Rattle.sk_engine.specs.Asked.{is_built};
 ghost use Rattle.sk_engine.specs.Sessions.{SessionHolds, fields_of, steps_in, response_of};
 ghost use Rattle.sk_engine.specs.Finds.{Shows};
 
 use crate::asked::is_built;
 use crate::{Answer, Session};
-use sk_base::{Edit, Find, Reply, Schema};
-use sk_run::{Refusal, Response, Store};
+use sk_base::{Command, Edit, Find, Schema};
+use sk_run::{FindAnswer, Refusal, Response, Store, response_to};
 use sk_steps::Steps;
 use std::alloc::{AllocError, Global};
 use std::sync::ledger::Ledger;
 
 impl Store for Session {
+    type Answer = FindAnswer;
+
+    ghost use Rattle.sk_model.specs.Edits.{Live, nothing_live};
+    ghost use Rattle.sk_run.specs.Output.{DoesOnLive, ClosesSilently};
+    ghost use Rattle.sk_engine.specs.Sessions.{SessionHolds, fields_of};
+    ghost use Rattle.sk_engine.specs.Finds.{Shows};
+
     ghost fields = { fields_of };
+
+    ghost State = { Live };
 
     ghost holds = { SessionHolds };
 
-    ghost finds = { Shows };
+    ghost begun = { nothing_live };
+
+    ghost does = { DoesOnLive Shows };
+
+    ghost closes = { ClosesSilently };
 
     fn new(alloc: Global, schema: Schema) -> Result<Session, AllocError> {
         Session::new(alloc, schema)
@@ -29,16 +47,52 @@ impl Store for Session {
         Session::schema(self)
     }
 
-    fn apply(self, edit: Edit) -> Result<(Session, Reply), AllocError> {
-        Session::apply(self, edit)
+    fn obey<L: Ledger>(
+        self,
+        command: Command,
+        steps: &mut Steps<L>,
+    ) -> Result<(Session, Response<FindAnswer>), AllocError> {
+        match command {
+            Command::Schema(_) => unreachable!(),
+            Command::Edit(edit) => apply(self, edit),
+            Command::Find(find) => {
+                let response = answer(&self, &find, steps)?;
+                Ok((self, response))
+            }
+            Command::Show(_, _) => Ok((self, Response::Refused(Refusal::BadShape))),
+        }
     }
 
-    fn answer<L: Ledger>(&self, find: &Find, steps: &mut Steps<L>) -> Result<Response, AllocError> {
-        if is_built(find) {
-            show(self, find, steps)
-        } else {
-            Ok(Response::Refused(Refusal::BadShape))
-        }
+    fn close(self, _alloc: Global) -> Result<Response<FindAnswer>, AllocError> {
+        Ok(Response::Skipped)
+    }
+}
+
+fn apply(session: Session, edit: Edit) -> Result<(Session, Response<FindAnswer>), AllocError>
+    requires { FitsEdit (fields_of session) edit }
+    ensures did { IfOk result (λ p. Did fields_of SessionHolds (DoesOnLive Shows) session (Command.Edit edit) p.1 p.0) }
+    ensures schema { IfOk result (λ p. fields_of p.0 ≡ fields_of session) }
+    ensures cost { IfOk result (λ p. steps_of steps_told p.1 ≡ 0) }
+{
+    let (session, reply) = session.apply(edit)?;
+    Ok((session, response_to(reply)))
+}
+
+/// What a find is answered. A form that is not built yet is refused as a line of a bad shape.
+fn answer<L: Ledger>(
+    session: &Session,
+    find: &Find,
+    steps: &mut Steps<L>,
+) -> Result<Response<FindAnswer>, AllocError>
+    requires { FitsFind find.now }
+    ensures answer { IfOk result (λ answer. (live : Live) → SessionHolds session.now live → Shows (fields_of session.now) find.now live answer) }
+    ensures cost { IfOk result (λ answer. steps.new ≡ steps.old + steps_of steps_told answer) }
+    ensures later { steps.old ≤ steps.new }
+{
+    if is_built(find) {
+        show(session, find, steps)
+    } else {
+        Ok(Response::Refused(Refusal::BadShape))
     }
 }
 
@@ -46,20 +100,21 @@ fn show<L: Ledger>(
     session: &Session,
     find: &Find,
     steps: &mut Steps<L>,
-) -> Result<Response, AllocError>
+) -> Result<Response<FindAnswer>, AllocError>
     requires { is_built find.now ≡ true }
-    ensures answer { IfOk result (λ answer. (live : Live) → SessionHolds session.now live → Shows find.now live answer) }
-    ensures cost { IfOk result (λ answer. steps.new ≡ steps.old + steps_of answer) }
+    ensures answer { IfOk result (λ answer. (live : Live) → SessionHolds session.now live → Shows (fields_of session.now) find.now live answer) }
+    ensures cost { IfOk result (λ answer. steps.new ≡ steps.old + steps_of steps_told answer) }
+    ensures later { steps.old ≤ steps.new }
 {
     let answer = session.find(find, steps)?;
     Ok(found_response(find.options.first, answer))
 }
 
-fn found_response(first: u32, answer: Answer) -> Response
+fn found_response(first: u32, answer: Answer) -> Response<FindAnswer>
     ensures response { result ≡ response_of first answer }
-    ensures cost { steps_of result ≡ steps_in answer }
+    ensures cost { steps_of steps_told result ≡ steps_in answer }
 {
     match answer {
-        Answer::Found(report) => Response::Found(first, report),
+        Answer::Found(report) => Response::Own(FindAnswer::Found(first, report)),
     }
 }

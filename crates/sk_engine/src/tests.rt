@@ -1,7 +1,7 @@
 ghost use Rattle.std.specs.Prelude.{◌≡◌, ◌≤◌, ◌+◌, [], ◌∷◌, true, length, codes, IfOk, IfSome};
 ghost use Rattle.sk_base.specs.declared.schema.FieldKind.TheVariants as FieldKind;
 ghost use Rattle.sk_base.specs.Records.{FitsEdit};
-ghost use Rattle.sk_run.specs.Asked.{is_one_word};
+ghost use Rattle.sk_model.specs.Queries.{is_one_word};
 
 use super::*;
 use sk_base::{
@@ -9,7 +9,7 @@ use sk_base::{
     Schema, Scheme, Text,
 };
 use sk_io::{MemorySink, MemorySource, Sink, Source};
-use sk_run::is_one_word;
+use sk_model::is_one_word;
 use sk_steps::Steps;
 use std::alloc::{AllocError, Global};
 use std::marker::Brand;

@@ -1,8 +1,5 @@
--- Lemmas.
 mod ListedLemmas
 mod SlottedLemmas
-mod DocsLemmas
-mod KeptLemmas
+mod StandsLemmas
 mod NumberLemmas
 mod WildLemmas
-mod EditLemmas

@@ -12,7 +12,8 @@ use Rattle.sk_base.specs.Order.{Precedes}
 use Rattle.sk_base.specs.Documents.{AreTerms, has_term, wdf_of}
 use Rattle.sk_dict.specs.Terms.{term_at, number_of, with_term}
 use Rattle.sk_dict.proofs.NumberLaws.{number_of-Some, number_of-term_at, number_of-kept, number_of-added, absent_from-number_of}
-use Rattle.sk_lists.specs.Postings.{Postings, put, without}
+use Rattle.sk_sorted.specs.Entries.{put, without}
+use Rattle.sk_lists.specs.Postings.{Postings}
 use Rattle.sk_index.specs.Listed.{Listed, list_under, list_of, IsListed, Puts, TakesOut, PutsAll, TakesOutAll}
 
 -- no term stands before itself

@@ -8,48 +8,49 @@ use Rattle.std.specs.List.{position_or_len}
 use Rattle.std.proofs.lemmas.List.Sums.{fails_before_first}
 use Rattle.sk_base.specs.declared.doc_entry.SlotValue.{SlotValue}
 use Rattle.sk_base.specs.Documents.{AreValues, has_value, value_in}
-use Rattle.sk_values.specs.SlotValues.{SlotValues, put, without}
-use Rattle.sk_index.specs.declared.slot_lists.Slot.{Slot}
+use Rattle.sk_sorted.specs.Entries.{put, without}
+use Rattle.sk_values.specs.SlotValues.{SlotValues}
+use Rattle.sk_index.specs.declared.slot_lists.SlotEntry.{SlotEntry}
 use Rattle.sk_index.specs.Slotted.{slot_list, Sets, Clears, SetsAll, ClearsAll}
 use Rattle.sk_index.proofs.ListedLemmas.{by_test}
 
 -- no slot of these is this one
-abbrev pub NoSlot : ℕ → List Slot → Type 0
-NoSlot slot slots = (k : ℕ) (d : Slot) → k < length slots → ((get_or slots k d).slot == slot) ≡ false
+abbrev pub NoSlot : ℕ → List SlotEntry → Type 0
+NoSlot slot slots = (k : ℕ) (d : SlotEntry) → k < length slots → ((get_or slots k d).slot == slot) ≡ false
 
 -- the first of these that is this slot stands at the place
-pub record IsFirstAt (slot : ℕ) (slots : List Slot) (at : ℕ) : Type 0 where
+pub record IsFirstAt (slot : ℕ) (slots : List SlotEntry) (at : ℕ) : Type 0 where
   pub there : at < length slots
-  pub is : (d : Slot) → ((get_or slots at d).slot == slot) ≡ true
-  pub before : (k : ℕ) (d : Slot) → k < at → ((get_or slots k d).slot == slot) ≡ false
+  pub is : (d : SlotEntry) → ((get_or slots at d).slot == slot) ≡ true
+  pub before : (k : ℕ) (d : SlotEntry) → k < at → ((get_or slots k d).slot == slot) ≡ false
 
-first_tail : (slot : ℕ) (one : Slot) (more : List Slot) (at : ℕ) → IsFirstAt slot (one ∷ more) (suc at) → IsFirstAt slot more at
+first_tail : (slot : ℕ) (one : SlotEntry) (more : List SlotEntry) (at : ℕ) → IsFirstAt slot (one ∷ more) (suc at) → IsFirstAt slot more at
 first_tail slot one more at h = record { there = omega (arith, h.there); is = h.is; before = λ k d lt. h.before (suc k) d (omega arith) }
 
-pub slot_list-there : (slot : ℕ) (slots : List Slot) (at : ℕ) (d : Slot) → IsFirstAt slot slots at → slot_list slot slots ≡ (get_or slots at d).list
+pub slot_list-there : (slot : ℕ) (slots : List SlotEntry) (at : ℕ) (d : SlotEntry) → IsFirstAt slot slots at → slot_list slot slots ≡ (get_or slots at d).list
 slot_list-there slot [] at d h = absurd (omega (arith, h.there))
 slot_list-there slot (one ∷ more) zero d h = ap (λ b. if b then one.list else slot_list slot more) (h.is one)
 slot_list-there slot (one ∷ more) (suc at) d h = ap (λ b. if b then one.list else slot_list slot more) (h.before 0 one (omega arith)) ∙ slot_list-there slot more at d (first_tail slot one more at h)
 
-pub slot_list-none : (slot : ℕ) (slots : List Slot) → NoSlot slot slots → slot_list slot slots ≡ []
+pub slot_list-none : (slot : ℕ) (slots : List SlotEntry) → NoSlot slot slots → slot_list slot slots ≡ []
 slot_list-none slot [] h = refl
 slot_list-none slot (one ∷ more) h = ap (λ b. if b then one.list else slot_list slot more) (h 0 one (omega arith)) ∙ slot_list-none slot more (λ k d lt. h (suc k) d (omega arith))
 
 -- what a search says of the first
-pub first_from : (slot : ℕ) (slots : List Slot) (at : ℕ) → position (λ (one : Slot). one.slot == slot) slots ≡ Some at → IsFirstAt slot slots at
+pub first_from : (slot : ℕ) (slots : List SlotEntry) (at : ℕ) → position (λ (one : SlotEntry). one.slot == slot) slots ≡ Some at → IsFirstAt slot slots at
 first_from slot slots at e = record {
-  there = (position-Some (λ (one : Slot). one.slot == slot) slots at nobody e).0;
-  is = λ d. (position-Some (λ (one : Slot). one.slot == slot) slots at d e).1;
-  before = λ k d lt. (position-Some (λ (one : Slot). one.slot == slot) slots at d e).2 k lt;
+  there = (position-Some (λ (one : SlotEntry). one.slot == slot) slots at nobody e).0;
+  is = λ d. (position-Some (λ (one : SlotEntry). one.slot == slot) slots at d e).1;
+  before = λ k d lt. (position-Some (λ (one : SlotEntry). one.slot == slot) slots at d e).2 k lt;
 }
   where
-    nobody : Slot
+    nobody : SlotEntry
     nobody = record { slot = 0; list = [] }
 
-pub none_from : (slot : ℕ) (slots : List Slot) → position (λ (one : Slot). one.slot == slot) slots ≡ None → NoSlot slot slots
+pub none_from : (slot : ℕ) (slots : List SlotEntry) → position (λ (one : SlotEntry). one.slot == slot) slots ≡ None → NoSlot slot slots
 none_from slot slots e k d lt = by (nat_lt (position_or_len is_slot slots) (length slots)) refl e
   where
-    is_slot : Slot → Bool
+    is_slot : SlotEntry → Bool
     is_slot one = one.slot == slot
 
     by : (b : Bool) → nat_lt (position_or_len is_slot slots) (length slots) ≡ b → cond b (Some (position_or_len is_slot slots)) None ≡ None → (get_or slots k d).slot == slot ≡ false
@@ -65,7 +66,7 @@ other_slot : (m n s : ℕ) → (m == n) ≡ false → (m == s) ≡ true → (n =
 other_slot m n s h g = grind (arith, nat_tests)
 
 -- the list of a slot is changed
-pub slot_list-set : (g : SlotValues → SlotValues) (slot : ℕ) (slots : List Slot) (at : ℕ) (d : Slot) → IsFirstAt slot slots at → (s : ℕ)
+pub slot_list-set : (g : SlotValues → SlotValues) (slot : ℕ) (slots : List SlotEntry) (at : ℕ) (d : SlotEntry) → IsFirstAt slot slots at → (s : ℕ)
     → slot_list s (set slots at (record { slot = (get_or slots at d).slot; list = g (get_or slots at d).list })) ≡ (if slot == s then g (slot_list s slots) else slot_list s slots)
 slot_list-set g slot [] at d h s = absurd (omega (arith, h.there))
 slot_list-set g slot (one ∷ more) zero d h s =
@@ -88,19 +89,19 @@ slot_list-set g slot (one ∷ more) (suc at) d h s =
     split false false once = refl
 
 -- the same where the entry is read
-pub set_at : (g : SlotValues → SlotValues) (slot : ℕ) (slots : List Slot) (at : ℕ) (x : Slot) (list : SlotValues) → position (λ (one : Slot). one.slot == slot) slots ≡ Some at
+pub set_at : (g : SlotValues → SlotValues) (slot : ℕ) (slots : List SlotEntry) (at : ℕ) (x : SlotEntry) (list : SlotValues) → position (λ (one : SlotEntry). one.slot == slot) slots ≡ Some at
     → x ≡ get_or slots at x → list ≡ g x.list → (s : ℕ)
     → slot_list s (set slots at (record { slot = x.slot; list = list })) ≡ (if slot == s then g (slot_list s slots) else slot_list s slots)
 set_at g slot slots at x list e is new s =
     (λ i. slot_list s (set slots at (record { slot = (is i).slot; list = new i })))
-    ∙ ap (λ (y : Slot). slot_list s (set slots at (record { slot = (get_or slots at x).slot; list = g y.list }))) is
+    ∙ ap (λ (y : SlotEntry). slot_list s (set slots at (record { slot = (get_or slots at x).slot; list = g y.list }))) is
     ∙ slot_list-set g slot slots at x (first_from slot slots at e) s
 
-pub list_at : (slot : ℕ) (slots : List Slot) (at : ℕ) (x : Slot) → position (λ (one : Slot). one.slot == slot) slots ≡ Some at → x ≡ get_or slots at x → x.list ≡ slot_list slot slots
-list_at slot slots at x e is = ap (λ (y : Slot). y.list) is ∙ sym (slot_list-there slot slots at x (first_from slot slots at e))
+pub list_at : (slot : ℕ) (slots : List SlotEntry) (at : ℕ) (x : SlotEntry) → position (λ (one : SlotEntry). one.slot == slot) slots ≡ Some at → x ≡ get_or slots at x → x.list ≡ slot_list slot slots
+list_at slot slots at x e is = ap (λ (y : SlotEntry). y.list) is ∙ sym (slot_list-there slot slots at x (first_from slot slots at e))
 
 -- a slot that has no list gets one
-pub slot_list-push : (id : ℕ) (value : List ℕ) (slot : ℕ) (slots : List Slot) → NoSlot slot slots → (s : ℕ)
+pub slot_list-push : (id : ℕ) (value : List ℕ) (slot : ℕ) (slots : List SlotEntry) → NoSlot slot slots → (s : ℕ)
     → slot_list s (slots ++ record { slot = slot; list = put id value [] } ∷ []) ≡ (if slot == s then put id value (slot_list s slots) else slot_list s slots)
 slot_list-push id value slot [] h s = refl
 slot_list-push id value slot (one ∷ more) h s =
@@ -115,7 +116,7 @@ slot_list-push id value slot (one ∷ more) h s =
     split false false once = refl
 
 -- nothing is cleared where the slot has no list
-pub clears_nothing : (id slot : ℕ) (slots : List Slot) → NoSlot slot slots → (s : ℕ) → slot_list s slots ≡ (if slot == s then without id (slot_list s slots) else slot_list s slots)
+pub clears_nothing : (id slot : ℕ) (slots : List SlotEntry) → NoSlot slot slots → (s : ℕ) → slot_list s slots ≡ (if slot == s then without id (slot_list s slots) else slot_list s slots)
 clears_nothing id slot slots h s =
     by_test (slot == s) _ _ _ (λ pro.
     let same : slot ≡ s = grind (arith, nat_tests) in
@@ -158,12 +159,12 @@ choice_of : {A B : Type 0} (h : A → B) (b : Bool) (x y : A) → (if b then h x
 choice_of h true x y = refl
 choice_of h false x y = refl
 
-SetsAll-more : (id : ℕ) (x : SlotValue) (xs : List SlotValue) (old mid new : List Slot) → AreValues (x ∷ xs) → Sets id x.slot x.value old mid → SetsAll id xs mid new → SetsAll id (x ∷ xs) old new
+SetsAll-more : (id : ℕ) (x : SlotValue) (xs : List SlotValue) (old mid new : List SlotEntry) → AreValues (x ∷ xs) → Sets id x.slot x.value old mid → SetsAll id xs mid new → SetsAll id (x ∷ xs) old new
 SetsAll-more id x xs old mid new sound one all s =
     all s ∙ two_tests (put id x.value) (put id (value_in s xs)) (x.slot == s) (has_value s xs) (slot_list s old) (slot_list s mid) (once_at x xs s sound) (one s)
     ∙ ap (λ (p : SlotValues). if has_value s (x ∷ xs) then p else slot_list s old) (choice_of (λ (v : List ℕ). put id v (slot_list s old)) (x.slot == s) x.value (value_in s xs))
 
-ClearsAll-more : (id : ℕ) (x : SlotValue) (xs : List SlotValue) (old mid new : List Slot) → AreValues (x ∷ xs) → Clears id x.slot old mid → ClearsAll id xs mid new → ClearsAll id (x ∷ xs) old new
+ClearsAll-more : (id : ℕ) (x : SlotValue) (xs : List SlotValue) (old mid new : List SlotEntry) → AreValues (x ∷ xs) → Clears id x.slot old mid → ClearsAll id xs mid new → ClearsAll id (x ∷ xs) old new
 ClearsAll-more id x xs old mid new sound one all s =
     all s ∙ two_tests (without id) (without id) (x.slot == s) (has_value s xs) (slot_list s old) (slot_list s mid) (once_at x xs s sound) (one s)
     ∙ ap (λ (p : SlotValues). if has_value s (x ∷ xs) then p else slot_list s old) (same (x.slot == s) (without id (slot_list s old)))
@@ -172,18 +173,18 @@ ClearsAll-more id x xs old mid new sound one all s =
     same true p = refl
     same false p = refl
 
-pub sets_on : (id i : ℕ) (values : List SlotValue) (x : SlotValue) (start mid next : List Slot) → AreValues values → i < length values → x ≡ get_or values i x
-    → ((new : List Slot) → SetsAll id (drop i values) mid new → SetsAll id values start new)
+pub sets_on : (id i : ℕ) (values : List SlotValue) (x : SlotValue) (start mid next : List SlotEntry) → AreValues values → i < length values → x ≡ get_or values i x
+    → ((new : List SlotEntry) → SetsAll id (drop i values) mid new → SetsAll id values start new)
     → Sets id x.slot x.value mid next
-    → (new : List Slot) → SetsAll id (drop (i + 1) values) next new → SetsAll id values start new
+    → (new : List SlotEntry) → SetsAll id (drop (i + 1) values) next new → SetsAll id values start new
 sets_on id i values x start mid next sound lt is before one new all =
     let cut : drop i values ≡ x ∷ drop (i + 1) values = drop_more values i x lt ∙ ap (λ (y : SlotValue). y ∷ drop (i + 1) values) (sym is) in
     before new (subst (λ w. SetsAll id w mid new) (sym cut) (SetsAll-more id x (drop (i + 1) values) mid next new (subst AreValues cut (AreValues-drop i values sound)) one all))
 
-pub clears_on : (id i : ℕ) (values : List SlotValue) (x : SlotValue) (start mid next : List Slot) → AreValues values → i < length values → x ≡ get_or values i x
-    → ((new : List Slot) → ClearsAll id (drop i values) mid new → ClearsAll id values start new)
+pub clears_on : (id i : ℕ) (values : List SlotValue) (x : SlotValue) (start mid next : List SlotEntry) → AreValues values → i < length values → x ≡ get_or values i x
+    → ((new : List SlotEntry) → ClearsAll id (drop i values) mid new → ClearsAll id values start new)
     → Clears id x.slot mid next
-    → (new : List Slot) → ClearsAll id (drop (i + 1) values) next new → ClearsAll id values start new
+    → (new : List SlotEntry) → ClearsAll id (drop (i + 1) values) next new → ClearsAll id values start new
 clears_on id i values x start mid next sound lt is before one new all =
     let cut : drop i values ≡ x ∷ drop (i + 1) values = drop_more values i x lt ∙ ap (λ (y : SlotValue). y ∷ drop (i + 1) values) (sym is) in
     before new (subst (λ w. ClearsAll id w mid new) (sym cut) (ClearsAll-more id x (drop (i + 1) values) mid next new (subst AreValues cut (AreValues-drop i values sound)) one all))

@@ -1,7 +1,7 @@
 -- Sums over the terms that begin with a prefix, and the walk over them.
 use Rattle.std.proofs.Common.{◌≡◌, ◌≢◌, ℕ, zero, suc, ◌+◌, ◌<◌, ◌≤◌, min, max, Bool, true, false, cond, not, ◌&&◌, ◌||◌, if◌then◌else◌, List, [], ◌∷◌, length, map, filter, sum_by, bytes_eq, Option, None, Some, IfSome, refl, sym, ap, ◌∙◌, arith}
 use mathlib.Core.Bool.{true≢false}
-use Rattle.std.specs.List.{AllPairs}
+use Rattle.std.specs.List.{AllPairs, AllByRecursion}
 use Rattle.std.specs.Cmp.{tied_itself}
 use Rattle.std.specs.Cmp.Lexicographic.{nat_list_cmp_total}
 use Rattle.std.specs.declared.cmp.Ordering.{Ordering}
@@ -16,9 +16,9 @@ use Rattle.sk_dict.specs.Terms.{term_at, term_cmp, number_of, begins_with, Prece
 use Rattle.sk_dict.proofs.NumberLaws.{number_of-Some}
 use Rattle.sk_model.specs.Documents.{Document}
 use Rattle.sk_index.specs.Indexed.{postings}
-use Rattle.sk_index.specs.Kept.{AreWithin}
+use Rattle.sk_documents.specs.Documented.{HasTerms}
 use Rattle.sk_index.specs.Listed.{Listed, list_of, IsListed}
-use Rattle.sk_index.specs.Wild.{over, is_behind, counted, left}
+use Rattle.sk_index.specs.Wild.{over, is_behind, counted, sum_behind}
 use Rattle.sk_index.proofs.ListedLemmas.{list_of-none, AreTerms-tail, once_at}
 use Rattle.sk_index.proofs.NumberLemmas.{none_has, wdf_of-none}
 
@@ -116,15 +116,15 @@ counted-next f terms prefix after n next m lt = by (bytes_eq (term_at terms n) (
     by true e = here ((bytes_eq-Decides (term_at terms n) t).0 e)
     by false e = let same = there e (begins_with t prefix) refl in omega (arith, same)
 
-pub left-next : (f : List ℕ → ℕ) (terms : List (List ℕ)) (prefix : List ℕ) (after : Option ℕ) (n : ℕ) → AllPairs (λ s t. s ≢ t) terms → IsNext terms prefix after n
-    → left f terms prefix after ≡ f (term_at terms n) + left f terms prefix (Some n)
-left-next f terms prefix after n different next =
+pub sum_behind-next : (f : List ℕ → ℕ) (terms : List (List ℕ)) (prefix : List ℕ) (after : Option ℕ) (n : ℕ) → AllPairs (λ s t. s ≢ t) terms → IsNext terms prefix after n
+    → sum_behind f terms prefix after ≡ f (term_at terms n) + sum_behind f terms prefix (Some n)
+sum_behind-next f terms prefix after n different next =
     over-same (counted f terms prefix after) (λ t. only (term_at terms n) f t + counted f terms prefix (Some n) t) terms (counted-next f terms prefix after n next)
     ∙ over-sum (only (term_at terms n) f) (counted f terms prefix (Some n)) terms
-    ∙ ap (λ k. k + left f terms prefix (Some n)) (over-only (term_at terms n) f terms n different next.follows.there refl)
+    ∙ ap (λ k. k + sum_behind f terms prefix (Some n)) (over-only (term_at terms n) f terms n different next.follows.there refl)
 
-pub left-none : (f : List ℕ → ℕ) (terms : List (List ℕ)) (prefix : List ℕ) (after : Option ℕ) → HasNoNext terms prefix after → left f terms prefix after ≡ 0
-left-none f terms prefix after none = over-none (counted f terms prefix after) terms (λ m lt. by m lt (begins_with (term_at terms m) prefix) (is_behind terms after (term_at terms m)) refl refl)
+pub sum_behind-none : (f : List ℕ → ℕ) (terms : List (List ℕ)) (prefix : List ℕ) (after : Option ℕ) → HasNoNext terms prefix after → sum_behind f terms prefix after ≡ 0
+sum_behind-none f terms prefix after none = over-none (counted f terms prefix after) terms (λ m lt. by m lt (begins_with (term_at terms m) prefix) (is_behind terms after (term_at terms m)) refl refl)
   where
     by : (m : ℕ) → m < length terms → (b c : Bool) → begins_with (term_at terms m) prefix ≡ b → is_behind terms after (term_at terms m) ≡ c → (if b && c then f (term_at terms m) else 0) ≡ 0
     by m lt true true e g = absurd (none m (record { there = lt; begins = e; behind = behind_is terms after (term_at terms m) g }))
@@ -133,7 +133,7 @@ left-none f terms prefix after none = over-none (counted f terms prefix after) t
 
 -- How far a walk over the terms that begin with a prefix has come.
 pub record SumSoFar (f : List ℕ → ℕ) (terms : List (List ℕ)) (prefix : List ℕ) (most total : ℕ) (after : Option ℕ) : Type 0 where
-  pub whole : min most (total + left f terms prefix after) ≡ min most (left f terms prefix None)
+  pub whole : min most (total + sum_behind f terms prefix after) ≡ min most (sum_behind f terms prefix None)
   pub within : total ≤ most
   pub there : IfSome after (λ a. a < length terms)
   pub begins : IfSome after (λ a. begins_with (term_at terms a) prefix ≡ true)
@@ -145,19 +145,19 @@ pub sum_more : (f : List ℕ → ℕ) (terms : List (List ℕ)) (prefix : List �
     → SumSoFar f terms prefix most total after → IsNext terms prefix after n → more ≡ f (term_at terms n)
     → SumSoFar f terms prefix most (min most (total + more)) (Some n)
 sum_more f terms prefix most total more after n different far next is = record {
-  whole = omega (arith, far.whole, is, left-next f terms prefix after n different next);
+  whole = omega (arith, far.whole, is, sum_behind-next f terms prefix after n different next);
   within = omega arith;
   there = next.follows.there;
   begins = next.follows.begins;
 }
 
 pub sum_ends : (f : List ℕ → ℕ) (terms : List (List ℕ)) (prefix : List ℕ) (most total : ℕ) (after : Option ℕ) → SumSoFar f terms prefix most total after → HasNoNext terms prefix after
-    → total ≡ min most (left f terms prefix None)
-sum_ends f terms prefix most total after far none = omega (arith, far.whole, far.within, left-none f terms prefix after none)
+    → total ≡ min most (sum_behind f terms prefix None)
+sum_ends f terms prefix most total after far none = omega (arith, far.whole, far.within, sum_behind-none f terms prefix after none)
 
 pub sum_shrinks : (terms : List (List ℕ)) (prefix : List ℕ) (after : Option ℕ) (n : ℕ) → AllPairs (λ s t. s ≢ t) terms → IsNext terms prefix after n
-    → left (λ t. 1) terms prefix (Some n) < left (λ t. 1) terms prefix after
-sum_shrinks terms prefix after n different next = omega (arith, left-next (λ t. 1) terms prefix after n different next)
+    → sum_behind (λ t. 1) terms prefix (Some n) < sum_behind (λ t. 1) terms prefix after
+sum_shrinks terms prefix after n different next = omega (arith, sum_behind-next (λ t. 1) terms prefix after n different next)
 
 -- Each term of some documents is one of these.
 abbrev pub Holds : List (List ℕ) → (List ℕ → Bool) → Type 0
@@ -195,16 +195,16 @@ sum-terms f q terms (x ∷ xs) different rising holds =
     joined false false d k once = refl
 
 -- the sum over the terms of all documents that begin with a prefix, each once, is that over all terms
-pub sum-terms_with : (f : List ℕ → ℕ) (prefix : List ℕ) (terms : List (List ℕ)) (low high : ℕ) (docs : Docs) → AllPairs (λ s t. s ≢ t) terms → AreWithin low high docs → Holds terms (λ t. some_has t docs)
+pub sum-terms_with : (f : List ℕ → ℕ) (prefix : List ℕ) (terms : List (List ℕ)) (docs : Docs) → AllPairs (λ s t. s ≢ t) terms → AllByRecursion HasTerms docs → Holds terms (λ t. some_has t docs)
     → sum_by f (terms_with prefix docs) ≡ over (λ t. if begins_with t prefix && some_has t docs then f t else 0) terms
-sum-terms_with f prefix terms low high [] different up holds = sym (over-none (λ t. if begins_with t prefix && some_has t [] then f t else 0) terms (λ m lt. nothing (begins_with (term_at terms m) prefix) (f (term_at terms m))))
+sum-terms_with f prefix terms [] different up holds = sym (over-none (λ t. if begins_with t prefix && some_has t [] then f t else 0) terms (λ m lt. nothing (begins_with (term_at terms m) prefix) (f (term_at terms m))))
   where
     nothing : (b : Bool) (k : ℕ) → (if b && false then k else 0) ≡ 0
     nothing true k = refl
     nothing false k = refl
-sum-terms_with f prefix terms low high (one ∷ more) different up holds =
+sum-terms_with f prefix terms (one ∷ more) different up holds =
     sum_by-append f (filter new (map term_in one.1.terms)) (terms_with prefix more)
-    ∙ (λ i. sum-terms f new terms one.1.terms different up.2 (λ t h. holds t (ap (λ b. b || some_has t more) h)) i + sum-terms_with f prefix terms one.0 high more different up.3 (λ t h. holds t (later (has_term t one.1.terms) (some_has t more) h)) i)
+    ∙ (λ i. sum-terms f new terms one.1.terms different up.0 (λ t h. holds t (ap (λ b. b || some_has t more) h)) i + sum-terms_with f prefix terms more different up.1 (λ t h. holds t (later (has_term t one.1.terms) (some_has t more) h)) i)
     ∙ sym (over-sum (λ t. if has_term t one.1.terms && new t then f t else 0) (λ t. if begins_with t prefix && some_has t more then f t else 0) terms)
     ∙ over-same (λ t. (if has_term t one.1.terms && new t then f t else 0) + (if begins_with t prefix && some_has t more then f t else 0)) (λ t. if begins_with t prefix && some_has t (one ∷ more) then f t else 0) terms
     (λ m lt. joined (has_term (term_at terms m) one.1.terms) (begins_with (term_at terms m) prefix) (some_has (term_at terms m) more) (f (term_at terms m)))
@@ -252,13 +252,13 @@ holds_all listed docs lists t h = by (number_of t listed.terms) refl
     by (Some n) e = let at = number_of-Some listed.terms t n e in (n, at.0, at.1)
 
 -- what the walk adds up is the sum over the terms of the documents
-pub left-terms_with : (f g : List ℕ → ℕ) (prefix : List ℕ) (listed : Listed) (low high : ℕ) (docs : Docs) → IsListed listed → AreWithin low high docs
+pub sum_behind-terms_with : (f g : List ℕ → ℕ) (prefix : List ℕ) (listed : Listed) (docs : Docs) → IsListed listed → AllByRecursion HasTerms docs
     → ((t : List ℕ) → list_of t listed ≡ postings t docs) → ((t : List ℕ) → f t ≡ g t) → ((t : List ℕ) → some_has t docs ≡ false → g t ≡ 0)
-    → left f listed.terms prefix None ≡ sum_by g (terms_with prefix docs)
-left-terms_with f g prefix listed low high docs sound up lists same none =
+    → sum_behind f listed.terms prefix None ≡ sum_by g (terms_with prefix docs)
+sum_behind-terms_with f g prefix listed docs sound up lists same none =
     over-same (counted f listed.terms prefix None) (λ t. if begins_with t prefix && some_has t docs then g t else 0) listed.terms
     (λ m lt. by (begins_with (term_at listed.terms m) prefix) (term_at listed.terms m) (some_has (term_at listed.terms m) docs) refl)
-    ∙ sym (sum-terms_with g prefix listed.terms low high docs sound.different up (holds_all listed docs lists))
+    ∙ sym (sum-terms_with g prefix listed.terms docs sound.different up (holds_all listed docs lists))
   where
     by : (b : Bool) (t : List ℕ) (s : Bool) → some_has t docs ≡ s → (if b && true then f t else 0) ≡ (if b && s then g t else 0)
     by true t true e = same t

@@ -1,9 +1,7 @@
 -- What an index holds, and what its readers give.
 use Rattle.std.specs.Prelude.{◌≡◌, ℕ, List, [], map, Option, Some, None, if◌then◌else◌}
 use Rattle.std.specs.List.{filter_map}
-use Rattle.sk_lists.specs.declared.posting.Posting.{Posting}
 use Rattle.sk_lists.specs.Postings.{Postings}
-use Rattle.sk_values.specs.declared.valued.Valued.{Valued}
 use Rattle.sk_values.specs.SlotValues.{SlotValues}
 use Rattle.sk_base.specs.declared.schema.Field.{Field}
 use Rattle.sk_base.specs.Documents.{has_term, wdf_of, has_value, value_in}
@@ -18,8 +16,8 @@ pub record Indexed : Type 0 where
   pub terms : List (List ℕ)
 
 -- The posting of a document that has the term.
-abbrev pub posting_in : List ℕ → ℕ × Document → Option Posting
-posting_in t one = if has_term t one.1.terms then Some (record { id = one.0; wdf = wdf_of t one.1.terms }) else None
+abbrev pub posting_in : List ℕ → ℕ × Document → Option (ℕ × ℕ)
+posting_in t one = if has_term t one.1.terms then Some (one.0, wdf_of t one.1.terms) else None
 
 -- The documents that have the term, with its wdf in each.
 abbrev pub postings : List ℕ → Docs → Postings
@@ -27,17 +25,17 @@ postings t docs = filter_map (posting_in t) docs
 
 -- All documents, with the wdf 0.
 abbrev pub all_postings : Docs → Postings
-all_postings docs = map (λ one. record { id = one.0; wdf = 0 }) docs
+all_postings docs = map (λ one. (one.0, 0)) docs
 
 -- The value of a document in a slot, where it has one.
-abbrev pub valued_in : ℕ → ℕ × Document → Option Valued
-valued_in slot one = if has_value slot one.1.values then Some (record { id = one.0; value = value_in slot one.1.values }) else None
+abbrev pub valued_in : ℕ → ℕ × Document → Option (ℕ × List ℕ)
+valued_in slot one = if has_value slot one.1.values then Some (one.0, value_in slot one.1.values) else None
 
 -- The documents that have a value in the slot, with these.
 abbrev pub slot_values : ℕ → Docs → SlotValues
 slot_values slot docs = filter_map (valued_in slot) docs
 
 -- The value of the document in the slot, and the empty one where there is none.
-abbrev pub value_of : ℕ → Option Document → List ℕ
-value_of slot None = []
-value_of slot (Some document) = value_in slot document.values
+abbrev pub slot_value : ℕ → Option Document → List ℕ
+slot_value slot None = []
+slot_value slot (Some document) = value_in slot document.values

@@ -1,6 +1,5 @@
 pub mod Indexed
 pub mod Listed
 pub mod Slotted
-pub mod Kept
-pub mod Removing
+pub mod Stands
 pub mod Wild

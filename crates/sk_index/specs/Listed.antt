@@ -4,7 +4,8 @@ use Rattle.std.specs.List.{AllPairs}
 use Rattle.sk_base.specs.declared.doc_entry.DocTerm.{DocTerm}
 use Rattle.sk_base.specs.Documents.{has_term, wdf_of}
 use Rattle.sk_dict.specs.Terms.{number_of}
-use Rattle.sk_lists.specs.Postings.{Postings, put, without}
+use Rattle.sk_sorted.specs.Entries.{put, without}
+use Rattle.sk_lists.specs.Postings.{Postings}
 
 -- Terms by their numbers, and a list for each number.
 pub record Listed : Type 0 where

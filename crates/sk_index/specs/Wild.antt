@@ -3,12 +3,12 @@ use Rattle.std.specs.Prelude.{ℕ, ◌+◌, Bool, true, ◌&&◌, List, [], ◌�
 use Rattle.std.specs.Ordering.{is_lt}
 use Rattle.sk_dict.specs.Terms.{term_at, term_cmp, begins_with}
 use Rattle.sk_lists.specs.Postings.{Postings, greatest_wdf}
-use Rattle.sk_index.specs.declared.term_lists.Tally.{Tally}
+use Rattle.sk_index.specs.declared.term_lists.Figure.{Figure}
 
 -- A number of a list.
-abbrev pub tallied : Tally → Postings → ℕ
-tallied Tally.Length list = length list
-tallied Tally.Greatest list = greatest_wdf list
+abbrev pub figure_of : Figure → Postings → ℕ
+figure_of Figure.Length list = length list
+figure_of Figure.Greatest list = greatest_wdf list
 
 -- The sum of a number over these terms.
 abbrev pub over : (List ℕ → ℕ) → List (List ℕ) → ℕ
@@ -25,5 +25,5 @@ abbrev pub counted : (List ℕ → ℕ) → List (List ℕ) → List ℕ → Opt
 counted f terms prefix after t = if begins_with t prefix && is_behind terms after t then f t else 0
 
 -- The sum over the terms that begin with the prefix and stand behind.
-abbrev pub left : (List ℕ → ℕ) → List (List ℕ) → List ℕ → Option ℕ → ℕ
-left f terms prefix after = over (counted f terms prefix after) terms
+abbrev pub sum_behind : (List ℕ → ℕ) → List (List ℕ) → List ℕ → Option ℕ → ℕ
+sum_behind f terms prefix after = over (counted f terms prefix after) terms

@@ -1,46 +1,39 @@
 //! The index: the live documents, with a list for each term and each slot.
-ghost use Rattle.std.specs.Prelude.{◌≡◌, ◌<◌, ◌+◌, [], length, true, false, IfOk, MatchOption, IsSome};
+ghost use Rattle.std.specs.Prelude.{◌≡◌, ◌<◌, ◌+◌, [], length, true, false, All, IfOk, MatchOption, IsSome};
 ghost use Rattle.std.specs.Option.{option_map};
 ghost use Rattle.sk_base.specs.Records.{FitsEdit};
+ghost use Rattle.sk_base.specs.Loads.{IsLight};
 ghost use Rattle.sk_base.specs.Numbers.{some_has};
 ghost use Rattle.sk_dict.specs.Terms.{term_at, number_of};
 ghost use Rattle.sk_model.specs.Documents.{keeps_slot, has_slot};
 ghost use Rattle.sk_model.specs.Edits.{nothing_live, edited, reply_to, document_at, IsLive};
-ghost use Rattle.sk_index.specs.Indexed.{Indexed, postings, all_postings, slot_values, value_of};
+ghost use Rattle.sk_index.specs.Indexed.{Indexed, postings, all_postings, slot_values, slot_value};
 
+use crate::lists::Lists;
 use crate::slot_lists::SlotLists;
 use crate::term_lists::TermLists;
-use sk_base::{Doc, DocId, Edit, Field, FieldKind, Reply, Schema};
+use sk_base::{DocId, Edit, Field, FieldKind, Reply, Schema};
+use sk_documents::Documents;
 use sk_lists::List;
 use sk_steps::Steps;
 use sk_values::SlotList;
 use std::alloc::{AllocError, Global};
-use std::collections::BTreeMap;
+use std::fmt::{Debug, Error, Formatter, Write};
 use std::marker::Model;
 use std::sync::ledger::Ledger;
 
-/// Documents under one schema. Contracts see it as what it holds.
-#[derive(Debug, Drop)]
+/// Documents under one schema. Contracts see it as what it holds; `Debug` tells how many there are, and shows none.
+#[derive(Drop)]
 pub struct Index {
-    pub(crate) alloc: Global,
-    pub(crate) schema: Schema,
-    pub(crate) documents: BTreeMap<DocId, Doc>,
-    pub(crate) highest: DocId,
-    /// All documents.
-    pub(crate) all: List,
-    pub(crate) terms: TermLists,
-    pub(crate) slots: SlotLists,
+    pub(crate) documents: Documents<Lists>,
 }
 
 impl Model for Index {
     ghost use Rattle.sk_index.specs.Indexed.{Indexed};
-    ghost use Rattle.sk_index.specs.Kept.{IsKept};
 
     ghost Value = { Indexed };
 
-    ghost view = { λ i. record { fields = i.schema; live = record { documents = i.documents.entries; highest = i.highest }; terms = i.terms.terms } };
-
-    ghost invariant = { λ i. IsKept i.documents.entries i.highest i.all i.terms i.slots };
+    ghost view = { λ i. record { fields = i.documents.fields; live = i.documents.live; terms = i.documents.beside.terms.terms } };
 }
 
 impl Index {
@@ -48,35 +41,34 @@ impl Index {
     pub fn new(alloc: Global, schema: Schema) -> Result<Index, AllocError>
         ensures { IfOk result (λ index. index ≡ record { fields = schema; live = nothing_live; terms = [] }) }
     {
-        let slots = SlotLists::new(alloc, schema.fields().len())?;
-        Ok(Index {
-            alloc,
-            schema,
-            documents: BTreeMap::new(alloc),
-            highest: 0,
+        let lists = Lists {
             all: List::new(alloc),
             terms: TermLists::new(alloc),
-            slots,
+            slots: SlotLists::new(alloc, schema.fields().len())?,
+        };
+        Ok(Index {
+            documents: Documents::new(alloc, schema, lists),
         })
     }
 
     pub fn schema(&self) -> &Schema
         ensures { result.now ≡ self.now.fields }
     {
-        &self.schema
+        self.documents.schema()
     }
 
     /// The allocator that it keeps.
     pub fn allocator(&self) -> Global {
-        self.alloc
+        self.documents.allocator()
     }
 
     /// The highest id that was ever used, 0 at first.
     pub fn highest(&self) -> DocId
         ensures value { result ≡ self.now.live.highest }
         ensures sound { IsLive self.now.live }
+        ensures light { All IsLight self.now.live.documents }
     {
-        self.highest
+        self.documents.highest()
     }
 
     /// Changes the documents. Where memory runs out the index is given up.
@@ -86,13 +78,9 @@ impl Index {
         ensures reply { IfOk result (λ p. p.1 ≡ reply_to self.live edit) }
         ensures schema { IfOk result (λ p. p.0.fields ≡ self.fields) }
     {
-        match edit {
-            Edit::Add(given) => self.add(&given),
-            Edit::Replace(id, given) => self.replace(id, &given),
-            Edit::ReplaceBy(term, given) => self.replace_by(term.as_str().as_bytes(), &given),
-            Edit::Delete(id) => Ok(self.delete(id)),
-            Edit::DeleteBy(term) => self.delete_by(term.as_str().as_bytes()),
-        }
+        let Index { documents } = self;
+        let (documents, reply) = documents.apply(edit)?;
+        Ok((Index { documents }, reply))
     }
 
     /// The number of the term. Where there is none, no live document has the term. It takes no memory.
@@ -100,7 +88,7 @@ impl Index {
         ensures value { result ≡ number_of term.now self.now.terms }
         ensures found { MatchOption result (some_has term.now self.now.live.documents ≡ false) (λ n. (n < length self.now.terms) × (term_at self.now.terms n ≡ term.now)) }
     {
-        self.terms.find(term)
+        self.documents.beside().terms.find(term)
     }
 
     /// The live documents that have the term with this number, with its wdf in each.
@@ -108,14 +96,14 @@ impl Index {
         requires there { number < length self.now.terms }
         ensures { result.now ≡ postings (term_at self.now.terms number) self.now.live.documents }
     {
-        self.terms.list(number)
+        self.documents.beside().terms.list(number)
     }
 
     /// All live documents.
     pub fn all(&self) -> &List
         ensures { result.now ≡ all_postings self.now.live.documents }
     {
-        &self.all
+        &self.documents.beside().all
     }
 
     /// The values of a slot of the schema.
@@ -123,8 +111,8 @@ impl Index {
         ensures value { MatchOption result (has_slot slot self.now.fields ≡ false) (λ list. list.now ≡ slot_values slot self.now.live.documents) }
         ensures found { has_slot slot self.now.fields ≡ true → IsSome result }
     {
-        if has_slot(self.schema.fields(), slot) {
-            Some(self.slots.list(slot))
+        if has_slot(self.schema().fields(), slot) {
+            Some(self.documents.beside().slots.list(slot))
         } else {
             None
         }
@@ -132,10 +120,10 @@ impl Index {
 
     /// The document's value in the slot, empty where it has none. It is one reading.
     pub fn value<L: Ledger>(&self, slot: u32, id: DocId, steps: &mut Steps<L>) -> &[u8]
-        ensures value { result.now ≡ value_of slot (document_at id self.now.live.documents) }
+        ensures value { result.now ≡ slot_value slot (document_at id self.now.live.documents) }
         ensures cost { steps.new ≡ steps.old + 1 }
     {
-        self.slots.list(slot).get(id, steps)
+        self.documents.beside().slots.list(slot).get(id, steps)
     }
 
     /// The document's payload, none where it is not live. It is one reading.
@@ -144,8 +132,14 @@ impl Index {
         ensures cost { steps.new ≡ steps.old + 1 }
     {
         steps.tick();
-        let doc = self.documents.get(&id)?;
+        let doc = self.documents.document(id)?;
         Some(doc.payload.as_str())
+    }
+}
+
+impl Debug for Index {
+    fn fmt<W: Write>(&self, f: &mut Formatter<W>) -> Result<(), Error> {
+        write!(f, "Index of {}", self.all().length())
     }
 }
 

@@ -9,26 +9,26 @@ use std::alloc::{AllocError, Global};
 use std::marker::Model;
 
 /// A slot, and who has a value in it.
-#[derive(Debug, Drop)]
-pub(crate) struct Slot {
+#[derive(Drop)]
+pub(crate) struct SlotEntry {
     pub slot: u32,
     pub list: SlotList,
 }
 
 /// A list for each slot in which a document has a value, or had one.
-#[derive(Debug, Drop)]
+#[derive(Drop)]
 pub(crate) struct SlotLists {
     alloc: Global,
-    slots: Vec<Slot>,
+    slots: Vec<SlotEntry>,
     /// The list of all other slots, without an entry.
     none: SlotList,
 }
 
 impl Model for SlotLists {
     ghost use Rattle.std.specs.Prelude.{◌≡◌, List, []};
-    ghost use Rattle.sk_index.specs.declared.slot_lists.Slot.{Slot};
+    ghost use Rattle.sk_index.specs.declared.slot_lists.SlotEntry.{SlotEntry};
 
-    ghost Value = { List Slot };
+    ghost Value = { List SlotEntry };
 
     ghost view = { λ l. l.slots.items };
 
@@ -101,7 +101,7 @@ impl SlotLists {
             None => {
                 let mut list = SlotList::new(self.alloc);
                 list.set(id, value)?;
-                self.slots.push(Slot { slot, list })?;
+                self.slots.push(SlotEntry { slot, list })?;
                 Ok(())
             }
         }

@@ -3,7 +3,7 @@ ghost use Rattle.std.specs.Prelude.{◌≡◌};
 ghost use Rattle.sk_base.specs.Numbers.{live_of, length_of, greatest_of, wild_length_of, wild_greatest_of, slot_length_of};
 
 use crate::Index;
-use crate::term_lists::Tally;
+use crate::term_lists::Figure;
 use sk_base::Stats;
 
 // No wdf is greater.
@@ -13,26 +13,26 @@ impl Stats for Index {
     ghost documents = { λ i. i.live.documents };
 
     fn live(&self) -> u32 {
-        self.all.length()
+        self.documents.beside().all.length()
     }
 
     fn length(&self, term: &[u8]) -> u32 {
-        self.terms.tally(term, Tally::Length)
+        self.documents.beside().terms.figure(term, Figure::Length)
     }
 
     fn greatest(&self, term: &[u8]) -> u32 {
-        self.terms.tally(term, Tally::Greatest)
+        self.documents.beside().terms.figure(term, Figure::Greatest)
     }
 
     fn wild_length(&self, prefix: &[u8]) -> u32 {
-        self.terms.sum(prefix, Tally::Length, self.all.length())
+        self.documents.beside().terms.sum(prefix, Figure::Length, self.documents.beside().all.length())
     }
 
     fn wild_greatest(&self, prefix: &[u8]) -> u32 {
-        self.terms.sum(prefix, Tally::Greatest, MOST_WDF)
+        self.documents.beside().terms.sum(prefix, Figure::Greatest, MOST_WDF)
     }
 
     fn slot_length(&self, slot: u32) -> u32 {
-        self.slots.list(slot).length()
+        self.documents.beside().slots.list(slot).length()
     }
 }

@@ -2,10 +2,9 @@
 ghost use Rattle.std.specs.Prelude.{◌≡◌, ◌≤◌, ◌<◌, ◌+◌, [], length, min, set, slice_index_or, Some, None, true, IfOk, OnOk, IfSome, MatchOption};
 ghost use Rattle.sk_base.specs.Documents.{AreTerms};
 ghost use Rattle.sk_dict.specs.Terms.{term_at, number_of, begins_with, IsNext, HasNoNext};
-ghost use Rattle.sk_lists.specs.Postings.{put, without};
+ghost use Rattle.sk_sorted.specs.Entries.{put, without, ids_of};
 ghost use Rattle.sk_index.specs.Listed.{list_of, IsListed, SameLists, Puts, TakesOut, PutsAll, TakesOutAll};
-ghost use Rattle.sk_index.specs.Removing.{ids_of};
-ghost use Rattle.sk_index.specs.Wild.{tallied, left};
+ghost use Rattle.sk_index.specs.Wild.{figure_of, sum_behind};
 
 use sk_base::{DocId, DocTerm, Term};
 use sk_dict::Dict;
@@ -14,7 +13,7 @@ use std::alloc::{AllocError, Global};
 use std::marker::Model;
 
 /// Terms, and for each the documents that have it. A term that was given a number keeps it; its list may become empty.
-#[derive(Debug, Drop)]
+#[derive(Drop)]
 pub(crate) struct TermLists {
     alloc: Global,
     dict: Dict,
@@ -22,8 +21,8 @@ pub(crate) struct TermLists {
 }
 
 /// A number of a list that is known without a reading.
-#[derive(Clone, Copy, Debug)]
-pub(crate) enum Tally {
+#[derive(Clone, Copy)]
+pub(crate) enum Figure {
     Length,
     Greatest,
 }
@@ -67,18 +66,18 @@ impl TermLists {
     }
 
     /// A number of the term's list, 0 where it has none.
-    pub fn tally(&self, term: &[u8], tally: Tally) -> u32
-        ensures { result ≡ tallied tally (list_of term.now self.now) }
+    pub fn figure(&self, term: &[u8], figure: Figure) -> u32
+        ensures { result ≡ figure_of figure (list_of term.now self.now) }
     {
         match self.dict.find(term) {
-            Some(number) => tally_of(&self.lists[number], tally),
+            Some(number) => figure_of(&self.lists[number], figure),
             None => 0,
         }
     }
 
     /// The sum of a number of the lists of all terms that begin with the prefix, or `most` where that is less.
-    pub fn sum(&self, prefix: &[u8], tally: Tally, most: u32) -> u32
-        ensures value { result ≡ min most (left (λ t. tallied tally (list_of t self.now)) self.now.terms prefix.now None) }
+    pub fn sum(&self, prefix: &[u8], figure: Figure, most: u32) -> u32
+        ensures value { result ≡ min most (sum_behind (λ t. figure_of figure (list_of t self.now)) self.now.terms prefix.now None) }
         ensures sound { IsListed self.now }
     {
         let mut total = 0;
@@ -87,7 +86,7 @@ impl TermLists {
             let Some(number) = self.next(prefix, after) else {
                 return total;
             };
-            total = capped(total, tally_of(self.list(number), tally), most);
+            total = capped(total, figure_of(self.list(number), figure), most);
             after = Some(number);
         }
     }
@@ -201,12 +200,12 @@ impl TermLists {
     }
 }
 
-fn tally_of(list: &List, tally: Tally) -> u32
-    ensures { result ≡ tallied tally list.now }
+fn figure_of(list: &List, figure: Figure) -> u32
+    ensures { result ≡ figure_of figure list.now }
 {
-    match tally {
-        Tally::Length => list.length(),
-        Tally::Greatest => list.greatest(),
+    match figure {
+        Figure::Length => list.length(),
+        Figure::Greatest => list.greatest(),
     }
 }
 

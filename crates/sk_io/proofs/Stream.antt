@@ -3,9 +3,8 @@ use Rattle.std.proofs.Common.{◌≡◌, ◌≤◌, ◌<◌, ◌+◌, ℕ, true,
 use Rattle.std.proofs.lemmas.List.{take-append-drop, length-take, take_at, drop_all}
 use Rattle.std.specs.Io.KnownBytes.{Consumes, Keeps, IsAtEnd}
 use Rattle.sk_io.specs.declared.line.LineStop.{LineStop}
-use Rattle.sk_io.specs.declared.line.TheConstants.{MAX_LINE}
 use Rattle.sk_io.specs.declared.found.LineEnd.TheVariants.{Nowhere}
-use Rattle.sk_io.specs.LineText.{NoLineEnd}
+use Rattle.sk_io.specs.LineText.{most_line, NoLineEnd}
 use Rattle.sk_io.specs.Reading.{Reader, pending, StreamIs}
 use Rattle.sk_io.specs.Answers.{Charged, Ends, Gives, PassesOver, Stops}
 use Rattle.sk_io.specs.Steps.{EndsAt, IsOpen, Fills, Halts, Tells, Passes, Halted, NoneLeft, IsFar, Sought, IsOver, Skips}
@@ -214,7 +213,7 @@ has_end line after s is same = omega (arith, ap length is, ap length same, lengt
 
 -- a line that ends in what is held is given
 line_given : (old : Reader) (lo : Option (List ℕ)) (mid : Reader) (lm : Option (List ℕ)) (at : ℕ) → Passes old lo mid lm [] → IsOpen mid → EndsAt mid.held at
-    → at ≤ MAX_LINE → Gives old lo (record mid { given = at + 1 }) lm (take at mid.held)
+    → at ≤ most_line → Gives old lo (record mid { given = at + 1 }) lm (take at mid.held)
 line_given old lo mid lm at before o end short =
     let le : at + 1 ≤ length mid.held = omega (arith, end.inside) in
     let long : length (take (at + 1) mid.held) ≡ at + 1 = simp length-take (omega arith) in
@@ -240,7 +239,7 @@ line_given old lo mid lm at before o end short =
 
 -- a line that ends in what is held, and is too long, is passed over
 long_given : (old : Reader) (lo : Option (List ℕ)) (mid : Reader) (lm : Option (List ℕ)) (at : ℕ) → Passes old lo mid lm [] → IsOpen mid → EndsAt mid.held at
-    → MAX_LINE < at → PassesOver old lo (record mid { given = at + 1 }) lm
+    → most_line < at → PassesOver old lo (record mid { given = at + 1 }) lm
 long_given old lo mid lm at before o end far =
     let le : at + 1 ≤ length mid.held = omega (arith, end.inside) in
     let long : length (take (at + 1) mid.held) ≡ at + 1 = simp length-take (omega arith) in
@@ -298,12 +297,12 @@ rest_given old lo mid lm n before o none e some =
 
 -- the same, at the reader that gives the line
 pub give_line : (old : Reader) (lo : Option (List ℕ)) (mid : Reader) (lm : Option (List ℕ)) (new : Reader) (at : ℕ) → new ≡ record mid { given = at + 1 } → Passes old lo mid lm []
-    → IsOpen mid → EndsAt mid.held at → at ≤ MAX_LINE → Gives old lo new lm (take at new.held)
+    → IsOpen mid → EndsAt mid.held at → at ≤ most_line → Gives old lo new lm (take at new.held)
 give_line old lo mid lm new at e before o end short = subst (λ r. Gives old lo r lm (take at r.held)) (sym e) (line_given old lo mid lm at before o end short)
 
 -- the same, at the reader that passes over the line
 pub give_long : (old : Reader) (lo : Option (List ℕ)) (mid : Reader) (lm : Option (List ℕ)) (new : Reader) (at : ℕ) → new ≡ record mid { given = at + 1 } → Passes old lo mid lm []
-    → IsOpen mid → EndsAt mid.held at → MAX_LINE < at → PassesOver old lo new lm
+    → IsOpen mid → EndsAt mid.held at → most_line < at → PassesOver old lo new lm
 give_long old lo mid lm new at e before o end far = subst (λ r. PassesOver old lo r lm) (sym e) (long_given old lo mid lm at before o end far)
 
 -- the same, at the reader that gives the last line
@@ -329,7 +328,7 @@ ends old lo mid lm before o none e =
     }
 
 -- a line that is too long was passed over up to its end
-passed_end : (old : Reader) (lo : Option (List ℕ)) (new : Reader) (ln : Option (List ℕ)) (line : List ℕ) → NoLineEnd line → MAX_LINE < length line → new.stopped ≡ None
+passed_end : (old : Reader) (lo : Option (List ℕ)) (new : Reader) (ln : Option (List ℕ)) (line : List ℕ) → NoLineEnd line → most_line < length line → new.stopped ≡ None
     → Passes old lo new ln (line ++ 10 ∷ []) → PassesOver old lo new ln
 passed_end old lo new ln line none long goes p = record {
   goes = goes;
@@ -351,7 +350,7 @@ passed_end old lo new ln line none long goes p = record {
 }
 
 -- a line that is too long was passed over up to the end of the source
-passed_all : (old : Reader) (lo : Option (List ℕ)) (new : Reader) (ln : Option (List ℕ)) (line : List ℕ) → NoLineEnd line → MAX_LINE < length line → new.stopped ≡ None
+passed_all : (old : Reader) (lo : Option (List ℕ)) (new : Reader) (ln : Option (List ℕ)) (line : List ℕ) → NoLineEnd line → most_line < length line → new.stopped ≡ None
     → Passes old lo new ln line → IsOver new → PassesOver old lo new ln
 passed_all old lo new ln line none long goes p is_over = record {
   goes = goes;
@@ -375,7 +374,7 @@ passed_all old lo new ln line none long goes p is_over = record {
 
 -- it was passed over in one of these ways
 either_way : (old : Reader) (lo : Option (List ℕ)) (mid : Reader) (lm : Option (List ℕ)) (new : Reader) (ln : Option (List ℕ)) (line : List ℕ) → NoLineEnd line
-    → MAX_LINE < length line → new.stopped ≡ None → Passes old lo mid lm []
+    → most_line < length line → new.stopped ≡ None → Passes old lo mid lm []
     → Passes mid lm new ln (line ++ 10 ∷ []) ⊎ (Passes mid lm new ln line × IsOver new) → PassesOver old lo new ln
 either_way old lo mid lm new ln line none long goes before (inl p) =
     passed_end old lo new ln line none long goes (pass_both old lo mid lm new ln [] (line ++ 10 ∷ []) before p)
@@ -386,7 +385,7 @@ either_way old lo mid lm new ln line none long goes before (inr p) =
 pub passes_over : (old : Reader) (lo : Option (List ℕ)) (mid : Reader) (lm : Option (List ℕ)) (new : Reader) (ln : Option (List ℕ)) → Passes old lo mid lm [] → IsFar mid
     → Skips mid lm new ln → PassesOver old lo new ln
 passes_over old lo mid lm new ln before far sk =
-    let long : MAX_LINE < length sk.line = omega (arith, far.long, sk.long) in
+    let long : most_line < length sk.line = omega (arith, far.long, sk.long) in
     either_way old lo mid lm new ln sk.line sk.no_end long sk.goes before sk.passes
 
 -- a stop in the middle of a line
@@ -452,7 +451,7 @@ same_held a la b lb n f none =
 
 -- the search found the end of the source
 pub search_ends : (old : Reader) (lo : Option (List ℕ)) (a : Reader) (la : Option (List ℕ)) (b : Reader) (lb : Option (List ℕ)) (seen n : ℕ) → SearchSoFar old lo a la seen
-    → NoLineEnd a.held → length a.held ≤ MAX_LINE → Fills a la b lb n → n ≡ 0 → Sought old lo b lb Nowhere
+    → NoLineEnd a.held → length a.held ≤ most_line → Fills a la b lb n → n ≡ 0 → Sought old lo b lb Nowhere
 search_ends old lo a la b lb seen n so_far none short f e =
     let same : b.held ≡ a.held = same_held a la b lb n f e in
     record {

@@ -4,9 +4,8 @@ use Rattle.sk_io.specs.declared.line.LineStop.{LineStop}
 use Rattle.sk_io.specs.declared.line.LineStop.TheVariants.{Failed, TooMuch}
 use Rattle.sk_io.specs.declared.line.Line.{Line}
 use Rattle.sk_io.specs.declared.line.Line.TheVariants.{Whole, TooLong}
-use Rattle.sk_io.specs.declared.line.TheConstants.{MAX_LINE}
 use Rattle.sk_io.specs.Causes.{Rose}
-use Rattle.sk_io.specs.LineText.{NoLineEnd, IsLine}
+use Rattle.sk_io.specs.LineText.{most_line, NoLineEnd, IsLine}
 use Rattle.sk_io.specs.Reading.{Reader, reach, StreamIs, Outcome, ended, whole, too_long, stopped}
 
 -- as many bytes were taken off the room as off what the source had left
@@ -33,7 +32,7 @@ pub record LineOf (line : List ℕ) (new : Reader) (left' : Option (List ℕ)) (
 -- the first line was given
 pub record Gives (old : Reader) (left : Option (List ℕ)) (new : Reader) (left' : Option (List ℕ)) (line : List ℕ) : Type 0 where
   pub goes : new.stopped ≡ None
-  pub short : length line ≤ MAX_LINE
+  pub short : length line ≤ most_line
   pub falls : reach new < reach old
   pub first : (s : List ℕ) → StreamIs old left s → LineOf line new left' s
   pub charged : Charged old left new left'
@@ -41,7 +40,7 @@ pub record Gives (old : Reader) (left : Option (List ℕ)) (new : Reader) (left'
 -- the first line of s is longer than a line may be, and the stream goes on behind it
 pub record LongLineOf (new : Reader) (left' : Option (List ℕ)) (s : List ℕ) : Type 0 where
   pub line : List ℕ
-  pub long : MAX_LINE < length line
+  pub long : most_line < length line
   pub first : LineOf line new left' s
 
 -- the first line, which is too long, was passed over
@@ -91,8 +90,8 @@ pub record StopHasCause {T : Type 0} (stop : Option LineStop) (before now : ℕ)
   pub later : before ≤ now
   pub failed : IsErrOf result Failed → Rose before now ⊎ (stop ≡ Some Failed)
 
--- a whole line is at most MAX_LINE bytes
+-- a whole line is at most most_line bytes
 abbrev pub IsShort : Option Line → Type 0
 IsShort None = Unit {0}
-IsShort (Some (Whole line)) = length line.now ≤ MAX_LINE
+IsShort (Some (Whole line)) = length line.now ≤ most_line
 IsShort (Some TooLong) = Unit {0}

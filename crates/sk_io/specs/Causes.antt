@@ -1,5 +1,9 @@
 -- A failure has a cause: a count of faults that rose.
-use Rattle.std.specs.Prelude.{ℕ, ◌-◌, ◌^◌, ◌<◌, ◌≤◌, ◌⊎◌, Result, IsErr}
+use Rattle.std.specs.Prelude.{ℕ, ◌+◌, ◌-◌, ◌^◌, ◌<◌, ◌≤◌, min, ◌⊎◌, Result, IsErr}
+
+-- one more, up to the greatest that a counter holds
+abbrev pub counted : ℕ → ℕ
+counted n = min (n + 1) (2 ^ 64 - 1)
 
 -- a count of faults rose, or stands at its end
 abbrev pub Rose : ℕ → ℕ → Type 0

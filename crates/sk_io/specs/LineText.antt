@@ -1,6 +1,10 @@
 -- What a line of a text is.
 use Rattle.std.specs.Prelude.{◌≡◌, ◌≢◌, ℕ, ◌<◌, ◌⊎◌, List, [], ◌∷◌, ◌++◌, length}
 
+-- How many bytes a line may have, without its end.
+abbrev pub most_line : ℕ
+most_line = 1048576
+
 -- no byte is a line's end
 abbrev pub NoLineEnd : List ℕ → Type 0
 NoLineEnd [] = Unit {0}

@@ -1,10 +1,7 @@
 -- What a source and a sink in memory are.
 use Rattle.std.specs.Prelude.{ℕ, ◌+◌, ◌-◌, ◌^◌, min, Bool, true, false, ◌&&◌, ◌==◌, nat_lt, List, ◌++◌, length, drop}
 use Rattle.std.specs.List.{list_any}
-
--- one more, up to the greatest that a counter holds
-abbrev pub counted : ℕ → ℕ
-counted n = min (n + 1) (2 ^ 64 - 1)
+use Rattle.sk_io.specs.Causes.{counted}
 
 -- a source in memory
 pub record Feed : Type 0 where
@@ -39,6 +36,7 @@ pub record Tray : Type 0 where
   pub calls : ℕ
   pub faults : ℕ
   pub settled : Bool
+  pub finishes : ℕ
 
 -- whether the next call is one of those that fail
 abbrev pub tray_fails : Tray → Bool
@@ -52,14 +50,18 @@ is_over t piece = nat_lt 0 (length piece) && (length t.held == t.room)
 abbrev pub share : Tray → List ℕ → ℕ
 share t piece = min (min (length piece) t.piece) (t.room - length t.held)
 
--- the sink after a call that took these bytes
+-- the sink after a put that took these bytes
 abbrev pub served : Tray → List ℕ → Tray
 served t bytes = record t { held = t.held ++ bytes; calls = counted t.calls; settled = false }
 
--- the sink after a call that failed
+-- the sink after a put that failed
 abbrev pub spilt : Tray → Tray
 spilt t = record t { calls = counted t.calls; faults = counted t.faults; settled = false }
 
 -- the sink after a finish that did not fail
 abbrev pub closed : Tray → Tray
-closed t = record t { calls = counted t.calls; settled = true }
+closed t = record t { calls = counted t.calls; settled = true; finishes = counted t.finishes }
+
+-- the sink after a finish that failed
+abbrev pub unclosed : Tray → Tray
+unclosed t = record t { calls = counted t.calls; faults = counted t.faults; settled = false; finishes = counted t.finishes }

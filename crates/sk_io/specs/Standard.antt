@@ -19,6 +19,10 @@ sink_writer s = s.writer
 abbrev pub sink_faults : {T : Type 0} → StdSink T → ℕ
 sink_faults s = s.failed
 
+-- how often a sink was to finish
+abbrev pub sink_finishes : {T : Type 0} → StdSink T → ℕ
+sink_finishes s = s.finished
+
 -- whether a sink's last call was a flush that did not fail
 abbrev pub sink_settled : {T : Type 0} → StdSink T → Bool
 sink_settled s = s.done

@@ -3,13 +3,12 @@ use Rattle.std.specs.Prelude.{◌≡◌, ℕ, ◌+◌, ◌^◌, ◌<◌, ◌≤�
 use Rattle.std.specs.Io.KnownBytes.{Keeps, Consumes, IsAtEnd}
 use Rattle.sk_io.specs.declared.line.LineStop.{LineStop}
 use Rattle.sk_io.specs.declared.line.LineStop.TheVariants.{Failed, TooMuch}
-use Rattle.sk_io.specs.declared.line.TheConstants.{MAX_LINE}
 use Rattle.sk_io.specs.declared.found.LineEnd.{LineEnd}
 use Rattle.sk_io.specs.declared.found.LineEnd.TheVariants.{At, Far, Nowhere}
 use Rattle.sk_io.specs.declared.found.Found.{Found}
 use Rattle.sk_io.specs.declared.found.Found.TheVariants.{End, Whole, TooLong}
 use Rattle.sk_io.specs.Causes.{Rose}
-use Rattle.sk_io.specs.LineText.{NoLineEnd}
+use Rattle.sk_io.specs.LineText.{most_line, NoLineEnd}
 use Rattle.sk_io.specs.Reading.{Reader, pending, reach, StreamIs, Outcome, ended, whole, too_long, stopped}
 
 -- the first line's end stands at `at`
@@ -89,14 +88,14 @@ pub record Halted (old : Reader) (left : Option (List ℕ)) (new : Reader) (left
 -- no line's end is left, neither here nor in the source
 pub record NoneLeft (new : Reader) : Type 0 where
   pub no_end : NoLineEnd new.held
-  pub short : length new.held ≤ MAX_LINE
+  pub short : length new.held ≤ most_line
   pub more_room : 0 < new.room
   pub ended : new.ended ≡ true
 
 -- a line that is longer than a line may be, so far
 pub record IsFar (new : Reader) : Type 0 where
   pub no_end : NoLineEnd new.held
-  pub long : MAX_LINE < length new.held
+  pub long : most_line < length new.held
 
 -- the first line's end is held, and what follows it has a place
 pub record EndIsHeld (new : Reader) (at : ℕ) : Type 0 where
@@ -143,7 +142,7 @@ found_outcome new (Err why) = stopped why
 -- a line that was found is held, and no longer than a line may be
 abbrev pub IsWithin : Reader → Found → Type 0
 IsWithin new End = Unit {0}
-IsWithin new (Whole n) = (n ≤ length new.held) × (n ≤ MAX_LINE)
+IsWithin new (Whole n) = (n ≤ length new.held) × (n ≤ most_line)
 IsWithin new TooLong = Unit {0}
 
 -- an end was found

@@ -2,8 +2,8 @@
 ghost use Rattle.std.specs.Prelude.{◌≡◌, ℕ, ◌<◌, ◌≤◌, ◌||◌, Bool, false, List, [], Option, Some, IfOk, MatchResult, is_ok, is_err, length, take};
 ghost use Rattle.std.specs.Io.{ReadsAtMost, WritesAtMost};
 ghost use Rattle.std.specs.Io.KnownBytes.{Keeps, ReadConsumes, WriteAppends};
-ghost use Rattle.sk_io.specs.Causes.{HasCause};
-ghost use Rattle.sk_io.specs.Memory.{Feed, feed_fails, portion, fed, starved, Tray, tray_fails, is_over, share, served, spilt, closed};
+ghost use Rattle.sk_io.specs.Causes.{counted, HasCause};
+ghost use Rattle.sk_io.specs.Memory.{Feed, feed_fails, portion, fed, starved, Tray, tray_fails, is_over, share, served, spilt, closed, unclosed};
 
 use crate::{Failed, Sink, Source};
 use std::alloc::{AllocError, Global};
@@ -86,6 +86,7 @@ pub struct MemorySink {
     made: u64,
     failed: u64,
     done: bool,
+    finished: u64,
 }
 
 impl Model for MemorySink {
@@ -94,7 +95,7 @@ impl Model for MemorySink {
 
     ghost Value = { Tray };
 
-    ghost view = { λ s. record { held = s.taken.items; piece = s.most; room = s.limit; failing = s.failing_calls.items; calls = s.made; faults = s.failed; settled = s.done } };
+    ghost view = { λ s. record { held = s.taken.items; piece = s.most; room = s.limit; failing = s.failing_calls.items; calls = s.made; faults = s.failed; settled = s.done; finishes = s.finished } };
 
     ghost invariant = { λ s. (vec_len s.taken ≤ s.limit) × (s.limit ≤ vec_capacity s.taken) × (1 ≤ s.most) };
 }
@@ -109,7 +110,7 @@ impl MemorySink {
         failing: Vec<u64>,
     ) -> Result<MemorySink, AllocError>
         requires { 1 ≤ piece }
-        ensures { IfOk result (λ sink. sink ≡ record { held = []; piece = piece; room = room; failing = failing.items; calls = 0; faults = 0; settled = false }) }
+        ensures { IfOk result (λ sink. sink ≡ record { held = []; piece = piece; room = room; failing = failing.items; calls = 0; faults = 0; settled = false; finishes = 0 }) }
     {
         let taken = Vec::with_capacity(alloc, room)?;
         Ok(MemorySink {
@@ -120,6 +121,7 @@ impl MemorySink {
             made: 0,
             failed: 0,
             done: false,
+            finished: 0,
         })
     }
 
@@ -136,6 +138,8 @@ impl Sink for MemorySink {
 
     ghost faults = { λ s. s.faults };
 
+    ghost finishes = { λ s. s.finishes };
+
     ghost settled = { λ s. s.settled };
 
     fn put(&mut self, piece: &[u8]) -> Result<usize, Failed>
@@ -143,6 +147,7 @@ impl Sink for MemorySink {
         ensures some { IfOk result (λ n. 0 < length piece.now → 0 < n) }
         ensures bytes { WriteAppends (Some self.old.held) (Some self.new.held) result piece.now }
         ensures settled { self.new.settled ≡ false }
+        ensures finishes { self.new.finishes ≡ self.old.finishes }
         ensures cause { HasCause self.old.faults self.new.faults result }
         ensures fails { is_err result ≡ (tray_fails self.old || is_over self.old piece.now) }
         ensures takes { IfOk result (λ n. n ≡ share self.old piece.now) }
@@ -169,11 +174,13 @@ impl Sink for MemorySink {
     fn finish(&mut self) -> Result<(), Failed>
         ensures bytes { Keeps (Some self.old.held) (Some self.new.held) }
         ensures settled { self.new.settled ≡ is_ok result }
+        ensures finishes { self.new.finishes ≡ counted self.old.finishes }
         ensures cause { HasCause self.old.faults self.new.faults result }
         ensures fails { is_err result ≡ tray_fails self.old }
-        ensures after { MatchResult result (λ _. self.new ≡ closed self.old) (λ _. self.new ≡ spilt self.old) }
+        ensures after { MatchResult result (λ _. self.new ≡ closed self.old) (λ _. self.new ≡ unclosed self.old) }
     {
         self.made = self.made.saturating_add(1);
+        self.finished = self.finished.saturating_add(1);
         let call = self.made;
         if self.failing_calls.contains(&call) {
             self.failed = self.failed.saturating_add(1);

@@ -11,6 +11,7 @@ pub fn put_all<K: Sink>(sink: &mut K, piece: &[u8]) -> Result<(), Failed>
     ensures ok { OnOk result (Appends (K.held sink.old) (K.held sink.new) piece.now) }
     ensures err { OnErr result (AppendsPrefix (K.held sink.old) (K.held sink.new) piece.now) }
     ensures settled { K.settled sink.new ≡ (K.settled sink.old && (length piece.now == 0)) }
+    ensures finishes { K.finishes sink.new ≡ K.finishes sink.old }
     ensures cause { HasCause (K.faults sink.old) (K.faults sink.new) result }
 {
     let mut rest = piece;

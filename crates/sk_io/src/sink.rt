@@ -2,7 +2,7 @@
 ghost use Rattle.std.specs.Prelude.{◌≡◌, ℕ, ◌<◌, Bool, false, List, Option, IfOk, is_ok, length};
 ghost use Rattle.std.specs.Io.{WritesAtMost};
 ghost use Rattle.std.specs.Io.KnownBytes.{Keeps, WriteAppends};
-ghost use Rattle.sk_io.specs.Causes.{HasCause};
+ghost use Rattle.sk_io.specs.Causes.{counted, HasCause};
 
 use crate::Failed;
 
@@ -14,6 +14,9 @@ pub trait Sink {
     // How often the sink has failed.
     ghost faults: { Self → ℕ };
 
+    // How often it was to finish, the calls that failed included.
+    ghost finishes: { Self → ℕ };
+
     // Whether all that was taken is where it belongs.
     ghost settled: { Self → Bool };
 
@@ -23,11 +26,13 @@ pub trait Sink {
         ensures some { IfOk result (λ n. 0 < length piece.now → 0 < n) }
         ensures bytes { WriteAppends (held self.old) (held self.new) result piece.now }
         ensures settled { settled self.new ≡ false }
+        ensures finishes { finishes self.new ≡ finishes self.old }
         ensures cause { HasCause (faults self.old) (faults self.new) result };
 
     /// Sends on what was taken and is not yet where it belongs.
     fn finish(&mut self) -> Result<(), Failed>
         ensures bytes { Keeps (held self.old) (held self.new) }
         ensures settled { settled self.new ≡ is_ok result }
+        ensures finishes { finishes self.new ≡ counted (finishes self.old) }
         ensures cause { HasCause (faults self.old) (faults self.new) result };
 }

@@ -2,7 +2,7 @@
 ghost use Rattle.std.specs.Prelude.{◌≡◌, ◌<◌, ℕ, Bool, false, List, None, Option, IfOk, length};
 ghost use Rattle.std.specs.Io.{ReadsAtMost, WritesAtMost};
 ghost use Rattle.std.specs.Io.KnownBytes.{Keeps, ReadConsumes, WriteAppends};
-ghost use Rattle.sk_io.specs.Standard.{source_reader, source_faults, sink_writer, sink_faults, sink_settled};
+ghost use Rattle.sk_io.specs.Standard.{source_reader, source_faults, sink_writer, sink_faults, sink_finishes, sink_settled};
 
 use crate::{Failed, Sink, Source};
 use std::io::{ErrorKind, Read, Write};
@@ -65,6 +65,7 @@ pub struct StdSink<T: Drop> {
     writer: T,
     failed: u64,
     done: bool,
+    finished: u64,
 }
 
 impl<T: Write + Drop> StdSink<T> {
@@ -73,11 +74,13 @@ impl<T: Write + Drop> StdSink<T> {
         ensures writer { sink_writer result ≡ writer }
         ensures faults { sink_faults result ≡ 0 }
         ensures settled { sink_settled result ≡ false }
+        ensures finishes { sink_finishes result ≡ 0 }
     {
         StdSink {
             writer,
             failed: 0,
             done: false,
+            finished: 0,
         }
     }
 }
@@ -111,6 +114,8 @@ impl<T: Write + Drop> Sink for StdSink<T> {
 
     ghost faults = { sink_faults };
 
+    ghost finishes = { sink_finishes };
+
     ghost settled = { sink_settled };
 
     fn put(&mut self, piece: &[u8]) -> Result<usize, Failed> {
@@ -124,6 +129,7 @@ impl<T: Write + Drop> Sink for StdSink<T> {
 
     /// Flushes the writer.
     fn finish(&mut self) -> Result<(), Failed> {
+        self.finished = self.finished.saturating_add(1);
         match self.writer.flush() {
             Ok(()) => {
                 self.done = true;

@@ -1,5 +1,5 @@
-pub mod PostingLaws
 pub mod CursorLaws
 pub mod WalkLaws
-mod PlaceLemmas
+mod GreatestLemmas
 mod SeekLemmas
+mod Examples

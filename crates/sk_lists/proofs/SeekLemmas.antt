@@ -4,11 +4,11 @@ use mathlib.Core.Bool.{true≢false}
 use Rattle.std.proofs.lemmas.Bool.{ltb-true, ltb-false}
 use Rattle.std.proofs.lemmas.List.{drop-drop, drop_all, get_or-drop, length-drop}
 use Rattle.std.proofs.lemmas.List.Elements.{All-nil, All-more}
-use Rattle.sk_lists.specs.declared.posting.Posting.{Posting}
 use Rattle.sk_lists.specs.declared.cursor.Cursor.{Cursor}
-use Rattle.sk_lists.specs.Postings.{Postings, from, is_below}
+use Rattle.sk_sorted.specs.Entries.{from}
+use Rattle.sk_lists.specs.Postings.{Postings, is_below}
 use Rattle.sk_lists.specs.Cursor.{unread, headed, left, IsHeadAt, IsOn}
-use Rattle.sk_lists.proofs.PostingLaws.{from-below, from-at}
+use Rattle.sk_sorted.proofs.EntryLaws.{from-below, from-at}
 
 -- a seek for the target began at `old`, and `count` entries later it is at `now`
 pub record SeekSoFar (target : ℕ) (list : Postings) (old now : Cursor) (count : ℕ) : Type 0 where
@@ -17,10 +17,10 @@ pub record SeekSoFar (target : ℕ) (list : Postings) (old now : Cursor) (count 
   pub within : now.read ≤ length list
   pub passes : from target (left now list) ≡ from target (left old list)
   pub stays : is_below target (left old list) ≡ false → (count ≡ 0) × (now ≡ old)
-  pub beyond : All (λ p. p.id < target) (take (count - 1) (unread old list))
+  pub beyond : All (λ p. p.0 < target) (take (count - 1) (unread old list))
 
 -- a cursor has not read more than there is
-read_within : (head : Option Posting) (read : ℕ) (list : Postings) → IsHeadAt head read list → read ≤ length list
+read_within : (head : Option (ℕ × ℕ)) (read : ℕ) (list : Postings) → IsHeadAt head read list → read ≤ length list
 read_within None read list on = omega (arith, on)
 read_within (Some p) read list on = on.within
 
@@ -32,34 +32,34 @@ seek_begins target list old on = record {
   within = read_within old.head old.read list on;
   passes = refl;
   stays = λ e. (refl, refl);
-  beyond = All-nil (λ (p : Posting). p.id < target);
+  beyond = All-nil (λ (p : ℕ × ℕ). p.0 < target);
 }
 
 -- a head below the target is passed over
-pass_head : (target : ℕ) (head : Option Posting) (rest : Postings) → is_below target (headed head rest) ≡ true → from target (headed head rest) ≡ from target rest
+pass_head : (target : ℕ) (head : Option (ℕ × ℕ)) (rest : Postings) → is_below target (headed head rest) ≡ true → from target (headed head rest) ≡ from target rest
 pass_head target None rest below = absurd (true≢false (sym below))
-pass_head target (Some p) rest below = from-below target p rest (ltb-true p.id target below)
+pass_head target (Some p) rest below = from-below target p rest (ltb-true p.0 target below)
 
 -- where the first entry is not below the target, nothing is passed over
 pub from-stays : (target : ℕ) (ps : Postings) → is_below target ps ≡ false → from target ps ≡ ps
 from-stays target [] above = refl
-from-stays target (p ∷ ps) above = from-at target p ps (ltb-false p.id target above)
+from-stays target (p ∷ ps) above = from-at target p ps (ltb-false p.0 target above)
 
 -- the entry read last, which was passed over, is below the target, as those before it
-passed_more : (target : ℕ) (list : Postings) (head : Option Posting) (begun count : ℕ)
+passed_more : (target : ℕ) (list : Postings) (head : Option (ℕ × ℕ)) (begun count : ℕ)
     → IsHeadAt head (begun + count) list
     → is_below target (headed head (drop (begun + count) list)) ≡ true
-    → All (λ p. p.id < target) (take (count - 1) (drop begun list))
-    → All (λ p. p.id < target) (take count (drop begun list))
-passed_more target list head begun zero on below before = All-nil (λ (p : Posting). p.id < target)
+    → All (λ p. p.0 < target) (take (count - 1) (drop begun list))
+    → All (λ p. p.0 < target) (take count (drop begun list))
+passed_more target list head begun zero on below before = All-nil (λ (p : ℕ × ℕ). p.0 < target)
 passed_more target list None begun (suc n) on below before = absurd (true≢false (sym below))
 passed_more target list (Some p) begun (suc n) on below before =
     let back : begun + suc n - 1 ≡ begun + n = omega arith in
     let longer : begun + suc n ≤ length list = on.within in
     let in_range : n < length (drop begun list) = omega (arith, length-drop begun list) in
     let here : get_or (drop begun list) n p ≡ p = get_or-drop begun list n p ∙ ap (λ i. get_or list i p) (sym back) ∙ on.is in
-    let last : (get_or (drop begun list) n p).id < target = rw here (ltb-true p.id target below) in
-    subst (λ m. All (λ (q : Posting). q.id < target) (take m (drop begun list))) (add-one n) (All-more (λ (q : Posting). q.id < target) (drop begun list) n p in_range (subst (λ m. All (λ (q : Posting). q.id < target) (take m (drop begun list))) (omega arith) before) last)
+    let last : (get_or (drop begun list) n p).0 < target = rw here (ltb-true p.0 target below) in
+    subst (λ m. All (λ (q : ℕ × ℕ). q.0 < target) (take m (drop begun list))) (add-one n) (All-more (λ (q : ℕ × ℕ). q.0 < target) (drop begun list) n p in_range (subst (λ m. All (λ (q : ℕ × ℕ). q.0 < target) (take m (drop begun list))) (omega arith) before) last)
 
 -- one entry more
 pub seek_more : (target : ℕ) (list : Postings) (old now next : Cursor) (count : ℕ)
@@ -76,7 +76,7 @@ seek_more target list old now next count far below some place on head = record {
   within = omega arith;
   passes = ap (from target) head ∙ sym (pass_head target now.head (unread now list) below) ∙ far.passes;
   stays = λ e. absurd (true≢false (sym below ∙ ap (λ (c : Cursor). is_below target (left c list)) (far.stays e).1 ∙ e));
-  beyond = subst (λ m. All (λ (q : Posting). q.id < target) (take m (unread old list))) (omega arith)
+  beyond = subst (λ m. All (λ (q : ℕ × ℕ). q.0 < target) (take m (unread old list))) (omega arith)
       (passed_more target list now.head old.read count
       (subst (λ n. IsHeadAt now.head n list) far.place far.on)
       (subst (λ n. is_below target (headed now.head (drop n list)) ≡ true) far.place below)

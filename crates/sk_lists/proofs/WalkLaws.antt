@@ -2,20 +2,21 @@
 use Rattle.std.proofs.Common.{◌≡◌, ℕ, ◌+◌, ◌<◌, ◌≤◌, ◌^◌, ◌-◌, [], ◌∷◌, ◌++◌, length, drop, min, None, Some, sym, ap, ◌∙◌, arith}
 use Rattle.std.proofs.lemmas.List.{append-nil, append_assoc, length-drop}
 use Rattle.sk_lists.specs.declared.cursor.Cursor.{Cursor}
-use Rattle.sk_lists.specs.Postings.{Postings, ArePostings, from, first_id, first_wdf}
+use Rattle.sk_sorted.specs.Entries.{AreSorted, from, first_id}
+use Rattle.sk_lists.specs.Postings.{Postings, first_wdf}
 use Rattle.sk_lists.specs.Cursor.{unread, left, IsOn}
 use Rattle.sk_lists.proofs.CursorLaws.{left-split, left-ended, unread-ended, from-left, unread-last}
 
 -- `found` went before what is left to the cursor, and `steps` were counted since `begun`
 pub record WalkedSoFar (list found : Postings) (c : Cursor) (begun steps : ℕ) : Type 0 where
-  pub sound : ArePostings list
+  pub sound : AreSorted list
   pub on : IsOn c list
   pub all : found ++ left c list ≡ list
   pub cost : steps + length (unread c list) ≡ begun + length list
 
 -- a walk begins with the cursor opened
 pub walk_begins : (list : Postings) (c : Cursor) (begun steps : ℕ)
-    → ArePostings list → IsOn c list → left c list ≡ list → unread c list ≡ drop 1 list → steps ≡ begun + min 1 (length list)
+    → AreSorted list → IsOn c list → left c list ≡ list → unread c list ≡ drop 1 list → steps ≡ begun + min 1 (length list)
     → WalkedSoFar list [] c begun steps
 walk_begins list c begun steps sound on whole rest paid = record {
   sound = sound;
@@ -32,12 +33,12 @@ pub walk_more : (list found : Postings) (c next : Cursor) (begun steps id count 
     → left next list ≡ from (id + 1) (left c list)
     → unread next list ≡ drop count (unread c list)
     → count ≤ length (unread c list)
-    → WalkedSoFar list (found ++ record { id = id; wdf = first_wdf (left c list) } ∷ []) next begun (steps + count)
+    → WalkedSoFar list (found ++ (id, first_wdf (left c list)) ∷ []) next begun (steps + count)
 walk_more list found c next begun steps id count far head on behind rest within = record {
   sound = far.sound;
   on = on;
-  all = append_assoc found (record { id = id; wdf = first_wdf (left c list) } ∷ []) (left next list)
-      ∙ ap (λ (l : Postings). found ++ record { id = id; wdf = first_wdf (left c list) } ∷ l) (behind ∙ from-left c list id far.sound far.on head)
+  all = append_assoc found ((id, first_wdf (left c list)) ∷ []) (left next list)
+      ∙ ap (λ (l : Postings). found ++ (id, first_wdf (left c list)) ∷ l) (behind ∙ from-left c list id far.sound far.on head)
       ∙ ap (λ (l : Postings). found ++ l) (sym (left-split c list id head))
       ∙ far.all;
   cost = omega (arith, far.cost, ap length rest, length-drop count (unread c list));
@@ -52,10 +53,10 @@ walk_ends list found c begun steps far ended = (
 
 -- the entry of the last id is the last
 pub walk_stops : (list found : Postings) (c : Cursor) (begun steps id : ℕ) → WalkedSoFar list found c begun steps → Some id ≡ first_id (left c list) → id ≡ 2 ^ 32 - 1
-    → (found ++ record { id = id; wdf = first_wdf (left c list) } ∷ [] ≡ list) × (steps ≡ begun + length list)
+    → (found ++ (id, first_wdf (left c list)) ∷ [] ≡ list) × (steps ≡ begun + length list)
 walk_stops list found c begun steps id far head last =
     let none = unread-last c list id far.sound far.on head last in (
-      ap (λ (l : Postings). found ++ record { id = id; wdf = first_wdf (left c list) } ∷ l) (sym none) ∙ ap (λ (l : Postings). found ++ l) (sym (left-split c list id head)) ∙ far.all,
+      ap (λ (l : Postings). found ++ (id, first_wdf (left c list)) ∷ l) (sym none) ∙ ap (λ (l : Postings). found ++ l) (sym (left-split c list id head)) ∙ far.all,
       omega (arith, far.cost, ap length none),
     )
 

@@ -1,4 +1,2 @@
 pub mod Postings
-pub mod Kept
-pub mod Places
 pub mod Cursor

@@ -1,10 +1,11 @@
 //! A place in a posting list, which only moves on.
 
 ghost use Rattle.std.specs.Prelude.{◌≡◌, ◌+◌, ◌-◌, ◌<◌, ◌≤◌, length, drop, take, min, All, false};
-ghost use Rattle.sk_lists.specs.Postings.{Postings, from, first_id, first_wdf, is_below};
+ghost use Rattle.sk_sorted.specs.Entries.{from, first_id};
+ghost use Rattle.sk_lists.specs.Postings.{Postings, first_wdf, is_below};
 ghost use Rattle.sk_lists.specs.Cursor.{unread, left, IsOn};
 
-use crate::{List, Posting};
+use crate::List;
 use sk_steps::Steps;
 use std::sync::ledger::Ledger;
 
@@ -12,7 +13,7 @@ use std::sync::ledger::Ledger;
 #[derive(Debug, Drop)]
 pub struct Cursor {
     read: u32,
-    head: Option<Posting>,
+    head: Option<(u32, u32)>,
 }
 
 impl Cursor {
@@ -58,7 +59,7 @@ impl Cursor {
 
         // It reads no entry without need.
         ensures stays { is_below target (left self.old list.now) ≡ false → (result ≡ 0) × (self.new ≡ self.old) }
-        ensures one_beyond { All (λ p. p.id < target) (take (result - 1) (unread self.old list.now)) }
+        ensures one_beyond { All (λ p. p.0 < target) (take (result - 1) (unread self.old list.now)) }
     {
         let mut count = 0u32;
         let length = list.length();
@@ -78,7 +79,7 @@ impl Cursor {
         ensures { (list : Postings) → IsOn self.now list → result ≡ first_id (left self.now list) }
     {
         let head = self.head?;
-        Some(head.id)
+        Some(head.0)
     }
 
     /// The head's wdf; 0 where the cursor has ended.
@@ -86,7 +87,7 @@ impl Cursor {
         ensures { (list : Postings) → IsOn self.now list → result ≡ first_wdf (left self.now list) }
     {
         match self.head {
-            Some(head) => head.wdf,
+            Some(head) => head.1,
             None => 0,
         }
     }
@@ -95,7 +96,7 @@ impl Cursor {
         ensures { (list : Postings) → result ≡ is_below target (left self.now list) }
     {
         match self.head {
-            Some(head) => head.id < target,
+            Some(head) => head.0 < target,
             None => false,
         }
     }
@@ -109,7 +110,7 @@ impl Cursor {
         ensures cost { steps.new ≡ steps.old + 1 }
     {
         let length = list.length();
-        self.head = Some(list.entries[self.read as usize]);
+        self.head = Some(list.entries.as_slice()[self.read as usize]);
         steps.tick();
         self.read += 1;
     }

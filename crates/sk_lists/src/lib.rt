@@ -3,10 +3,8 @@
 
 mod cursor;
 mod list;
-mod posting;
 #[cfg(test)]
 mod tests;
 
 pub use cursor::Cursor;
 pub use list::List;
-pub use posting::Posting;

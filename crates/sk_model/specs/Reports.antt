@@ -4,6 +4,7 @@ use Rattle.std.specs.Prelude.{◌≡◌, ◌≤◌, ◌+◌, ◌/◌, ℕ, List,
 use Rattle.std.specs.List.{AllZip}
 use Rattle.sk_base.specs.declared.find.Find.{Find}
 use Rattle.sk_base.specs.declared.rank.Rank.{Rank}
+use Rattle.sk_base.specs.declared.schema.Field.{Field}
 use Rattle.sk_base.specs.declared.report.Ranked.{Ranked}
 use Rattle.sk_base.specs.declared.report.Report.{Report}
 use Rattle.sk_base.specs.Numbers.{Docs}
@@ -51,6 +52,6 @@ abbrev pub ReportsOn : Option Tree → Find → Docs → Report → Type 0
 ReportsOn None find docs report = ⊥
 ReportsOn (Some query) find docs report = ReportsFor query find docs report
 
--- The same over the live documents.
-abbrev pub Reports : Find → Live → Report → Type 0
-Reports find live report = ReportsOn (query_of find.ask) find live.documents report
+-- The same under the fields of a schema, over the live documents.
+abbrev pub Reports : List Field → Find → Live → Report → Type 0
+Reports fields find live report = ReportsOn (query_of fields find.ask) find live.documents report

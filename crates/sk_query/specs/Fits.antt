@@ -91,10 +91,6 @@ abbrev mutual
 abbrev pub fits_tree : Tree → Bool
 fits_tree t = is_sound 1 t && nat_le (leaves_of t) 1024 && nat_le (depth_of t) 1000
 
--- What is left of a room behind so many leaves, and none where they do not fit.
-abbrev pub room_behind : ℕ → ℕ → Option ℕ
-room_behind room n = if nat_le n room then Some (room - n) else None
-
 -- The product of the factors above and a factor, where neither is too great.
 abbrev pub product_of : ℕ → ℕ → Option ℕ
 product_of above f = if is_factor f && is_factor (above * f) then Some (above * f) else None

@@ -2,24 +2,16 @@
 use Rattle.std.specs.Prelude.{ℕ, Bool, List, [], ◌∷◌, Option, Some, None, bytes_eq, codes, if◌then◌else◌, option_map}
 use Rattle.std.specs.Option.{option_and_then}
 use Rattle.serde_json.specs.Data.{Data, null, boolean, number, string, array, object, Items, no_items, item, Members, no_members, member}
-use Rattle.serde_json.specs.Find.{as_u64, as_number, as_str}
+use Rattle.serde_json.specs.Find.{as_u64}
+use Rattle.sk_json.specs.Values.{number_of, texts_of}
 use Rattle.sk_query.specs.declared.form.Form.{Form}
 use Rattle.sk_query.specs.Trees.{Limit, unbounded, Tree, nothing, all, term, wildcard, parts, near, phrase, synonym, scale, range, Trees, no_trees, tree}
 use Rattle.sk_query.specs.Trees.{number as number_limit, bytes as bytes_limit}
 use Rattle.sk_query.specs.Fits.{is_window, is_factor, is_slot, fits_tree}
 
--- The unsigned number of 64 bits that a value is.
-abbrev pub number_of : Data → Option ℕ
-number_of d = option_and_then as_u64 (as_number d)
-
 -- The number that a value is, where it passes the test.
 abbrev pub number_if : (ℕ → Bool) → Data → Option ℕ
 number_if test d = option_and_then (λ n. if test n then Some n else None) (number_of d)
-
--- Strings only.
-abbrev pub texts_of : Items → Option (List (List ℕ))
-texts_of no_items = Some []
-texts_of (item d ds) = option_and_then (λ text. option_map (λ texts. text ∷ texts) (texts_of ds)) (as_str d)
 
 -- A window and strings.
 abbrev pub windowed : Items → Option (ℕ × List (List ℕ))

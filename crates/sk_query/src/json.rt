@@ -5,15 +5,17 @@ ghost use Rattle.std.specs.List.{IsAmong};
 ghost use Rattle.std.specs.BTreeMap.{values};
 ghost use Rattle.serde_json.specs.Data.{array, no_members, member};
 ghost use Rattle.serde_json.specs.View.{view, items_view, members_view};
+ghost use Rattle.sk_json.specs.Values.{texts_of};
 ghost use Rattle.sk_query.specs.Trees.{limit_of, query_view, queries_view};
 ghost use Rattle.sk_query.specs.Fits.{is_window, is_factor, is_slot, fits_tree};
-ghost use Rattle.sk_query.specs.Reading.{number_if, texts_of, windowed, limit_of_value, range_of, string_named, empty_named, filled_named, leaf_named, parts_named, shape_of, shape_in, shape_named, scaled, shapes_of, tree_of};
+ghost use Rattle.sk_query.specs.Reading.{number_if, windowed, limit_of_value, range_of, string_named, empty_named, filled_named, leaf_named, parts_named, shape_of, shape_in, shape_named, scaled, shapes_of, tree_of};
 
 use crate::form::parts_named;
 use crate::limits::{is_factor, is_slot, is_window};
 use crate::{Bound, Queries, Query, TreeFault};
 use serde_json::{Map, Value};
-use sk_base::{Items, Text, Texts};
+use sk_base::{Text, Texts};
+use sk_json::texts_of;
 use std::alloc::Global;
 
 /// The query of a JSON value. `tree_of` in `specs/Reading.antt` says which it is.
@@ -175,7 +177,7 @@ fn filled_named(alloc: Global, name: &str, items: &[Value]) -> Result<Query, Tre
             Ok(Query::Phrase(window, texts))
         }
         "synonym" => {
-            let texts = texts_of(alloc, items)?;
+            let texts = texts_in(alloc, items)?;
             Ok(Query::Synonym(texts))
         }
         "range" => range_of(alloc, items),
@@ -194,26 +196,21 @@ fn windowed(alloc: Global, items: &[Value]) -> Result<(u32, Texts), TreeFault>
             let Some(window) = window_of(window) else {
                 return Err(TreeFault::Shape);
             };
-            let texts = texts_of(alloc, rest)?;
+            let texts = texts_in(alloc, rest)?;
             Ok((window, texts))
         }
     }
 }
 
 /// The strings of an array that holds nothing else.
-fn texts_of(alloc: Global, items: &[Value]) -> Result<Texts, TreeFault>
+fn texts_in(alloc: Global, items: &[Value]) -> Result<Texts, TreeFault>
     ensures ok { IfOk result (λ texts. texts_of (items_view items.now) ≡ Some texts) }
     ensures shape { result ≡ Err TreeFault.Shape → texts_of (items_view items.now) ≡ None }
 {
-    let mut texts = Items::new(alloc);
-    'items: for item in items {
-        let Some(text) = item.as_str() else {
-            return Err(TreeFault::Shape);
-        };
-        let text = Text::new(alloc, text)?;
-        texts.push(text)?;
+    match texts_of(alloc, items)? {
+        Some(texts) => Ok(texts),
+        None => Err(TreeFault::Shape),
     }
-    Ok(texts)
 }
 
 /// A slot and two ends.

@@ -1,14 +1,12 @@
 //! Which queries fit.
 ghost use Rattle.std.specs.Prelude.{◌≡◌, ◌&&◌, nat_le, bytes_eq};
 ghost use Rattle.std.specs.List.{list_all, list_any};
+ghost use Rattle.sk_json.specs.Values.{room_behind};
 ghost use Rattle.sk_query.specs.Trees.{query_view, queries_view};
-ghost use Rattle.sk_query.specs.Fits.{fits_tree, is_given, are_given, are_different, is_window, is_factor, is_slot, product_of, has_parts, is_sound, are_sound, leaves_of, leaves_in, depth_of, depth_in, room_behind};
+ghost use Rattle.sk_query.specs.Fits.{fits_tree, is_given, are_given, are_different, is_window, is_factor, is_slot, product_of, has_parts, is_sound, are_sound, leaves_of, leaves_in, depth_of, depth_in};
 
 use crate::Query;
-use sk_base::Text;
-
-/// How many leaves a query has at most.
-const MOST_LEAVES: usize = 1_024;
+use sk_base::{MOST_LEAVES, Text};
 
 /// How many queries stand one inside another at most.
 const MOST_DEPTH: usize = 1_000;

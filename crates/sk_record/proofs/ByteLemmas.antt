@@ -9,7 +9,7 @@ use Rattle.serde_json.specs.Data.{Data, null, boolean, number, string, array, ob
 use Rattle.serde_json.specs.Find.{get, get_member}
 use Rattle.sk_base.specs.declared.schema.Field.{Field}
 use Rattle.sk_base.specs.Fields.{clash, kinds_clash, are_apart}
-use Rattle.sk_record.specs.Values.{bytes_in, bytes_in_members}
+use Rattle.sk_json.specs.Values.{bytes_in, bytes_in_members}
 use Rattle.sk_record.proofs.Choices.{first_true, second_true, first_false}
 
 -- how many bytes the strings of a member have, if it is there

@@ -13,9 +13,9 @@ use Rattle.sk_base.specs.declared.schema.Field.{Field}
 use Rattle.sk_base.specs.declared.schema.FieldKind.{FieldKind}
 use Rattle.sk_base.specs.Fields.{IsSchema, is_field, are_apart}
 use Rattle.sk_base.specs.Records.{fits_kind, fits_field, fits_entry, bytes_of_texts, bytes_of_value, bytes_of_values, most_bytes, FitsValues}
-use Rattle.sk_record.specs.Values.{number_of, bytes_in, bytes_in_items}
+use Rattle.sk_json.specs.Values.{number_of, texts_of, bytes_in, bytes_in_items}
 use Rattle.sk_record.specs.Shapes.{Given}
-use Rattle.sk_record.specs.FieldRules.{texts_of, filter_texts, value_of, member_value, with_entry, entries_from, names_fields, entries_of, record_of}
+use Rattle.sk_record.specs.FieldRules.{filter_texts, value_of, member_value, with_entry, entries_from, names_fields, entries_of, record_of}
 use Rattle.sk_record.proofs.Choices.{some_is, chained, mapped, guarded, second_true}
 use Rattle.sk_record.proofs.ByteLemmas.{bytes_at, named_bytes, named_hold}
 

@@ -1,4 +1,4 @@
-mod ValueLemmas
+mod LineLemmas
 mod SchemaLemmas
 mod Choices
 mod ByteLemmas

@@ -2,7 +2,7 @@
 use Rattle.std.proofs.Common.{◌≡◌, ◌&&◌, suc, Bool, if◌then◌else◌, nat_le, List, [], ◌∷◌, length, None, refl, sym, ap, ◌∙◌}
 use Rattle.serde_json.specs.View.{items_view}
 use Rattle.serde_json.specs.declared.value.Value.{Value}
-use Rattle.sk_record.specs.Values.{count_items}
+use Rattle.sk_json.specs.Values.{count_items}
 use Rattle.sk_record.specs.SchemaFields.{fields_of, some_fields}
 
 pub count_items-items_view : (vs : List Value) → count_items (items_view vs) ≡ length vs

@@ -6,7 +6,7 @@ use Rattle.serde_json.specs.Data.{Data}
 use Rattle.serde_json.specs.Find.{get, as_str, as_object}
 use Rattle.sk_base.specs.declared.find.Options.{Options}
 use Rattle.sk_base.specs.Records.{most_bytes}
-use Rattle.sk_record.specs.Values.{has, has_only, text_at, number_of, between, optional_text, optional_number, bytes_in}
+use Rattle.sk_json.specs.Values.{has, has_only, text_at, number_of, between, optional_text, optional_number, bytes_in}
 use Rattle.sk_record.specs.Shapes.{Given, Asked, words, tree, Collapsed, Wanted, Shape, schema, add, replace, replace_by, delete, delete_by, seek, show}
 use Rattle.sk_record.specs.Options.{query_at, join_at, scheme_at, page_at, check_at, sorted_at, collapsed_on, collapsed_by, collapsed_at, options_at, wanted_at, option_names, find_row, tree_row}
 use Rattle.sk_record.specs.Rows.{values_of, given_at, id_at, pair_at, add_row, replace_row, replace_by_row, delete_row, delete_by_row, show_row, later_shape}

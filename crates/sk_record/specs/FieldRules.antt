@@ -15,18 +15,13 @@ use Rattle.sk_base.specs.declared.schema.FieldKind.{FieldKind}
 use Rattle.sk_base.specs.Fields.{are_fields}
 use Rattle.sk_base.specs.Terms.{prefixed}
 use Rattle.sk_record.specs.declared.row.Sort.{Sort}
-use Rattle.sk_record.specs.Values.{all_names, number_of}
+use Rattle.sk_json.specs.Values.{all_names, number_of, texts_of}
 use Rattle.sk_record.specs.Shapes.{Given, Sorted, by_relevance, by_field, Collapsed, Wanted, Shape, schema, add, replace, replace_by, delete, delete_by, seek, show}
 use Rattle.sk_record.specs.Told.{Sought, Told, opens, edits, finds, shows}
 
 -- The field with this name.
 abbrev pub field_named : List Field → List ℕ → Option Field
 field_named fields name = find (λ field. bytes_eq field.name name) fields
-
--- Strings only.
-abbrev pub texts_of : Items → Option (List (List ℕ))
-texts_of no_items = Some []
-texts_of (item d ds) = option_and_then (λ text. option_map (λ texts. text ∷ texts) (texts_of ds)) (as_str d)
 
 -- The texts of a filter: one string, or an array of strings, in order and with repeats.
 abbrev pub filter_texts : Data → Option (List (List ℕ))

@@ -1,4 +1,4 @@
-pub mod Values
+pub mod Lines
 pub mod Shapes
 pub mod SchemaFields
 pub mod Options

@@ -8,7 +8,7 @@ use Rattle.sk_base.specs.declared.find.Options.{Options}
 use Rattle.sk_base.specs.declared.find.Scheme.{Scheme}
 use Rattle.sk_base.specs.Records.{most_bytes}
 use Rattle.sk_record.specs.declared.row.Sort.{Sort}
-use Rattle.sk_record.specs.Values.{has, has_only, text_at, between, optional, optional_number, optional_flag}
+use Rattle.sk_json.specs.Values.{has, has_only, text_at, between, optional, optional_number, optional_flag}
 use Rattle.sk_record.specs.Shapes.{Asked, words, tree, Sorted, by_relevance, by_field, Collapsed, Wanted}
 
 -- The query text at a member, which is not too long.

@@ -6,7 +6,7 @@ use Rattle.sk_base.specs.declared.schema.Field.{Field}
 use Rattle.sk_base.specs.Fields.{IsSchema}
 use Rattle.sk_base.specs.Records.{most_bytes, FitsEdit, FitsFind}
 use Rattle.sk_record.specs.declared.fault.LineFault.{LineFault}
-use Rattle.sk_record.specs.Values.{has}
+use Rattle.sk_json.specs.Values.{has}
 use Rattle.sk_record.specs.Shapes.{Shape}
 use Rattle.sk_record.specs.Rows.{shape_of}
 use Rattle.sk_record.specs.Told.{Told, told_by}

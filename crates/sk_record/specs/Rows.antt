@@ -4,7 +4,7 @@ use Rattle.std.specs.Option.{option_and_then}
 use Rattle.serde_json.specs.Data.{Data}
 use Rattle.serde_json.specs.Find.{get, as_object}
 use Rattle.sk_base.specs.Records.{most_bytes}
-use Rattle.sk_record.specs.Values.{has, has_only, number_of, between, optional_text, two_texts, bytes_in}
+use Rattle.sk_json.specs.Values.{has, has_only, number_of, between, optional_text, two_texts, bytes_in}
 use Rattle.sk_record.specs.Shapes.{Given, Shape, schema, add, replace, replace_by, delete, delete_by, seek, show}
 use Rattle.sk_record.specs.SchemaFields.{schema_row}
 use Rattle.sk_record.specs.Options.{query_at, join_at, find_row, tree_row}

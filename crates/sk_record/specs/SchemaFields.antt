@@ -5,7 +5,7 @@ use Rattle.serde_json.specs.Data.{Data, Items, no_items, item}
 use Rattle.serde_json.specs.Find.{get, as_array}
 use Rattle.sk_base.specs.declared.schema.Field.{Field}
 use Rattle.sk_base.specs.declared.schema.FieldKind.{FieldKind}
-use Rattle.sk_record.specs.Values.{has_only, text_at, optional_text, optional_number, number_of, count_items}
+use Rattle.sk_json.specs.Values.{has_only, text_at, optional_text, optional_number, number_of, count_items}
 
 -- A number beyond 32 bits is taken as the greatest of 32 bits, which is out of range as well.
 abbrev pub capped : ℕ → ℕ

@@ -2,18 +2,18 @@
 ghost use Rattle.std.specs.Prelude.{◌≡◌, [], ◌++◌, IfOk, OnOk, is_some, option_map};
 ghost use Rattle.serde_json.specs.View.{view, items_view, members_view};
 ghost use Rattle.serde_json.specs.Find.{as_str};
-ghost use Rattle.sk_record.specs.Values.{all_names};
+ghost use Rattle.sk_json.specs.Values.{all_names};
 ghost use Rattle.sk_record.specs.Shown.{pair_shown, given_shown, asked_shown, sorted_shown, collapsed_shown, wanted_shown, shape_shown};
 ghost use Rattle.sk_record.specs.Told.{asked_by, sought_by, told_by};
-ghost use Rattle.sk_record.specs.FieldRules.{field_named, texts_of, filter_texts, value_of, member_value, with_entry, entries_from, names_fields, entries_of, record_of, prefix_named, kind_prefix, term_of, slot_named, kind_slot, keyed, order_of, collapse_of, sought_of, replaced_by, command_of};
+ghost use Rattle.sk_record.specs.FieldRules.{field_named, filter_texts, value_of, member_value, with_entry, entries_from, names_fields, entries_of, record_of, prefix_named, kind_prefix, term_of, slot_named, kind_slot, keyed, order_of, collapse_of, sought_of, replaced_by, command_of};
 
-use crate::json::number_of;
 use crate::row::{AskRow, CollapseRow, FindRow, OrderRow, RecordRow, Row, Sort, TextRow};
 use serde_json::{Map, Value};
 use sk_base::{
     Ask, Collapse, Command, Edit, Entries, Entry, Field, FieldKind, FieldValue, Find, Items, Order,
     Record, SortKey, Term, Text, Texts, prefixed,
 };
+use sk_json::{number_of, texts_of};
 use std::alloc::{AllocError, Global};
 
 /// The command of a row.
@@ -346,17 +346,4 @@ fn filter_texts(alloc: Global, value: &Value) -> Result<Option<Texts>, AllocErro
         Value::Array(items) => texts_of(alloc, items),
         _ => Ok(None),
     }
-}
-
-fn texts_of(alloc: Global, items: &[Value]) -> Result<Option<Texts>, AllocError>
-    ensures { IfOk result (λ t. t ≡ texts_of (items_view items.now)) }
-{
-    let mut texts = Items::new(alloc);
-    'items: for item in items {
-        let Some(text) = text_of(alloc, item)? else {
-            return Ok(None);
-        };
-        texts.push(text)?;
-    }
-    Ok(Some(texts))
 }

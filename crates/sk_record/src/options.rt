@@ -4,13 +4,10 @@ ghost use Rattle.serde_json.specs.View.{view};
 ghost use Rattle.sk_record.specs.Options.{query_at, join_named, join_at, scheme_named, scheme_at, page_at, check_at, relevance_at, by_field_at, sorted_named, sorted_at, not_collapsed, collapsed_on, collapsed_at, options_at, wanted_at, find_row, tree_row};
 ghost use Rattle.sk_record.specs.Shown.{asked_shown, sorted_shown, collapsed_shown, wanted_shown};
 
-use crate::json::{MOST_BYTES, between, has, has_only, optional_flag, optional_number, text_at};
 use crate::row::{AskRow, CollapseRow, FindRow, OrderRow, Sort};
 use serde_json::Value;
-use sk_base::{Join, Options, Scheme};
-
-/// The greatest rank that a page may reach.
-const MOST_HITS: u64 = 100_000;
+use sk_base::{Join, MOST_HITS, MOST_TEXT, Options, Scheme};
+use sk_json::{between, has, has_only, optional_flag, optional_number, text_at};
 
 /// A find by text.
 pub fn find_row(line: &Value) -> Option<FindRow<'_>>
@@ -47,7 +44,7 @@ pub fn query_at<'a>(line: &'a Value, name: &str) -> Option<&'a str>
     ensures { option_map (λ s. s.now) result ≡ query_at name.now (view line.entry.now) }
 {
     let text = text_at(line, name)?;
-    if text.len() > MOST_BYTES {
+    if text.len() > MOST_TEXT {
         return None;
     }
     Some(text)
@@ -128,7 +125,8 @@ fn page_at(line: &Value) -> Option<(u32, u32)>
 {
     let first = optional_number(line, "first", 0)?;
     let size = optional_number(line, "size", 10)?;
-    if first > MOST_HITS || size > MOST_HITS - first {
+    let most = u64::from(MOST_HITS);
+    if first > most || size > most - first {
         return None;
     }
     Some((first as u32, size as u32))
@@ -202,6 +200,6 @@ fn not_collapsed(line: &Value) -> Option<Option<CollapseRow<'_>>>
 fn collapsed_on<'a>(line: &Value, field: &'a str) -> Option<Option<CollapseRow<'a>>>
     ensures { option_map (option_map collapsed_shown) result ≡ collapsed_on (view line.now) field.entry.now }
 {
-    let max = between(1, MOST_HITS as u32, optional_number(line, "max", 1)?)?;
+    let max = between(1, MOST_HITS, optional_number(line, "max", 1)?)?;
     Some(Some(CollapseRow { field, max }))
 }

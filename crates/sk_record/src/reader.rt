@@ -2,16 +2,17 @@
 ghost use Rattle.std.specs.Prelude.{IfOk, Some, None};
 ghost use Rattle.std.specs.Option.{option_copied};
 ghost use Rattle.serde_json.specs.View.{view};
-ghost use Rattle.sk_record.specs.Values.{line_value};
+ghost use Rattle.sk_record.specs.Lines.{line_value};
 ghost use Rattle.sk_record.specs.Outcome.{outcome, value_outcome, ReadsAs, MayCome};
 
 use crate::LineFault;
-use crate::json::{has, line_value};
+use crate::json::line_value;
 use crate::judge::command_of;
 use crate::rows::later_row;
 use crate::schema::schema_row;
 use serde_json::Value;
 use sk_base::{Command, Schema};
+use sk_json::has;
 use std::alloc::Global;
 
 /// The command of a line, under the schema that was accepted before, if any.

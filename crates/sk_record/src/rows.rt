@@ -4,10 +4,11 @@ ghost use Rattle.serde_json.specs.View.{view};
 ghost use Rattle.sk_record.specs.Rows.{values_of, given_at, id_at, pair_at, add_row, replace_row, replace_by_row, delete_row, delete_by_row, show_row, later_shape};
 ghost use Rattle.sk_record.specs.Shown.{pair_shown, given_shown, shape_shown};
 
-use crate::json::{between, has, has_only, is_short, number_of, optional_text, two_texts};
 use crate::options::{find_row, join_at, query_at, tree_row};
 use crate::row::{RecordRow, Row, TextRow};
 use serde_json::Value;
+use sk_base::MOST_TEXT;
+use sk_json::{between, has, has_only, is_within, number_of, optional_text, two_texts};
 
 /// The row of a line that is no schema, by its first member.
 pub fn later_row(line: &Value) -> Option<Row<'_>>
@@ -112,7 +113,7 @@ fn given_at<'a>(line: &'a Value, name: &str) -> Option<RecordRow<'a>>
 fn values_of(value: &Value) -> Option<&Value>
     ensures { option_map (λ v. view v.now) result ≡ values_of (view value.entry.now) }
 {
-    if !value.is_object() || !is_short(value) {
+    if !value.is_object() || !is_within(value, MOST_TEXT) {
         return None;
     }
     Some(value)
@@ -127,5 +128,6 @@ fn id_at(line: &Value, name: &str) -> Option<u32>
 fn pair_at<'a>(line: &'a Value, name: &str) -> Option<TextRow<'a>>
     ensures { option_map pair_shown result ≡ pair_at name.now (view line.entry.now) }
 {
-    two_texts(line.get(name)?)
+    let (field, text) = two_texts(line.get(name)?)?;
+    Some(TextRow { field, text })
 }

@@ -6,13 +6,10 @@ ghost use Rattle.serde_json.specs.Find.{get, as_array};
 ghost use Rattle.sk_base.specs.declared.schema.FieldKind.TheVariants as FieldKind;
 ghost use Rattle.sk_record.specs.SchemaFields.{capped, text_kind, filter_kind, slot_at, kind_named, kind_of, field_of, fields_of, some_fields, schema_row};
 
-use crate::json::{has_only, number_of, optional_number, optional_text, text_at};
 use serde_json::Value;
-use sk_base::{Field, FieldKind, Text};
+use sk_base::{Field, FieldKind, MOST_FIELDS, Text};
+use sk_json::{has_only, number_of, optional_number, optional_text, text_at};
 use std::alloc::{AllocError, Global};
-
-/// How many fields a schema may have.
-const MOST_FIELDS: usize = 64;
 
 /// The fields of a schema line, none where it has not the shape of one.
 pub fn schema_row(alloc: Global, line: &Value) -> Result<Option<Vec<Field>>, AllocError>

@@ -1,2 +1,1 @@
-mod LiveLemmas
 mod WordLemmas

@@ -4,7 +4,7 @@ use Rattle.std.proofs.lemmas.Bool.Decides.{nat_tests}
 use Rattle.sk_text.specs.Terms.{folded_bytes, term_of}
 use Rattle.sk_query.specs.Trees.{term}
 use Rattle.sk_query.specs.Fits.{is_given, fits_tree}
-use Rattle.sk_run.specs.Asked.{is_word_text, is_one_word}
+use Rattle.sk_model.specs.Queries.{is_word_text, is_one_word}
 
 -- the first of two tests that hold
 first_holds : (a b : Bool) → (a && b) ≡ true → a ≡ true

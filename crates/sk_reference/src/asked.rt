@@ -1,14 +1,16 @@
 //! What a find asks for.
-ghost use Rattle.std.specs.Prelude.{◌≡◌, true, false, IfOk};
+ghost use Rattle.std.specs.Prelude.{◌≡◌, IfOk};
 ghost use Rattle.serde_json.specs.View.{view};
+ghost use Rattle.sk_base.specs.declared.find.Join.TheVariants as Join;
 ghost use Rattle.sk_query.specs.Reading.{tree_of};
-ghost use Rattle.sk_run.specs.Asked.{is_one_word};
-ghost use Rattle.sk_reference.specs.Wanting.{Wants, WantsText, WantsTree, FitsWanted};
+ghost use Rattle.sk_model.specs.Queries.{text_query};
+ghost use Rattle.sk_reference.specs.declared.asked.Wanted.TheVariants as Wanted;
+ghost use Rattle.sk_reference.specs.Wanting.{Wants, WantsOr, FitsWanted};
 
 use serde_json::Value;
-use sk_base::{Ask, Join, Text};
+use sk_base::{Ask, Join, Schema, Text};
+use sk_model::is_one_word;
 use sk_query::{Query, TreeFault, from_json};
-use sk_run::is_one_word;
 use sk_text::fold;
 use std::alloc::{AllocError, Global};
 
@@ -23,13 +25,13 @@ pub enum Wanted {
 }
 
 impl Wanted {
-    /// What the find asks for.
-    pub fn read(alloc: Global, ask: &Ask) -> Result<Wanted, AllocError>
-        ensures wants { IfOk result (λ wanted. Wants ask.now wanted) }
+    /// What the find asks for under the schema.
+    pub fn read(alloc: Global, schema: &Schema, ask: &Ask) -> Result<Wanted, AllocError>
+        ensures wants { IfOk result (λ wanted. Wants schema.now ask.now wanted) }
         ensures fits { IfOk result (λ wanted. FitsWanted wanted) }
     {
         match ask {
-            Ask::Text(text, Join::Or) => read_text(alloc, text.as_str()),
+            Ask::Text(text, Join::Or) => read_text(alloc, schema, text.as_str()),
             Ask::Text(_, Join::And) => Ok(Wanted::NotRead),
             Ask::Tree(value) => read_tree(alloc, value),
         }
@@ -37,8 +39,8 @@ impl Wanted {
 }
 
 /// One word asks for the documents that have its term.
-fn read_text(alloc: Global, text: &str) -> Result<Wanted, AllocError>
-    ensures wants { IfOk result (λ wanted. WantsText (is_one_word text.now) text.now wanted) }
+fn read_text(alloc: Global, schema: &Schema, text: &str) -> Result<Wanted, AllocError>
+    ensures wants { IfOk result (λ wanted. WantsOr Wanted.NotRead (text_query schema.now text.now Join.Or) wanted) }
     ensures fits { IfOk result (λ wanted. FitsWanted wanted) }
 {
     if !is_one_word(text) {
@@ -50,7 +52,7 @@ fn read_text(alloc: Global, text: &str) -> Result<Wanted, AllocError>
 }
 
 fn read_tree(alloc: Global, value: &Value) -> Result<Wanted, AllocError>
-    ensures wants { IfOk result (λ wanted. WantsTree (tree_of (view value.now)) wanted) }
+    ensures wants { IfOk result (λ wanted. WantsOr Wanted.NoQuery (tree_of (view value.now)) wanted) }
     ensures fits { IfOk result (λ wanted. FitsWanted wanted) }
 {
     match from_json(alloc, value) {

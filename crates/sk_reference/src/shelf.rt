@@ -1,36 +1,56 @@
-//! The live documents, as a plain map.
-ghost use Rattle.std.specs.Prelude.{◌≡◌, ◌≤◌, ◌<◌, ◌^◌, length, All, IfOk, Some, ℕ};
-ghost use Rattle.sk_base.specs.Records.{FitsEdit, FitsValues};
+//! The live documents, with nothing beside them.
+ghost use Rattle.std.specs.Prelude.{◌≡◌, ◌<◌, ◌^◌, length, All, Some, None, IfOk, OnOk};
+ghost use Rattle.sk_base.specs.Records.{FitsEdit};
 ghost use Rattle.sk_base.specs.Documents.{has_term};
-ghost use Rattle.sk_base.specs.declared.record.Edit.TheVariants as Edit;
-ghost use Rattle.sk_model.specs.Documents.{document_of};
-ghost use Rattle.sk_model.specs.Edits.{nothing_live, edited, reply_to, without_term, with_next, next_reply, with_document, first_with, with_first, first_reply};
-ghost use Rattle.sk_base.specs.Loads.{load_of, IsLight};
-ghost use Rattle.sk_reference.specs.Shelved.{Shelved};
+ghost use Rattle.sk_base.specs.Loads.{IsLight};
+ghost use Rattle.sk_model.specs.Edits.{nothing_live, edited, reply_to};
 
-use sk_base::{Doc, DocId, Edit, Record, Reply, Schema};
+use sk_base::{Doc, DocId, Edit, Reply, Schema};
+use sk_documents::{Beside, Documents};
 use std::alloc::{AllocError, Global};
 use std::collections::BTreeMap;
 use std::marker::Model;
 
+/// Nothing is kept beside the documents: those that have a term are looked for among all.
+#[derive(Debug, Drop)]
+struct Nothing {
+    alloc: Global,
+}
+
+impl Beside for Nothing {
+    ghost stands = { λ nothing docs. Unit {0} };
+
+    fn note(&mut self, _id: DocId, _doc: &Doc) -> Result<(), AllocError> {
+        Ok(())
+    }
+
+    fn forget(&mut self, _id: DocId, _doc: &Doc) {}
+
+    fn ids_with(
+        &mut self,
+        documents: &BTreeMap<DocId, Doc>,
+        term: &[u8],
+    ) -> Result<Vec<DocId>, AllocError> {
+        documents
+            .iter()
+            .filter(|(_, doc)| has_term(doc, term))
+            .map(|(id, _)| *id)
+            .collect(self.alloc)
+    }
+}
+
 /// The live documents under one schema, as a plain map. Contracts see it as what it holds.
 #[derive(Debug, Drop)]
 pub struct Shelf {
-    alloc: Global,
-    schema: Schema,
-    docs: BTreeMap<DocId, Doc>,
-    /// The highest id that was ever used, 0 at first.
-    highest: DocId,
+    documents: Documents<Nothing>,
 }
 
 impl Model for Shelf {
-    ghost use Rattle.sk_reference.specs.Shelved.{Shelved, IsShelved};
+    ghost use Rattle.sk_reference.specs.Shelved.{Shelved};
 
     ghost Value = { Shelved };
 
-    ghost view = { λ s. record { fields = s.schema; live = record { documents = s.docs.entries; highest = s.highest } } };
-
-    ghost invariant = { λ s. IsShelved (record { documents = s.docs.entries; highest = s.highest }) };
+    ghost view = { λ s. record { fields = s.documents.fields; live = s.documents.live } };
 }
 
 impl Shelf {
@@ -39,22 +59,19 @@ impl Shelf {
         ensures { result ≡ record { fields = schema; live = nothing_live } }
     {
         Shelf {
-            alloc,
-            schema,
-            docs: BTreeMap::new(alloc),
-            highest: 0,
+            documents: Documents::new(alloc, schema, Nothing { alloc }),
         }
     }
 
     pub fn schema(&self) -> &Schema
         ensures { result.now ≡ self.now.fields }
     {
-        &self.schema
+        self.documents.schema()
     }
 
     /// The allocator that it keeps.
     pub fn allocator(&self) -> Global {
-        self.alloc
+        self.documents.allocator()
     }
 
     /// The live documents.
@@ -63,7 +80,7 @@ impl Shelf {
         ensures light { All IsLight result.now.entries }
         ensures few { length result.now.entries < 2 ^ 32 }
     {
-        &self.docs
+        self.documents.map()
     }
 
     /// Changes the documents. Where memory runs out the shelf is given up.
@@ -73,166 +90,18 @@ impl Shelf {
         ensures reply { IfOk result (λ p. p.1 ≡ reply_to self.live edit) }
         ensures schema { IfOk result (λ p. p.0.fields ≡ self.fields) }
     {
-        match edit {
-            Edit::Add(given) => self.add(&given),
-            Edit::Replace(id, given) => self.replace(id, &given),
-            Edit::ReplaceBy(term, given) => self.replace_by(term.as_str(), &given),
-            Edit::Delete(id) => Ok(self.delete(id)),
-            Edit::DeleteBy(term) => Ok(self.delete_by(term.as_str())),
-        }
+        let Shelf { documents } = self;
+        let (documents, reply) = documents.apply(edit)?;
+        Ok((Shelf { documents }, reply))
     }
-
-    fn add(self, given: &Record) -> Result<(Shelf, Reply), AllocError>
-        requires fits { FitsValues self.fields given.now.values }
-        ensures live { IfOk result (λ p. p.0.live ≡ edited self.fields self.live (Edit.Add given.now)) }
-        ensures reply { IfOk result (λ p. p.1 ≡ reply_to self.live (Edit.Add given.now)) }
-        ensures schema { IfOk result (λ p. p.0.fields ≡ self.fields) }
-    {
-        let doc = self.build(given)?;
-        self.put_next(doc)
-    }
-
-    fn replace(self, id: DocId, given: &Record) -> Result<(Shelf, Reply), AllocError>
-        requires id { 1 ≤ id }
-        requires fits { FitsValues self.fields given.now.values }
-        ensures live { IfOk result (λ p. p.0.live ≡ edited self.fields self.live (Edit.Replace id given.now)) }
-        ensures reply { IfOk result (λ p. p.1 ≡ reply_to self.live (Edit.Replace id given.now)) }
-        ensures schema { IfOk result (λ p. p.0.fields ≡ self.fields) }
-    {
-        let doc = self.build(given)?;
-        let shelf = self.put(id, doc)?;
-        Ok((shelf, Reply::Id(id)))
-    }
-
-    fn replace_by(self, term: &str, given: &Record) -> Result<(Shelf, Reply), AllocError>
-        requires fits { FitsValues self.fields given.now.values }
-        ensures live { IfOk result (λ p. p.0.live ≡ edited self.fields self.live (Edit.ReplaceBy term.now given.now)) }
-        ensures reply { IfOk result (λ p. p.1 ≡ reply_to self.live (Edit.ReplaceBy term.now given.now)) }
-        ensures schema { IfOk result (λ p. p.0.fields ≡ self.fields) }
-    {
-        let doc = self.build(given)?;
-        self.put_first(term, doc)
-    }
-
-    fn delete(self, id: DocId) -> (Shelf, Reply)
-        ensures live { result.0.live ≡ edited self.fields self.live (Edit.Delete id) }
-        ensures reply { result.1 ≡ reply_to self.live (Edit.Delete id) }
-        ensures schema { result.0.fields ≡ self.fields }
-    {
-        let mut shelf = self;
-        match shelf.docs.remove(&id) {
-            Some(_) => (shelf, Reply::Done(1)),
-            None => (shelf, Reply::NotFound),
-        }
-    }
-
-    fn delete_by(self, term: &str) -> (Shelf, Reply)
-        ensures live { result.0.live ≡ edited self.fields self.live (Edit.DeleteBy term.now) }
-        ensures reply { result.1 ≡ reply_to self.live (Edit.DeleteBy term.now) }
-        ensures schema { result.0.fields ≡ self.fields }
-    {
-        let before = self.documents().len();
-        let shelf = self.without(term);
-        let count = before - shelf.documents().len();
-        (shelf, Reply::Done(count as u32))
-    }
-
-    /// The document that the record makes.
-    fn build(&self, given: &Record) -> Result<Doc, AllocError>
-        requires fits { FitsValues self.now.fields given.now.values }
-        ensures value { IfOk result (λ doc. doc ≡ document_of self.now.fields given.now) }
-        ensures light { IfOk result (λ doc. load_of doc.terms < 2 ^ 29) }
-    {
-        sk_docs::build(self.alloc, &self.schema, given)
-    }
-
-    /// The document under the next id, where one is left.
-    fn put_next(self, doc: Doc) -> Result<(Shelf, Reply), AllocError>
-        requires light { load_of doc.terms < 2 ^ 29 }
-        ensures live { IfOk result (λ p. p.0.live ≡ with_next self.live doc) }
-        ensures reply { IfOk result (λ p. p.1 ≡ next_reply self.live) }
-        ensures schema { IfOk result (λ p. p.0.fields ≡ self.fields) }
-    {
-        if self.highest == DocId::MAX {
-            return Ok((self, Reply::NoIdLeft));
-        }
-        let id = self.highest + 1;
-        let shelf = self.put(id, doc)?;
-        Ok((shelf, Reply::Id(id)))
-    }
-
-    /// The document in the place of the first that has the term, and of all others that have it.
-    fn put_first(self, term: &str, doc: Doc) -> Result<(Shelf, Reply), AllocError>
-        requires light { load_of doc.terms < 2 ^ 29 }
-        ensures live { IfOk result (λ p. p.0.live ≡ with_first self.live doc term.now (first_with term.now self.live.documents)) }
-        ensures reply { IfOk result (λ p. p.1 ≡ first_reply self.live (first_with term.now self.live.documents)) }
-        ensures schema { IfOk result (λ p. p.0.fields ≡ self.fields) }
-    {
-        let Some(id) = self.first_with(term) else {
-            return self.put_next(doc);
-        };
-        let shelf = self.without(term).put(id, doc)?;
-        Ok((shelf, Reply::Id(id)))
-    }
-
-    /// The document in the place of the one with the id, or as a new one.
-    fn put(self, id: DocId, doc: Doc) -> Result<Shelf, AllocError>
-        requires id { 1 ≤ id }
-        requires light { load_of doc.terms < 2 ^ 29 }
-        ensures live { IfOk result (λ shelf. shelf.live ≡ with_document self.live id doc) }
-        ensures schema { IfOk result (λ shelf. shelf.fields ≡ self.fields) }
-    {
-        let Shelf {
-            alloc,
-            schema,
-            mut docs,
-            highest,
-        } = self;
-        docs.insert(id, doc)?;
-        Ok(Shelf {
-            alloc,
-            schema,
-            docs,
-            highest: highest.max(id),
-        })
-    }
-
-    /// The lowest id of a document that has the term.
-    fn first_with(&self, term: &str) -> Option<DocId>
-        ensures value { result ≡ first_with term.now self.now.live.documents }
-        ensures within { (id : ℕ) → result ≡ Some id → (1 ≤ id) × (id ≤ self.now.live.highest) }
-    {
-        first_with(&self.docs, term)
-    }
-
-    /// The shelf without the documents that have the term.
-    fn without(self, term: &str) -> Shelf
-        ensures live { result.live ≡ record { documents = without_term term.now self.live.documents; highest = self.live.highest } }
-        ensures schema { result.fields ≡ self.fields }
-    {
-        let mut shelf = self;
-        shelf.docs.retain(|_, doc| !has_term(doc, term));
-        shelf
-    }
-}
-
-fn first_with(docs: &BTreeMap<DocId, Doc>, term: &str) -> Option<DocId>
-    ensures { result ≡ first_with term.now docs.now.entries }
-{
-    'docs: for (id, doc) in docs.iter() {
-        if has_term(doc, term) {
-            return Some(*id);
-        }
-    }
-    None
 }
 
 /// Whether the document has the term.
-fn has_term(doc: &Doc, term: &str) -> bool
+fn has_term(doc: &Doc, term: &[u8]) -> bool
     ensures { result ≡ has_term term.now doc.now.terms }
 {
     doc.terms
         .as_slice()
         .iter()
-        .any(|one| one.term.as_str() == term)
+        .any(|one| one.term.as_str().as_bytes() == term)
 }

@@ -1,28 +1,48 @@
 //! A shelf as the store of a run.
-ghost use Rattle.std.specs.Prelude.{◌≡◌, ◌+◌, ◌<◌, ◌^◌, true, length, All, IfOk};
+ghost use Rattle.std.specs.Prelude.{◌≡◌, ◌≤◌, ◌+◌, ◌<◌, ◌^◌, true, length, All, IfOk};
+ghost use Rattle.sk_base.specs.Loads.{IsLight};
+ghost use Rattle.sk_base.specs.Records.{FitsEdit, FitsFind};
+ghost use Rattle.sk_base.specs.declared.command.Command.TheVariants as Command;
 ghost use Rattle.sk_query.specs.Trees.{query_view};
 ghost use Rattle.sk_query.specs.Fits.{fits_tree};
-ghost use Rattle.sk_base.specs.Loads.{IsLight};
+ghost use Rattle.sk_model.specs.Edits.{Live};
 ghost use Rattle.sk_run.specs.Responses.{steps_of};
+ghost use Rattle.sk_run.specs.FindAnswers.{steps_in};
+ghost use Rattle.sk_run.specs.Machines.{Did};
+ghost use Rattle.sk_run.specs.Output.{DoesOnLive};
 ghost use Rattle.sk_reference.specs.Answers.{found_for, PlainAnswers};
+ghost use Rattle.sk_reference.specs.Shelved.{holds, fields_of};
 
 use crate::asked::Wanted;
 use crate::shelf::Shelf;
-use sk_base::{Doc, DocId, Edit, Find, Ranked, Reply, Schema};
+use sk_base::{Command, Doc, DocId, Edit, Find, Ranked, Schema};
 use sk_plain::report_of;
 use sk_query::Query;
-use sk_run::{Refusal, Response, Store};
+use sk_run::{FindAnswer, Refusal, Response, Store, response_to};
 use sk_steps::Steps;
 use std::alloc::{AllocError, Global};
 use std::collections::BTreeMap;
 use std::sync::ledger::Ledger;
 
 impl Store for Shelf {
-    ghost fields = { λ shelf. shelf.fields };
+    type Answer = FindAnswer;
 
-    ghost holds = { λ shelf live. shelf.live ≡ live };
+    ghost use Rattle.sk_model.specs.Edits.{Live, nothing_live};
+    ghost use Rattle.sk_run.specs.Output.{DoesOnLive, ClosesSilently};
+    ghost use Rattle.sk_reference.specs.Answers.{PlainAnswers};
+    ghost use Rattle.sk_reference.specs.Shelved.{holds, fields_of};
 
-    ghost finds = { PlainAnswers };
+    ghost fields = { fields_of };
+
+    ghost State = { Live };
+
+    ghost holds = { holds };
+
+    ghost begun = { nothing_live };
+
+    ghost does = { DoesOnLive PlainAnswers };
+
+    ghost closes = { ClosesSilently };
 
     fn new(alloc: Global, schema: Schema) -> Result<Shelf, AllocError> {
         Ok(Shelf::new(alloc, schema))
@@ -32,17 +52,52 @@ impl Store for Shelf {
         Shelf::schema(self)
     }
 
-    fn apply(self, edit: Edit) -> Result<(Shelf, Reply), AllocError> {
-        Shelf::apply(self, edit)
+    fn obey<L: Ledger>(
+        self,
+        command: Command,
+        steps: &mut Steps<L>,
+    ) -> Result<(Shelf, Response<FindAnswer>), AllocError> {
+        match command {
+            Command::Schema(_) => unreachable!(),
+            Command::Edit(edit) => apply(self, edit),
+            Command::Find(find) => {
+                let response = answer(&self, &find, steps)?;
+                Ok((self, response))
+            }
+            Command::Show(_, _) => Ok((self, Response::Refused(Refusal::BadShape))),
+        }
     }
 
-    fn answer<L: Ledger>(&self, find: &Find, steps: &mut Steps<L>) -> Result<Response, AllocError> {
-        let alloc = self.allocator();
-        match Wanted::read(alloc, &find.ask)? {
-            Wanted::Query(query) => found_for(alloc, self.documents(), &query, find, steps),
-            Wanted::NoQuery => Ok(Response::Refused(Refusal::BadTree)),
-            Wanted::NotRead => Ok(Response::Refused(Refusal::BadShape)),
-        }
+    fn close(self, _alloc: Global) -> Result<Response<FindAnswer>, AllocError> {
+        Ok(Response::Skipped)
+    }
+}
+
+fn apply(shelf: Shelf, edit: Edit) -> Result<(Shelf, Response<FindAnswer>), AllocError>
+    requires { FitsEdit (fields_of shelf) edit }
+    ensures did { IfOk result (λ p. Did fields_of holds (DoesOnLive PlainAnswers) shelf (Command.Edit edit) p.1 p.0) }
+    ensures schema { IfOk result (λ p. fields_of p.0 ≡ fields_of shelf) }
+    ensures cost { IfOk result (λ p. steps_of steps_in p.1 ≡ 0) }
+{
+    let (shelf, reply) = shelf.apply(edit)?;
+    Ok((shelf, response_to(reply)))
+}
+
+fn answer<L: Ledger>(
+    shelf: &Shelf,
+    find: &Find,
+    steps: &mut Steps<L>,
+) -> Result<Response<FindAnswer>, AllocError>
+    requires { FitsFind find.now }
+    ensures answer { IfOk result (λ answer. (live : Live) → holds shelf.now live → PlainAnswers (fields_of shelf.now) find.now live answer) }
+    ensures cost { IfOk result (λ answer. steps.new ≡ steps.old + steps_of steps_in answer) }
+    ensures later { steps.old ≤ steps.new }
+{
+    let alloc = shelf.allocator();
+    match Wanted::read(alloc, shelf.schema(), &find.ask)? {
+        Wanted::Query(query) => found_for(alloc, shelf.documents(), &query, find, steps),
+        Wanted::NoQuery => Ok(Response::Own(FindAnswer::BadTree)),
+        Wanted::NotRead => Ok(Response::Refused(Refusal::BadShape)),
     }
 }
 
@@ -53,16 +108,17 @@ fn found_for<L: Ledger>(
     query: &Query,
     find: &Find,
     steps: &mut Steps<L>,
-) -> Result<Response, AllocError>
+) -> Result<Response<FindAnswer>, AllocError>
     requires fits { fits_tree (query_view query.now) ≡ true }
     requires light { All IsLight docs.now.entries }
     requires few { length docs.now.entries < 2 ^ 32 }
     ensures answer { IfOk result (λ answer. answer ≡ found_for (query_view query.now) find.now docs.now.entries) }
-    ensures cost { IfOk result (λ answer. steps.new ≡ steps.old + steps_of answer) }
+    ensures cost { IfOk result (λ answer. steps.new ≡ steps.old + steps_of steps_in answer) }
+    ensures later { steps.old ≤ steps.new }
 {
     let report = report_of(alloc, docs, query, find)?;
     count(report.hits.as_slice(), steps);
-    Ok(Response::Found(find.options.first, report))
+    Ok(Response::Own(FindAnswer::Found(find.options.first, report)))
 }
 
 /// Counts one step for each hit.

@@ -1,4 +1,5 @@
-mod RunLemmas
 mod MachineLemmas
-mod Examples
+mod RunLemmas
 mod EndLemmas
+mod Examples
+mod RanLemmas

@@ -1,5 +1,5 @@
 -- How far a run over lines has come.
-use Rattle.std.proofs.Common.{◌≡◌, ◌<◌, ◌≤◌, ◌+◌, ◌^◌, ℕ, Bool, true, false, ◌||◌, if◌then◌else◌, ◌⊎◌, inl, inr, List, [], ◌∷◌, ◌++◌, length, Option, Some, None, Ok, sum_by, refl, sym, ap, ◌∙◌, subst, arith, append_assoc, append-nil, true≢false}
+use Rattle.std.proofs.Common.{◌≡◌, ◌<◌, ◌≤◌, ◌+◌, ◌^◌, ℕ, Bool, true, false, ◌||◌, if◌then◌else◌, ◌⊎◌, inl, inr, List, [], ◌∷◌, ◌++◌, length, Option, Some, None, Ok, sum_by, flat_map, refl, sym, ap, ◌∙◌, subst, arith, append_assoc, append-nil, true≢false}
 use Rattle.std.specs.List.{list_any}
 use Rattle.std.specs.Io.KnownBytes.{Appends, Keeps}
 use Rattle.std.proofs.KnownBytes.{Appends-nil, Appends-trans, Appends-kept}
@@ -9,22 +9,15 @@ use Rattle.std.proofs.lemmas.Grind.{flat_map-append}
 use Rattle.sk_io.specs.declared.line.Line.{Line}
 use Rattle.sk_io.specs.declared.line.Line.TheVariants.{Whole, TooLong}
 use Rattle.sk_io.specs.declared.line.LineStop.{LineStop}
-use Rattle.sk_io.specs.Causes.{Rose}
+use Rattle.sk_io.specs.Causes.{Rose, counted}
 use Rattle.sk_io.specs.Fronts.{AppendsFront, AppendsPrefix}
 use Rattle.sk_io.specs.Reading.{Reader, pending, StreamIs, outcome}
 use Rattle.sk_io.specs.Answers.{Charged, Ends, LineOf, LongLineOf, OpenLineOf, Stops, ReadsOn}
-use Rattle.sk_base.specs.declared.find.Find.{Find}
-use Rattle.sk_base.specs.declared.schema.Field.{Field}
-use Rattle.sk_model.specs.Edits.{Live}
-use Rattle.sk_run.specs.declared.machine.Machine.{Machine}
-use Rattle.sk_run.specs.declared.response.Response.{Response}
 use Rattle.sk_run.specs.declared.status.Status.{Status}
-use Rattle.sk_run.specs.Responses.{text_of, texts_of, is_refusal, steps_of}
-use Rattle.sk_run.specs.Output.{State, start, Answers, Runs, stop, line}
-use Rattle.sk_run.specs.Machines.{IsAt, Meets, Answered}
-use Rattle.sk_run.specs.Lines.{AnsweredLine}
-use Rattle.sk_run.specs.Ends.{EndsLine, Finishes, CutsShort, BreaksOff, TakesAll}
-use Rattle.sk_run.specs.Ended.{Outside, Told, Ended, Closed}
+use Rattle.sk_run.specs.Lines.{Runs, stop, line, Meets, Answered, AnsweredLine}
+use Rattle.sk_run.specs.Ends.{EndsLine, PutsFront, AnswersAll, AnswersTaken, AnswersFirst, AnswersSome, TakesAll, finished_status}
+use Rattle.sk_run.specs.Ended.{Outside, Told, Finishes, CutsShort, BreaksOff, RunsOut, Ended}
+use Rattle.sk_run.specs.Closing.{Output, ClosesWhole, ClosesInPart, ClosesWithout, Closed}
 
 -- as many bytes as are taken off the room were taken of the bytes
 pub record TakenSoFar (bytes : List ℕ) (reader : Reader) (left : Option (List ℕ)) : Type 0 where
@@ -86,8 +79,8 @@ read_on reader reader' left left' TooLong s is reads =
     let long : LongLineOf reader' left' s = reads.first s is in
     behind_line long.line reader' left' s long.first
 
-texts-push : (answers : List Response) (response : Response) → texts_of (answers ++ response ∷ []) ≡ texts_of answers ++ text_of response
-texts-push answers response = flat_map-append text_of answers (response ∷ []) ∙ ap (λ (w : List ℕ). texts_of answers ++ w) (append-nil (text_of response))
+texts-push : {R : Type 0} (text : R → List ℕ) (answers : List R) (answer : R) → flat_map text (answers ++ answer ∷ []) ≡ flat_map text answers ++ text answer
+texts-push text answers answer = flat_map-append text answers (answer ∷ []) ∙ ap (λ (w : List ℕ). flat_map text answers ++ w) (append-nil (text answer))
 
 -- what the sink took of the answers so far and of one text more
 record PutFront (held held_now : Option (List ℕ)) (before text : List ℕ) : Type 0 where
@@ -154,87 +147,79 @@ pub still_goes : (reader reader' : Reader) (left left' : Option (List ℕ)) (l :
 still_goes reader reader' left left' (Whole text) reads = reads.goes
 still_goes reader reader' left left' TooLong reads = reads.goes
 
-module _ (finds : Find → Live → Response → Type 0) where
-  -- nothing was read
-  pub never_begun : (bytes : List ℕ) (left held : Option (List ℕ)) → left ≡ Some bytes → BreaksOff finds bytes left held held
-  never_begun bytes left held told = record {
-    answers = [];
-    last = start;
-    pending = [];
-    rest = bytes;
-    shown = [];
-    hidden = [];
-    runs = stop;
-    left = told;
-    parts = refl;
-    text = Appends-nil held;
+or-false : (b : Bool) → (b || false) ≡ b
+or-false true = refl
+or-false false = refl
+
+-- For answers that have these texts, refuse their lines so and tell of so many readings.
+module _ {R : Type 0} (text : R → List ℕ) (refuses : R → Bool) (cost : R → ℕ) where
+  -- The answers so far were put, and counted.
+  pub record IsPut (answers : List R) (held held_now : Option (List ℕ)) (refused : Bool) (begun now : ℕ) : Type 0 where
+    pub put : Appends held held_now (flat_map text answers)
+    pub refusals : refused ≡ list_any refuses answers
+    pub paid : now ≡ begun + sum_by cost answers
+
+  pub none_put : (held : Option (List ℕ)) (begun : ℕ) → IsPut [] held held false begun begun
+  none_put held begun = record { put = Appends-nil held; refusals = refl; paid = omega arith }
+
+  -- One answer more was put.
+  pub put_more : (answers : List R) (held held_now held' : Option (List ℕ)) (refused refused' : Bool) (begun now now' : ℕ) (answer : R) (piece : List ℕ)
+      → IsPut answers held held_now refused begun now → piece ≡ text answer → Appends held_now held' piece → refused' ≡ (refused || refuses answer) → now' ≡ now + cost answer
+      → IsPut (answers ++ answer ∷ []) held held' refused' begun now'
+  put_more answers held held_now held' refused refused' begun now now' answer piece so is put refusal paid = record {
+    put =
+        subst (λ w. Appends held held' w) (ap (λ (w : List ℕ). flat_map text answers ++ w) is ∙ sym (texts-push text answers answer))
+        (Appends-trans held held_now held' (flat_map text answers) piece so.put put);
+    refusals = refusal ∙ ap (λ b. b || refuses answer) so.refusals ∙ sym (list_any-append refuses answers (answer ∷ []) ∙ ap (λ b. list_any refuses answers || b) (or-false (refuses answer)));
+    paid = omega (arith, paid, so.paid, sum_by-append cost answers (answer ∷ []));
   }
 
-  -- the end by what closing the sink answered
-  pub closed_end : (refused : Bool) (status : Status) (before after : Outside) (faults_now : ℕ)
-      → before.write_faults ≤ faults_now → Closed refused status faults_now after.write_faults after.settled
-      → ((s : Status) → s ≡ (if refused then Status.Refused else Status.Done) → Told before (λ bytes. Finishes finds bytes s after.left before.held after.held before.steps after.steps))
-      → Told before (λ bytes. BreaksOff finds bytes after.left before.held after.held)
-      → Ended finds status before after
-  closed_end refused Status.Done before after faults_now later closed all broken =
-      record { settled = closed.1; told = all Status.Done (sym (ap (λ b. if b then Status.Refused else Status.Done) closed.0)) }
-  closed_end refused Status.Refused before after faults_now later closed all broken =
-      record { settled = closed.1; told = all Status.Refused (sym (ap (λ b. if b then Status.Refused else Status.Done) closed.0)) }
-  closed_end refused Status.Usage before after faults_now later closed all broken = absurd closed
-  closed_end refused Status.ReadFault before after faults_now later closed all broken = absurd closed
-  closed_end refused Status.WriteFault before after faults_now later closed all broken =
-      record { cause = rose_since before.write_faults faults_now after.write_faults later closed; told = broken }
-  closed_end refused Status.Memory before after faults_now later closed all broken = absurd closed
-  closed_end refused Status.TooMuch before after faults_now later closed all broken = absurd closed
+  -- A front of one answer more was put.
+  pub put_in_part : (answers : List R) (held held_now held' : Option (List ℕ)) (answer : R) (piece : List ℕ)
+      → Appends held held_now (flat_map text answers) → piece ≡ text answer → AppendsPrefix held_now held' piece → PutsFront text (answers ++ answer ∷ []) held held'
+  put_in_part answers held held_now held' answer piece before is prefix =
+      let front : PutFront held held' (flat_map text answers) piece = put_front held held_now held' (flat_map text answers) piece before prefix in
+      record {
+        shown = front.shown;
+        hidden = front.hidden;
+        parts = texts-push text answers answer ∙ ap (λ (w : List ℕ). flat_map text answers ++ w) (sym is) ∙ front.parts;
+        put = front.put;
+      }
 
--- over a store that tells these
-module _ {M : Type 0} (fields : M → List Field) (holds : M → Live → Type 0) (finds : Find → Live → Response → Type 0) where
-  -- the first lines of the bytes were answered, and the others are to come
-  pub record Reached (bytes : List ℕ) (answers : List Response) (reader : Reader) (left : Option (List ℕ)) (machine : Machine M) : Type 0 where
-    pub state : State
+-- Over an answerer that stands for states, where a line may be answered so.
+module _ {W S R : Type 0} (Stands : W → S → Type 0) (Answers : S → List ℕ → R → S → Type 0) where
+  -- From a state on the first lines of the bytes were answered, and the others are to come.
+  pub record Reached (start : S) (bytes : List ℕ) (answers : List R) (reader : Reader) (left : Option (List ℕ)) (answerer : W) : Type 0 where
+    pub state : S
     pub lines : List ℕ
     pub stream : List ℕ
     pub behind : bytes ≡ lines ++ stream
     pub line_end : EndsLine lines ⊎ (reader.ended ≡ true)
-    pub goes_on : (more : List Response) (last : State) (rest : List ℕ) → Runs finds state stream more last rest → Runs finds start bytes (answers ++ more) last rest
+    pub goes_on : (more : List R) (last : S) (rest : List ℕ) → Runs Answers state stream more last rest → Runs Answers start bytes (answers ++ more) last rest
     pub is : StreamIs reader left stream
-    pub at : IsAt fields holds machine state
+    pub at : Stands answerer state
 
-  -- the answers so far were put, and counted
-  pub record SoFar (bytes : List ℕ) (reader : Reader) (left held held_now : Option (List ℕ)) (machine : Machine M) (refused : Bool) (begun now : ℕ) : Type 0 where
-    pub answers : List Response
-    pub reached : Reached bytes answers reader left machine
-    pub text : Appends held held_now (texts_of answers)
-    pub refusals : refused ≡ list_any is_refusal answers
-    pub cost : now ≡ begun + sum_by steps_of answers
-
-  -- at first no line was answered
-  pub begins : (bytes : List ℕ) (reader : Reader) (left held : Option (List ℕ)) (machine : Machine M) (begun : ℕ)
-      → reader ≡ record { held = []; given = 0; room = 2 ^ 40; stopped = None; ended = false } → left ≡ Some bytes → IsAt fields holds machine start
-      → SoFar bytes reader left held held machine false begun begun
-  begins bytes reader left held machine begun new told at = record {
-    answers = [];
-    reached = record {
-      state = start;
-      lines = [];
-      stream = bytes;
-      behind = refl;
-      line_end = inl (inl refl);
-      goes_on = λ more last rest runs. runs;
-      is = record { rest = bytes; told = told; is = ap (λ (r : Reader). pending r ++ bytes) (sym new); at_end = λ e. absurd (true≢false (sym e ∙ ap (λ (r : Reader). r.ended) new)) };
-      at = at;
-    };
-    text = Appends-nil held;
-    refusals = refl;
-    cost = omega arith;
+  -- At first no line was answered.
+  pub begins : (start : S) (bytes : List ℕ) (reader : Reader) (left : Option (List ℕ)) (answerer : W)
+      → reader ≡ record { held = []; given = 0; room = 2 ^ 40; stopped = None; ended = false } → left ≡ Some bytes → Stands answerer start
+      → Reached start bytes [] reader left answerer
+  begins start bytes reader left answerer new told at = record {
+    state = start;
+    lines = [];
+    stream = bytes;
+    behind = refl;
+    line_end = inl (inl refl);
+    goes_on = λ more last rest runs. runs;
+    is = record { rest = bytes; told = told; is = ap (λ (r : Reader). pending r ++ bytes) (sym new); at_end = λ e. absurd (true≢false (sym e ∙ ap (λ (r : Reader). r.ended) new)) };
+    at = at;
   }
 
-  -- the answer of one line more
-  one_more : (bytes : List ℕ) (answers : List Response) (reader reader' : Reader) (left left' : Option (List ℕ)) (machine machine' : Machine M) (response : Response) (text : List ℕ)
-      → (so : Reached bytes answers reader left machine) → (first : LineOf text reader' left' so.stream) → Answered fields holds finds machine text response machine'
-      → Reached bytes (answers ++ response ∷ []) reader' left' machine'
-  one_more bytes answers reader reader' left left' machine machine' response text so first answered =
-      let met : Meets fields holds (Answers finds so.state text response) machine' = answered so.state so.at in
+  -- The answer of one line more.
+  one_more : (start : S) (bytes : List ℕ) (answers : List R) (reader reader' : Reader) (left left' : Option (List ℕ)) (answerer answerer' : W) (answer : R) (text : List ℕ)
+      → (so : Reached start bytes answers reader left answerer) → (first : LineOf text reader' left' so.stream) → Answered Stands Answers answerer text answer answerer'
+      → Reached start bytes (answers ++ answer ∷ []) reader' left' answerer'
+  one_more start bytes answers reader reader' left left' answerer answerer' answer text so first answered =
+      let met : Meets Stands (Answers so.state text answer) answerer' = answered so.state so.at in
       let more : LinesMore bytes so.lines text first.after reader' = lines_more bytes so.lines text reader' left' so.stream so.behind first in
       record {
         state = met.next;
@@ -243,143 +228,101 @@ module _ {M : Type 0} (fields : M → List Field) (holds : M → Live → Type 0
         behind = more.behind;
         line_end = more.line_end;
         goes_on = λ more last rest runs.
-            subst (λ all. Runs finds start bytes all last rest) (sym (append_assoc answers (response ∷ []) more)) (so.goes_on (response ∷ more) last rest (line first.is_line met.allowed runs));
+            subst (λ all. Runs Answers start bytes all last rest) (sym (append_assoc answers (answer ∷ []) more)) (so.goes_on (answer ∷ more) last rest (line first.is_line met.allowed runs));
         is = first.goes_on;
         at = met.at;
       }
 
-  pub reach_more : (bytes : List ℕ) (answers : List Response) (reader reader' : Reader) (left left' : Option (List ℕ)) (machine machine' : Machine M) (response : Response) (l : Line)
-      → Reached bytes answers reader left machine → ReadsOn reader left reader' left' (outcome (Ok (Some l))) → AnsweredLine fields holds finds machine l response machine'
-      → Reached bytes (answers ++ response ∷ []) reader' left' machine'
-  reach_more bytes answers reader reader' left left' machine machine' response (Whole text) so reads answered =
-      one_more bytes answers reader reader' left left' machine machine' response text.now so (reads.first so.stream so.is) answered
-  reach_more bytes answers reader reader' left left' machine machine' response TooLong so reads answered =
+  pub reach_more : (start : S) (bytes : List ℕ) (answers : List R) (reader reader' : Reader) (left left' : Option (List ℕ)) (answerer answerer' : W) (answer : R) (l : Line)
+      → Reached start bytes answers reader left answerer → ReadsOn reader left reader' left' (outcome (Ok (Some l))) → AnsweredLine Stands Answers answerer l answer answerer'
+      → Reached start bytes (answers ++ answer ∷ []) reader' left' answerer'
+  reach_more start bytes answers reader reader' left left' answerer answerer' answer (Whole text) so reads answered =
+      one_more start bytes answers reader reader' left left' answerer answerer' answer text.now so (reads.first so.stream so.is) answered
+  reach_more start bytes answers reader reader' left left' answerer answerer' answer TooLong so reads answered =
       let long : LongLineOf reader' left' so.stream = reads.first so.stream so.is in
-      one_more bytes answers reader reader' left left' machine machine' response long.line so long.first (answered long.line long.long)
+      one_more start bytes answers reader reader' left left' answerer answerer' answer long.line so long.first (answered long.line long.long)
 
-  -- the line that was read is not answered
-  pub lost : (bytes : List ℕ) (reader reader' : Reader) (left left' held held_now : Option (List ℕ)) (machine : Machine M) (refused : Bool) (begun now : ℕ) (l : Line)
-      → SoFar bytes reader left held held_now machine refused begun now → ReadsOn reader left reader' left' (outcome (Ok (Some l))) → BreaksOff finds bytes left' held held_now
-  lost bytes reader reader' left left' held held_now machine refused begun now l so reads =
-      let ends : EndsIn left' so.reached.stream = read_on reader reader' left left' l so.reached.stream so.reached.is reads in
+  -- What was answered so far, where a text splits into what was taken and what is left.
+  stops_at : (start : S) (bytes : List ℕ) (answers : List R) (reader : Reader) (left : Option (List ℕ)) (answerer : W) (front rest : List ℕ)
+      → (so : Reached start bytes answers reader left answerer) → so.stream ≡ front ++ rest → Runs Answers start bytes answers so.state (front ++ rest)
+  stops_at start bytes answers reader left answerer front rest so is =
+      subst (λ all. Runs Answers start bytes all so.state (front ++ rest)) (append-nil answers)
+      (so.goes_on [] so.state (front ++ rest) (subst (λ s. Runs Answers so.state so.stream [] so.state s) is stop))
+
+  -- Nothing more is answered: of the lines behind, what the reader holds is pending.
+  pub first_ones : (start : S) (bytes : List ℕ) (answers : List R) (reader : Reader) (left : Option (List ℕ)) (answerer : W) → Reached start bytes answers reader left answerer → AnswersFirst Answers start bytes answers left
+  first_ones start bytes answers reader left answerer so = record {
+    last = so.state;
+    pending = pending reader;
+    rest = so.is.rest;
+    runs = stops_at start bytes answers reader left answerer (pending reader) so.is.rest so so.is.is;
+    left = so.is.told;
+  }
+
+  -- The line that was read is not answered.
+  pub lost : (start : S) (bytes : List ℕ) (answers : List R) (reader reader' : Reader) (left left' : Option (List ℕ)) (answerer : W) (l : Line)
+      → Reached start bytes answers reader left answerer → ReadsOn reader left reader' left' (outcome (Ok (Some l))) → AnswersFirst Answers start bytes answers left'
+  lost start bytes answers reader reader' left left' answerer l so reads =
+      let ends : EndsIn left' so.stream = read_on reader reader' left left' l so.stream so.is reads in
       record {
-        answers = so.answers;
-        last = so.reached.state;
+        last = so.state;
         pending = ends.front;
         rest = ends.rest;
-        shown = texts_of so.answers;
-        hidden = [];
-        runs =
-            subst (λ all. Runs finds start bytes all so.reached.state (ends.front ++ ends.rest)) (append-nil so.answers)
-            (so.reached.goes_on [] so.reached.state (ends.front ++ ends.rest) (subst (λ s. Runs finds so.reached.state so.reached.stream [] so.reached.state s) ends.is stop));
+        runs = stops_at start bytes answers reader left answerer ends.front ends.rest so ends.is;
         left = ends.told;
-        parts = sym (append-nil (texts_of so.answers));
-        text = so.text;
       }
 
-  -- the sink failed within the answer of a line
-  pub unwritten : (bytes : List ℕ) (reader reader' : Reader) (left left' held held_now held' : Option (List ℕ)) (machine machine' : Machine M) (refused : Bool) (begun now : ℕ) (l : Line) (response : Response) (text : List ℕ)
-      → SoFar bytes reader left held held_now machine refused begun now → ReadsOn reader left reader' left' (outcome (Ok (Some l))) → AnsweredLine fields holds finds machine l response machine'
-      → text ≡ text_of response → AppendsPrefix held_now held' text → BreaksOff finds bytes left' held held'
-  unwritten bytes reader reader' left left' held held_now held' machine machine' refused begun now l response text so reads answered is prefix =
-      let more : Reached bytes (so.answers ++ response ∷ []) reader' left' machine' = reach_more bytes so.answers reader reader' left left' machine machine' response l so.reached reads answered in
-      let front : PutFront held held' (texts_of so.answers) text = put_front held held_now held' (texts_of so.answers) text so.text prefix in
+  -- The source stopped.
+  pub cut : (start : S) (bytes : List ℕ) (answers : List R) (reader reader' : Reader) (left left' : Option (List ℕ)) (answerer : W) (why : LineStop)
+      → Reached start bytes answers reader left answerer → Stops reader left reader' left' why → (reader.ended ≡ true → ⊥) → AnswersTaken Answers start bytes answers left'
+  cut start bytes answers reader reader' left left' answerer why so stops not_ended =
+      let tail : OpenLineOf left' so.stream = stops.open_line so.stream so.is in
       record {
-        answers = so.answers ++ response ∷ [];
-        last = more.state;
-        pending = pending reader';
-        rest = more.is.rest;
-        shown = front.shown;
-        hidden = front.hidden;
-        runs =
-            subst (λ all. Runs finds start bytes all more.state (pending reader' ++ more.is.rest)) (append-nil (so.answers ++ response ∷ []))
-            (more.goes_on [] more.state (pending reader' ++ more.is.rest) (subst (λ s. Runs finds more.state more.stream [] more.state s) more.is.is stop));
-        left = more.is.told;
-        parts = texts-push so.answers response ∙ ap (λ (w : List ℕ). texts_of so.answers ++ w) (sym is) ∙ front.parts;
-        text = front.put;
-      }
-
-  -- a line was read, answered and its answer put
-  pub more_put : (bytes : List ℕ) (reader reader' : Reader) (left left' held held_now held' : Option (List ℕ)) (machine machine' : Machine M) (refused refused' : Bool) (begun now now' : ℕ) (l : Line) (response : Response) (text : List ℕ)
-      → SoFar bytes reader left held held_now machine refused begun now → ReadsOn reader left reader' left' (outcome (Ok (Some l))) → AnsweredLine fields holds finds machine l response machine'
-      → text ≡ text_of response → Appends held_now held' text → refused' ≡ (refused || is_refusal response) → now' ≡ now + steps_of response
-      → SoFar bytes reader' left' held held' machine' refused' begun now'
-  more_put bytes reader reader' left left' held held_now held' machine machine' refused refused' begun now now' l response text so reads answered is put refusal paid = record {
-    answers = so.answers ++ response ∷ [];
-    reached = reach_more bytes so.answers reader reader' left left' machine machine' response l so.reached reads answered;
-    text =
-        subst (λ w. Appends held held' w) (ap (λ (w : List ℕ). texts_of so.answers ++ w) is ∙ sym (texts-push so.answers response))
-        (Appends-trans held held_now held' (texts_of so.answers) text so.text put);
-    refusals = refusal ∙ ap (λ b. b || is_refusal response) so.refusals ∙ sym (list_any-append is_refusal so.answers (response ∷ []) ∙ ap (λ b. list_any is_refusal so.answers || b) (or-false (is_refusal response)));
-    cost = omega (arith, paid, so.cost, sum_by-append steps_of so.answers (response ∷ []));
-  }
-    where
-      or-false : (b : Bool) → (b || false) ≡ b
-      or-false true = refl
-      or-false false = refl
-
-  -- the source stopped
-  pub cut : (bytes : List ℕ) (reader reader' : Reader) (left left' held held_now : Option (List ℕ)) (machine : Machine M) (refused : Bool) (begun now : ℕ) (why : LineStop)
-      → SoFar bytes reader left held held_now machine refused begun now → Stops reader left reader' left' why → (reader.ended ≡ true → ⊥) → CutsShort finds bytes left' held held_now
-  cut bytes reader reader' left left' held held_now machine refused begun now why so stops not_ended =
-      let tail : OpenLineOf left' so.reached.stream = stops.open_line so.reached.stream so.reached.is in
-      record {
-        answers = so.answers;
-        last = so.reached.state;
-        lines = so.reached.lines;
-        is = so.reached.behind ∙ ap (λ (w : List ℕ). so.reached.lines ++ w) tail.is;
-        line_end = closed so.reached.line_end;
+        last = so.state;
+        lines = so.lines;
+        is = so.behind ∙ ap (λ (w : List ℕ). so.lines ++ w) tail.is;
+        line_end = closed so.line_end;
         open_line = tail.open_line;
         rest = tail.rest;
-        runs =
-            subst (λ all. Runs finds start bytes all so.reached.state (tail.open_line ++ tail.rest)) (append-nil so.answers)
-            (so.reached.goes_on [] so.reached.state (tail.open_line ++ tail.rest) (subst (λ s. Runs finds so.reached.state so.reached.stream [] so.reached.state s) tail.is stop));
+        runs = stops_at start bytes answers reader left answerer tail.open_line tail.rest so tail.is;
         no_end = tail.no_end;
         left = tail.told;
-        text = so.text;
       }
     where
-      closed : (EndsLine so.reached.lines ⊎ (reader.ended ≡ true)) → EndsLine so.reached.lines
+      closed : (EndsLine so.lines ⊎ (reader.ended ≡ true)) → EndsLine so.lines
       closed (inl line_end) = line_end
       closed (inr at_end) = absurd (not_ended at_end)
 
-  -- all lines were answered, by the status of the end
-  pub finished : (bytes : List ℕ) (reader reader' : Reader) (left left' held held_now held' : Option (List ℕ)) (machine : Machine M) (refused : Bool) (begun now : ℕ) (status : Status)
-      → SoFar bytes reader left held held_now machine refused begun now → Ends reader left reader' left' → Keeps held_now held' → status ≡ (if refused then Status.Refused else Status.Done)
-      → Finishes finds bytes status left' held held' begun now
-  finished bytes reader reader' left left' held held_now held' machine refused begun now status so ends keeps is =
-      let empty = ends.empty so.reached.stream so.reached.is in
-      let none : so.reached.stream ≡ [] = empty.0 in
-      let behind : StreamIs reader' left' [] = empty.1 in
-      record {
-        answers = so.answers;
-        last = so.reached.state;
-        runs =
-            subst (λ all. Runs finds start bytes all so.reached.state []) (append-nil so.answers)
-            (so.reached.goes_on [] so.reached.state [] (subst (λ s. Runs finds so.reached.state so.reached.stream [] so.reached.state s) none stop));
-        left = behind.told ∙ ap Some (behind.at_end ends.ended);
-        text = Appends-kept held held_now held' (texts_of so.answers) so.text keeps;
-        status_is = is ∙ ap (λ b. if b then Status.Refused else Status.Done) so.refusals;
-        steps = so.cost;
-      }
-
-  -- all lines were answered, and the sink failed at its end
-  pub unfinished : (bytes : List ℕ) (reader reader' : Reader) (left left' held held_now held' : Option (List ℕ)) (machine : Machine M) (refused : Bool) (begun now : ℕ)
-      → SoFar bytes reader left held held_now machine refused begun now → Ends reader left reader' left' → Keeps held_now held' → BreaksOff finds bytes left' held held'
-  unfinished bytes reader reader' left left' held held_now held' machine refused begun now so ends keeps =
-      let empty = ends.empty so.reached.stream so.reached.is in
+  -- The end was reached, and nothing closes the run.
+  pub unclosed : (start : S) (bytes : List ℕ) (answers : List R) (reader reader' : Reader) (left left' : Option (List ℕ)) (answerer : W)
+      → Reached start bytes answers reader left answerer → Ends reader left reader' left' → AnswersFirst Answers start bytes answers left'
+  unclosed start bytes answers reader reader' left left' answerer so ends =
+      let empty = ends.empty so.stream so.is in
       let none : StreamIs reader' left' [] = empty.1 in
       record {
-        answers = so.answers;
-        last = so.reached.state;
+        last = so.state;
         pending = pending reader';
         rest = none.rest;
-        shown = texts_of so.answers;
-        hidden = [];
-        runs =
-            subst (λ all. Runs finds start bytes all so.reached.state (pending reader' ++ none.rest)) (append-nil so.answers)
-            (so.reached.goes_on [] so.reached.state (pending reader' ++ none.rest) (subst (λ s. Runs finds so.reached.state so.reached.stream [] so.reached.state s) (empty.0 ∙ none.is) stop));
+        runs = stops_at start bytes answers reader left answerer (pending reader') none.rest so (empty.0 ∙ none.is);
         left = none.told;
-        parts = sym (append-nil (texts_of so.answers));
-        text = Appends-kept held held_now held' (texts_of so.answers) so.text keeps;
+      }
+
+  -- All lines were answered, and this closes the run.
+  pub closed_all : (Closes : S → R → Type 0) (start : S) (bytes : List ℕ) (answers : List R) (reader reader' : Reader) (left left' : Option (List ℕ)) (answerer : W) (closing : R)
+      → Reached start bytes answers reader left answerer → Ends reader left reader' left' → ((s : S) → Stands answerer s → Closes s closing)
+      → AnswersAll Answers Closes start bytes (answers ++ closing ∷ []) left'
+  closed_all Closes start bytes answers reader reader' left left' answerer closing so ends closes =
+      let empty = ends.empty so.stream so.is in
+      let none : so.stream ≡ [] = empty.0 in
+      let behind : StreamIs reader' left' [] = empty.1 in
+      record {
+        of_lines = answers;
+        closing = closing;
+        last = so.state;
+        all = refl;
+        runs =
+            subst (λ all. Runs Answers start bytes all so.state []) (append-nil answers)
+            (so.goes_on [] so.state [] (subst (λ s. Runs Answers so.state so.stream [] so.state s) none stop));
+        closes = closes so.state so.at;
+        left = behind.told ∙ ap Some (behind.at_end ends.ended);
       }

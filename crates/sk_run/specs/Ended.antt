@@ -1,62 +1,67 @@
 -- The ends of a run over lines, by status.
-use Rattle.std.specs.Prelude.{◌≡◌, ℕ, ◌^◌, Bool, true, false, List, Option, Some}
-use Rattle.sk_io.specs.Causes.{Rose}
-use Rattle.sk_base.specs.declared.find.Find.{Find}
-use Rattle.sk_model.specs.Edits.{Live}
-use Rattle.sk_run.specs.declared.response.Response.{Response}
+use Rattle.std.specs.Prelude.{◌≡◌, ℕ, ◌+◌, ◌≤◌, ◌^◌, Bool, true, List, Option, Some, ◌⊎◌, sum_by, flat_map}
+use Rattle.std.specs.Io.KnownBytes.{Appends}
+use Rattle.sk_io.specs.Causes.{Rose, counted}
 use Rattle.sk_run.specs.declared.status.Status.{Status}
 use Rattle.sk_run.specs.declared.status.Status.TheVariants.{Done, Refused, Usage, ReadFault, WriteFault, Memory, TooMuch}
-use Rattle.sk_run.specs.Ends.{Finishes, CutsShort, BreaksOff, TakesAll}
+use Rattle.sk_run.specs.Ends.{finished_status, PutsFront, AnswersAll, AnswersTaken, AnswersSome, TakesAll}
 
--- what a run sees of its source, its sink and its counter
+-- What a run sees of its source, its sink and its counter.
 pub record Outside : Type 0 where
   pub left : Option (List ℕ)
   pub read_faults : ℕ
   pub held : Option (List ℕ)
   pub write_faults : ℕ
   pub settled : Bool
+  pub finishes : ℕ
   pub steps : ℕ
 
--- where the source tells its bytes
+-- Where the source tells its bytes.
 abbrev pub Told : Outside → (List ℕ → Type 0) → Type 0
 Told before P = (bytes : List ℕ) → before.left ≡ Some bytes → P bytes
 
--- the input was read to its end
-pub record EndsFinished (finds : Find → Live → Response → Type 0) (status : Status) (before after : Outside) : Type 0 where
-  pub settled : after.settled ≡ true
-  pub told : Told before (λ bytes. Finishes finds bytes status after.left before.held after.held before.steps after.steps)
+-- For answers that have these texts, refuse their lines so and tell of so many readings; for what a line may be answered, and what closes the run; from each state that the run may begin in.
+module _ {S R : Type 0} (text : R → List ℕ) (refuses : R → Bool) (cost : R → ℕ) (Answers : S → List ℕ → R → S → Type 0) (Closes : S → R → Type 0) (Begins : S → Type 0) where
+  -- The input was read to its end, and the sink was to finish once, and did. Of any source: the sink took the texts of these answers and nothing else, the status tells whether one refuses its line, and the counter rose by the readings that they tell of.
+  pub record Finishes (status : Status) (before after : Outside) : Type 0 where
+    pub answers : List R
+    pub put : Appends before.held after.held (flat_map text answers)
+    pub status_is : status ≡ finished_status refuses answers
+    pub steps : after.steps ≡ before.steps + sum_by cost answers
+    pub settled : after.settled ≡ true
+    pub finishes : after.finishes ≡ counted before.finishes
+    pub lines : Told before (λ bytes. (s : S) → Begins s → AnswersAll Answers Closes s bytes answers after.left)
 
--- the source failed
-pub record EndsUnread (finds : Find → Live → Response → Type 0) (before after : Outside) : Type 0 where
-  pub cause : Rose before.read_faults after.read_faults
-  pub told : Told before (λ bytes. CutsShort finds bytes after.left before.held after.held)
+  -- The source stopped, for a fault or because too many bytes were taken. The sink was not to finish.
+  pub record CutsShort (before after : Outside) : Type 0 where
+    pub answers : List R
+    pub put : Appends before.held after.held (flat_map text answers)
+    pub steps : after.steps ≡ before.steps + sum_by cost answers
+    pub finishes : after.finishes ≡ before.finishes
+    pub lines : Told before (λ bytes. (s : S) → Begins s → AnswersTaken Answers s bytes answers after.left)
 
--- the sink failed
-pub record EndsUnwritten (finds : Find → Live → Response → Type 0) (before after : Outside) : Type 0 where
-  pub cause : Rose before.write_faults after.write_faults
-  pub told : Told before (λ bytes. BreaksOff finds bytes after.left before.held after.held)
+  -- The sink failed, when it took an answer or when it was to finish.
+  pub record BreaksOff (before after : Outside) : Type 0 where
+    pub answers : List R
+    pub put : PutsFront text answers before.held after.held
+    pub steps : after.steps ≡ before.steps + sum_by cost answers
+    pub finishes : (after.finishes ≡ before.finishes) ⊎ (after.finishes ≡ counted before.finishes)
+    pub lines : Told before (λ bytes. (s : S) → Begins s → AnswersSome Answers Closes s bytes answers after.left)
 
--- too many bytes were taken
-pub record EndsFull (finds : Find → Live → Response → Type 0) (before after : Outside) : Type 0 where
-  pub told : Told before (λ bytes. CutsShort finds bytes after.left before.held after.held)
-  pub taken : Told before (λ bytes. TakesAll (2 ^ 40) bytes after.left)
+  -- Memory ran out. The sink was not to finish, and the counter rose by no less than what the answers that were put tell of.
+  pub record RunsOut (before after : Outside) : Type 0 where
+    pub answers : List R
+    pub put : Appends before.held after.held (flat_map text answers)
+    pub steps : before.steps + sum_by cost answers ≤ after.steps
+    pub finishes : after.finishes ≡ before.finishes
+    pub lines : Told before (λ bytes. (s : S) → Begins s → AnswersSome Answers Closes s bytes answers after.left)
 
--- what each status says
-abbrev pub Ended : (Find → Live → Response → Type 0) → Status → Outside → Outside → Type 0
-Ended finds Done before after = EndsFinished finds Done before after
-Ended finds Refused before after = EndsFinished finds Refused before after
-Ended finds Usage before after = ⊥
-Ended finds ReadFault before after = EndsUnread finds before after
-Ended finds WriteFault before after = EndsUnwritten finds before after
-Ended finds Memory before after = Told before (λ bytes. BreaksOff finds bytes after.left before.held after.held)
-Ended finds TooMuch before after = EndsFull finds before after
-
--- what closing the sink answers
-abbrev pub Closed : Bool → Status → ℕ → ℕ → Bool → Type 0
-Closed refused Done faults_before faults_after settled = (refused ≡ false) × (settled ≡ true)
-Closed refused Refused faults_before faults_after settled = (refused ≡ true) × (settled ≡ true)
-Closed refused Usage faults_before faults_after settled = ⊥
-Closed refused ReadFault faults_before faults_after settled = ⊥
-Closed refused WriteFault faults_before faults_after settled = Rose faults_before faults_after
-Closed refused Memory faults_before faults_after settled = ⊥
-Closed refused TooMuch faults_before faults_after settled = ⊥
+  -- What each status says.
+  abbrev pub Ended : Status → Outside → Outside → Type 0
+  Ended Done before after = Finishes Done before after
+  Ended Refused before after = Finishes Refused before after
+  Ended Usage before after = ⊥
+  Ended ReadFault before after = CutsShort before after × Rose before.read_faults after.read_faults
+  Ended WriteFault before after = BreaksOff before after × Rose before.write_faults after.write_faults
+  Ended Memory before after = RunsOut before after
+  Ended TooMuch before after = CutsShort before after × Told before (λ bytes. TakesAll (2 ^ 40) bytes after.left)

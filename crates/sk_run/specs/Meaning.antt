@@ -1,10 +1,10 @@
 -- What a line means: nothing, a refusal, or what it tells.
 use Rattle.std.specs.Prelude.{ℕ, Bool, ◌||◌, ◌==◌, nat_lt, List, length, Option, Result, Ok, Err, if◌then◌else◌}
 use Rattle.std.specs.List.{list_all}
-use Rattle.sk_io.specs.declared.line.TheConstants.{MAX_LINE}
+use Rattle.sk_io.specs.LineText.{most_line}
 use Rattle.sk_base.specs.declared.schema.Field.{Field}
 use Rattle.sk_record.specs.declared.fault.LineFault.{LineFault}
-use Rattle.sk_record.specs.Values.{line_value}
+use Rattle.sk_record.specs.Lines.{line_value}
 use Rattle.sk_record.specs.Told.{Told}
 use Rattle.sk_record.specs.Outcome.{outcome}
 use Rattle.sk_run.specs.declared.refusal.Refusal.{Refusal}
@@ -34,5 +34,5 @@ meaning_of (Err LineFault.NoMemory) = unread
 -- The first of these that stands decides: too long, blank, the first fault of a command line, a command.
 abbrev pub meaning : Option (List Field) → List ℕ → Meaning
 meaning schema line =
-    if nat_lt MAX_LINE (length line) then refusal Refusal.TooLong
+    if nat_lt most_line (length line) then refusal Refusal.TooLong
     else (if is_blank line then blank else meaning_of (outcome schema (line_value line)))

@@ -1,51 +1,59 @@
--- What a run may answer to the lines that it reads, for any relation of what a find may be answered.
-use Rattle.std.specs.Prelude.{◌≡◌, ℕ, List, [], ◌∷◌, length, Option, Some, None}
-use Rattle.sk_io.specs.LineText.{IsLine}
+-- What a line of commands may be answered, for any store of documents.
+use Rattle.std.specs.Prelude.{◌≡◌, ℕ, List, length, Option, Some, None}
+use Rattle.std.specs.Option.{option_map}
 use Rattle.sk_base.specs.declared.command.Command.{Command}
 use Rattle.sk_base.specs.declared.find.Find.{Find}
-use Rattle.sk_base.specs.declared.record.Edit.{Edit}
 use Rattle.sk_base.specs.declared.schema.Field.{Field}
 use Rattle.sk_record.specs.Told.{told_by}
-use Rattle.sk_model.specs.Edits.{Live, nothing_live, edited, reply_to}
+use Rattle.sk_model.specs.Edits.{Live, edited, reply_to}
 use Rattle.sk_run.specs.declared.refusal.Refusal.TheVariants as Refusal
 use Rattle.sk_run.specs.declared.response.Response.{Response}
 use Rattle.sk_run.specs.Responses.{response_to}
 use Rattle.sk_run.specs.Meaning.{Meaning, blank, refusal, told, unread, meaning}
 
--- The state of a run: the schema that was accepted, if any, and the live documents.
-pub record State : Type 0 where
-  pub schema : Option (List Field)
-  pub live : Live
+-- The state of a run over a store with states of its own: nothing yet, or the schema that was accepted and the state under it.
+abbrev pub State : Type 0 → Type 0
+State S = Option (List Field × S)
 
--- A run begins without a schema and without documents.
-abbrev pub start : State
-start = record { schema = None; live = nothing_live }
+-- The schema that was accepted, if any.
+abbrev pub schema_of : {S : Type 0} → State S → Option (List Field)
+schema_of s = option_map (λ p. p.0) s
 
--- An edit is answered its reply, and leaves the documents that it makes under the fields that were accepted. Before that there is none.
-abbrev pub ObeysEdit : Option (List Field) → State → Edit → Response → State → Type 0
-ObeysEdit None s edit answer next = ⊥
-ObeysEdit (Some fields) s edit answer next = (answer ≡ response_to (reply_to s.live edit)) × (next ≡ record s { live = edited fields s.live edit })
-
--- What a command is answered, and the state that it leaves. A find is answered as it may be over the live documents, and leaves the state as it was. (To show a query is a form that is not built as yet.)
-abbrev pub Obeys : (Find → Live → Response → Type 0) → State → Command → Response → State → Type 0
-Obeys finds s (Command.Schema fields) answer next = (answer ≡ Response.Schema (length fields)) × (next ≡ record s { schema = Some fields })
-Obeys finds s (Command.Edit edit) answer next = ObeysEdit s.schema s edit answer next
-Obeys finds s (Command.Find find) answer next = finds find s.live answer × (next ≡ s)
-Obeys finds s (Command.Show text join) answer next = (answer ≡ Response.Refused Refusal.BadShape) × (next ≡ s)
+-- What a command is answered, and the state that it leaves: a schema begins a store, and every other command is the store's.
+abbrev pub Obeys : {S A : Type 0} → S → (List Field → S → Command → Response A → S → Type 0) → State S → Command → Response A → State S → Type 0
+Obeys begun Does None (Command.Schema fields) answer next = (answer ≡ Response.Schema (length fields)) × (next ≡ Some (fields, begun))
+Obeys begun Does None (Command.Edit edit) answer next = ⊥
+Obeys begun Does None (Command.Find find) answer next = ⊥
+Obeys begun Does None (Command.Show text join) answer next = ⊥
+Obeys {S} begun Does (Some s) command answer next = (after : S) × Does s.0 s.1 command answer after × (next ≡ Some (s.0, after))
 
 -- What a line of this meaning is answered. A blank line and a refused one leave the state as it was. A line that tells something is obeyed as the command that tells it.
-abbrev pub Follows : (Find → Live → Response → Type 0) → State → Meaning → Response → State → Type 0
-Follows finds s blank answer next = (answer ≡ Response.Skipped) × (next ≡ s)
-Follows finds s (refusal why) answer next = (answer ≡ Response.Refused why) × (next ≡ s)
-Follows finds s (told it) answer next = (c : Command) × (it ≡ told_by c) × Obeys finds s c answer next
-Follows finds s unread answer next = ⊥
+abbrev pub Follows : {S A : Type 0} → S → (List Field → S → Command → Response A → S → Type 0) → State S → Meaning → Response A → State S → Type 0
+Follows begun Does s blank answer next = (answer ≡ Response.Skipped) × (next ≡ s)
+Follows begun Does s (refusal why) answer next = (answer ≡ Response.Refused why) × (next ≡ s)
+Follows begun Does s (told it) answer next = (c : Command) × (it ≡ told_by c) × Obeys begun Does s c answer next
+Follows begun Does s unread answer next = ⊥
 
 -- In this state the line may be answered so, and leaves that state.
-abbrev pub Answers : (Find → Live → Response → Type 0) → State → List ℕ → Response → State → Type 0
-Answers finds s line answer next = Follows finds s (meaning s.schema line) answer next
+abbrev pub Answers : {S A : Type 0} → S → (List Field → S → Command → Response A → S → Type 0) → State S → List ℕ → Response A → State S → Type 0
+Answers begun Does s line answer next = Follows begun Does s (meaning (schema_of s) line) answer next
 
--- From a state on, the first lines of the bytes may be answered so, one answer a line; they leave a state, and bytes that were not read.
-pub data Runs (finds : Find → Live → Response → Type 0) : State → List ℕ → List Response → State → List ℕ → Type 0 where
-  stop : {s : State} {bytes : List ℕ} → Runs finds s bytes [] s bytes
-  line : {s next last : State} {bytes text after rest : List ℕ} {answer : Response} {answers : List Response}
-      → IsLine text bytes after → Answers finds s text answer next → Runs finds next after answers last rest → Runs finds s bytes (answer ∷ answers) last rest
+-- What is put behind the answers of all lines: nothing before a schema was accepted, and then what the store closes with.
+abbrev pub Closes : {S A : Type 0} → (List Field → S → Response A → Type 0) → State S → Response A → Type 0
+Closes Ends None answer = answer ≡ Response.Skipped
+Closes Ends (Some s) answer = Ends s.0 s.1 answer
+
+-- What a command does to live documents alone, where a find may be answered as `Finds` says: an edit is answered its reply, and leaves the documents that it makes; a find leaves them as they were. (To show a query is a form that is not built as yet.)
+abbrev pub DoesOnLive : {A : Type 0} → (List Field → Find → Live → Response A → Type 0) → List Field → Live → Command → Response A → Live → Type 0
+DoesOnLive Finds fields live (Command.Schema given) answer next = ⊥
+DoesOnLive Finds fields live (Command.Edit edit) answer next = (answer ≡ response_to (reply_to live edit)) × (next ≡ edited fields live edit)
+DoesOnLive Finds fields live (Command.Find find) answer next = Finds fields find live answer × (next ≡ live)
+DoesOnLive Finds fields live (Command.Show text join) answer next = (answer ≡ Response.Refused Refusal.BadShape) × (next ≡ live)
+
+-- Nothing is put at the end.
+abbrev pub ClosesSilently : {S A : Type 0} → List Field → S → Response A → Type 0
+ClosesSilently fields s answer = answer ≡ Response.Skipped
+
+-- A run begins without a schema.
+abbrev pub Begins : {S : Type 0} → State S → Type 0
+Begins s = s ≡ None

@@ -1,7 +1,7 @@
--- How a refusal is printed.
+-- How a refusal is printed that any store knows.
 use Rattle.std.specs.Prelude.{ℕ, List, codes}
 use Rattle.sk_run.specs.declared.refusal.Refusal.{Refusal}
-use Rattle.sk_run.specs.declared.refusal.Refusal.TheVariants.{TooLong, NotJson, NoSchema, SchemaAgain, BadShape, BadField, NoIdLeft, NotFound, BadTree}
+use Rattle.sk_run.specs.declared.refusal.Refusal.TheVariants.{TooLong, NotJson, NoSchema, SchemaAgain, BadShape, BadField, NoIdLeft, NotFound}
 
 -- The number that is printed behind `refused`.
 abbrev pub number_of : Refusal → ℕ
@@ -13,7 +13,6 @@ number_of BadShape = 5
 number_of BadField = 6
 number_of NoIdLeft = 7
 number_of NotFound = 8
-number_of BadTree = 10
 
 -- The name that is printed behind the number.
 abbrev pub name_of : Refusal → List ℕ
@@ -25,4 +24,3 @@ name_of BadShape = codes "BadShape"
 name_of BadField = codes "BadField"
 name_of NoIdLeft = codes "NoIdLeft"
 name_of NotFound = codes "NotFound"
-name_of BadTree = codes "BadTree"

@@ -1,17 +1,22 @@
 //! The form of words `run`.
-ghost use Rattle.std.specs.Prelude.{◌≡◌, ◌^◌, ◌↔◌, ℕ, List, Some, true, false, map, string_bytes};
-ghost use Rattle.sk_io.specs.Causes.{Rose};
-ghost use Rattle.sk_run.specs.Statuses.{IsFinished, IsCutShort, IsBrokenOff};
-ghost use Rattle.sk_run.specs.Ends.{Finishes, CutsShort, BreaksOff, TakesAll};
-ghost use Rattle.sk_run.specs.Forms.{is_form};
+ghost use Rattle.std.specs.Prelude.{◌≡◌, drop, map, string_bytes, None, IfOk, IfErr, IsErr};
+ghost use Rattle.sk_run.specs.declared.status.Status.TheVariants as Status;
+ghost use Rattle.sk_run.specs.Responses.{text_of, is_refusal, steps_of};
+ghost use Rattle.std.specs.IoError.{error_kind};
+ghost use Rattle.sk_run.specs.Forms.{is_form, status_for};
+ghost use Rattle.sk_run.specs.Output.{Answers, Closes, Begins};
+ghost use Rattle.sk_run.specs.Ended.{Outside};
+ghost use Rattle.sk_run.specs.Ran.{Ran};
 
+use crate::machine::Machine;
 use crate::runs::answer_lines;
 use crate::{Status, Store};
 use sk_io::{Sink, Source};
 use sk_steps::Steps;
-use std::alloc::Global;
+use std::alloc::{AllocError, Global};
 use std::sync::ledger::Ledger;
-use std::{env, io};
+use std::env::Args;
+use std::io;
 
 /// Does what the words ask for. `run`: each line of `input` is a command, obeyed by a store of its own, and is answered on
 /// `output` before the next line is read.
@@ -22,32 +27,15 @@ pub fn run<M: Store, S: Source, K: Sink, L: Ledger>(
     output: &mut K,
     steps: &mut Steps<L>,
 ) -> Status
-    // The input was read to its end: the output is one that the definitions allow, and the counter rose by the steps printed.
-    ensures whole { IsFinished result → (bytes : List ℕ) → S.left input.old ≡ Some bytes
-        → Finishes M.finds bytes result (S.left input.new) (K.held output.old) (K.held output.new) steps.old steps.new }
-    ensures settled { IsFinished result → K.settled output.new ≡ true }
-
-    // The words are no form, and nothing was read or written.
-    ensures usage { (result ≡ Status.Usage) ↔ (is_form (map string_bytes words.now) ≡ false) }
-    ensures untouched { result ≡ Status.Usage → (input.new ≡ input.old) × (output.new ≡ output.old) × (steps.new ≡ steps.old) }
-
-    // Why the run stopped before the end.
-    ensures read_fault { result ≡ Status.ReadFault → Rose (S.faults input.old) (S.faults input.new) }
-    ensures write_fault { result ≡ Status.WriteFault → Rose (K.faults output.old) (K.faults output.new) }
-    ensures too_much { result ≡ Status.TooMuch → (bytes : List ℕ) → S.left input.old ≡ Some bytes
-        → TakesAll (2 ^ 40) bytes (S.left input.new) }
-
-    // What was put then: after a read fault or too much, the answers to all lines whose end was taken; after a write fault or
-    // want of memory, a front of the answers.
-    ensures cut_short { IsCutShort result → (bytes : List ℕ) → S.left input.old ≡ Some bytes
-        → CutsShort M.finds bytes (S.left input.new) (K.held output.old) (K.held output.new) }
-    ensures broken_off { IsBrokenOff result → (bytes : List ℕ) → S.left input.old ≡ Some bytes
-        → BreaksOff M.finds bytes (S.left input.new) (K.held output.old) (K.held output.new) }
+    ensures ran { Ran (text_of M.Answer.text) (is_refusal M.Answer.refuses) (steps_of M.Answer.steps) (Answers M.begun M.does) (Closes M.closes) Begins (map string_bytes words.now) result
+        (record { left = S.left input.old; read_faults = S.faults input.old; held = K.held output.old; write_faults = K.faults output.old; settled = K.settled output.old; finishes = K.finishes output.old; steps = steps.old })
+        (record { left = S.left input.new; read_faults = S.faults input.new; held = K.held output.new; write_faults = K.faults output.new; settled = K.settled output.new; finishes = K.finishes output.new; steps = steps.new }) }
+    ensures untouched { result ≡ Status.Usage → (input.new ≡ input.old) × (output.new ≡ output.old) }
 {
     if !is_form(words) {
         return Status::Usage;
     }
-    answer_lines::<M, _, _, _>(alloc, input, output, steps)
+    answer_lines(alloc, Machine::<M>::new(), input, output, steps)
 }
 
 fn is_form(words: &[String]) -> bool
@@ -59,19 +47,51 @@ fn is_form(words: &[String]) -> bool
     }
 }
 
-/// The words behind the program's name. Words that are not UTF-8 are none of the forms.
-pub fn words(rt: &HostRuntime) -> Result<Vec<String>, Status> {
-    match env::args(rt) {
-        Ok(args) => match args.skip(1).collect(rt.alloc()) {
+/// The arguments of a program, where they were read. Arguments that are not UTF-8 are none of the forms.
+pub fn arguments(alloc: Global, args: io::Result<Args>) -> Result<Vec<String>, Status>
+    ensures words { IfOk args (λ all. IfOk result (λ words. words.items ≡ all.rest.items)) }
+    ensures wanting { IfOk args (λ all. IfErr result (λ status. status ≡ Status.Memory)) }
+    ensures unread { IfErr args (λ error. IfErr result (λ status. status ≡ status_for (error_kind error))) }
+    ensures refused { IfErr args (λ error. IsErr result) }
+{
+    match args {
+        Ok(all) => match collected(alloc, all) {
             Ok(words) => Ok(words),
             Err(_) => Err(Status::Memory),
         },
         Err(error) => {
-            if error.kind() == io::ErrorKind::OutOfMemory {
-                Err(Status::Memory)
-            } else {
-                Err(Status::Usage)
-            }
+            Err(status_for(error.kind()))
         }
+    }
+}
+
+/// The status of a run whose arguments were not read.
+fn status_for(kind: io::ErrorKind) -> Status
+    ensures { result ≡ status_for kind }
+{
+    match kind {
+        io::ErrorKind::OutOfMemory => Status::Memory,
+        _ => Status::Usage,
+    }
+}
+
+/// All that the iterator gives.
+fn collected(alloc: Global, args: Args) -> Result<Vec<String>, AllocError>
+    ensures { IfOk result (λ words. words.items ≡ args.rest.items) }
+{
+    let mut words = Vec::new(alloc);
+    'words: for word in args {
+        words.push(word)?;
+    }
+    Ok(words)
+}
+
+/// The words behind the program's name, which is the first argument.
+pub fn words_of(arguments: &[String]) -> &[String]
+    ensures { result.now ≡ drop 1 arguments.now }
+{
+    match arguments {
+        [_, words @ ..] => words,
+        [] => arguments,
     }
 }

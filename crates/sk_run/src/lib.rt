@@ -1,18 +1,27 @@
-//! The run over command lines, for any store of documents.
+//! The run over lines, for whatever answers them, and what answers commands over any store of documents.
+//! `specs/Ran.antt` has the main theorem.
 #![tactic(auto)]
 
-mod asked;
+mod answerer;
+mod conclusion;
+mod find_answer;
 mod form;
 mod machine;
+mod printed;
 mod refusal;
 mod response;
 mod runs;
 mod status;
 mod store;
 
-pub use asked::{is_one_word, is_word_ask};
-pub use form::{run, words};
+pub use answerer::Answerer;
+pub use conclusion::conclude;
+pub use find_answer::FindAnswer;
+pub use form::{arguments, run, words_of};
+pub use machine::{Machine, response_to};
+pub use printed::Printed;
 pub use refusal::Refusal;
 pub use response::Response;
+pub use runs::answer_lines;
 pub use status::Status;
 pub use store::Store;

@@ -1,21 +1,17 @@
-//! The state of a run: a store, once a schema was accepted.
+//! The state of a run over commands: a store, once a schema was accepted.
 ghost use Rattle.std.specs.Prelude.{◌≡◌, ◌≤◌, ◌+◌, IfOk, length, Some, None};
 ghost use Rattle.std.specs.Option.{option_copied};
-ghost use Rattle.sk_io.specs.declared.line.TheConstants.{MAX_LINE};
-ghost use Rattle.sk_io.specs.Answers.{IsShort};
+ghost use Rattle.sk_io.specs.LineText.{most_line};
 ghost use Rattle.sk_base.specs.declared.command.Command.TheVariants as Command;
-ghost use Rattle.sk_base.specs.Records.{FitsEdit, FitsFind};
 ghost use Rattle.sk_record.specs.Outcome.{MayCome};
-ghost use Rattle.sk_run.specs.declared.refusal.Refusal.TheVariants as Refusal;
-ghost use Rattle.sk_run.specs.declared.response.Response.TheVariants as Response;
 ghost use Rattle.sk_run.specs.Responses.{steps_of, response_to};
 ghost use Rattle.sk_run.specs.Meaning.{is_blank};
-ghost use Rattle.sk_run.specs.Output.{start};
-ghost use Rattle.sk_run.specs.Machines.{IsAt, schema_in, Obeyed, Answered};
-ghost use Rattle.sk_run.specs.Lines.{AnsweredLine};
+ghost use Rattle.sk_run.specs.Lines.{Answered, AnsweredLine};
+ghost use Rattle.sk_run.specs.Output.{Answers, Closes};
+ghost use Rattle.sk_run.specs.Machines.{StandsFor, IsAt, schema_in, Obeyed};
 
-use crate::{Refusal, Response, Store};
-use sk_base::{Command, Edit, Find, Reply, Schema};
+use crate::{Answerer, Refusal, Response, Store};
+use sk_base::{Command, Reply, Schema};
 use sk_io::Line;
 use sk_record::{LineFault, command};
 use sk_steps::Steps;
@@ -31,41 +27,22 @@ pub struct Machine<M: Drop> {
 impl<M: Store> Machine<M> {
     /// A machine that waits for a schema.
     pub fn new() -> Machine<M>
-        ensures { IsAt M.fields M.holds result start }
+        ensures { IsAt M.fields M.holds result None }
     {
         Machine { store: None }
     }
 
-    /// Answers a line of a source. Where memory runs out the machine is given up.
-    pub fn answer_line<L: Ledger>(
-        self,
-        alloc: Global,
-        line: Line<'_>,
-        steps: &mut Steps<L>,
-    ) -> Result<(Machine<M>, Response), AllocError>
-        requires { IsShort (Some line) }
-        ensures answered { IfOk result (λ p. AnsweredLine M.fields M.holds M.finds self line.entry p.1 p.0) }
-        ensures cost { IfOk result (λ p. steps.new ≡ steps.old + steps_of p.1) }
-    {
-        match line {
-            Line::Whole(text) => {
-                let (machine, response) = self.answer(alloc, text, steps)?;
-                Ok((machine, response))
-            }
-            Line::TooLong => Ok((self, Response::Refused(Refusal::TooLong))),
-        }
-    }
-
     /// Answers a line that is not too long. Where memory runs out the machine is given up.
-    pub fn answer<L: Ledger>(
+    fn answer_text<L: Ledger>(
         self,
         alloc: Global,
         line: &[u8],
         steps: &mut Steps<L>,
-    ) -> Result<(Machine<M>, Response), AllocError>
-        requires { length line.now ≤ MAX_LINE }
-        ensures answered { IfOk result (λ p. Answered M.fields M.holds M.finds self line.now p.1 p.0) }
-        ensures cost { IfOk result (λ p. steps.new ≡ steps.old + steps_of p.1) }
+    ) -> Result<(Machine<M>, Response<M::Answer>), AllocError>
+        requires { length line.now ≤ most_line }
+        ensures answered { IfOk result (λ p. Answered (IsAt M.fields M.holds) (Answers M.begun M.does) self line.now p.1 p.0) }
+        ensures cost { IfOk result (λ p. steps.new ≡ steps.old + steps_of M.Answer.steps p.1) }
+        ensures later { steps.old ≤ steps.new }
     {
         if is_blank(line) {
             return Ok((self, Response::Skipped));
@@ -98,25 +75,21 @@ impl<M: Store> Machine<M> {
         alloc: Global,
         command: Command,
         steps: &mut Steps<L>,
-    ) -> Result<(Machine<M>, Response), AllocError>
+    ) -> Result<(Machine<M>, Response<M::Answer>), AllocError>
         requires { MayCome (schema_in M.fields self) command }
-        ensures obeyed { IfOk result (λ p. Obeyed M.fields M.holds M.finds self.store command p.1 p.0) }
-        ensures cost { IfOk result (λ p. steps.new ≡ steps.old + steps_of p.1) }
+        ensures obeyed { IfOk result (λ p. Obeyed M.fields M.holds M.begun M.does self.store command p.1 p.0) }
+        ensures cost { IfOk result (λ p. steps.new ≡ steps.old + steps_of M.Answer.steps p.1) }
+        ensures later { steps.old ≤ steps.new }
     {
         match (self.store, command) {
             (None, Command::Schema(schema)) => {
                 let (machine, response) = accept_schema(alloc, schema)?;
                 Ok((machine, response))
             }
-            (Some(store), Command::Edit(edit)) => {
-                let (machine, response) = apply_edit(store, edit)?;
+            (Some(store), command) => {
+                let (machine, response) = obey(store, command, steps)?;
                 Ok((machine, response))
             }
-            (Some(store), Command::Find(find)) => {
-                let (machine, response) = answer_find(store, &find, steps)?;
-                Ok((machine, response))
-            }
-            (Some(store), Command::Show(_, _)) => Ok(not_built(store)),
             _ => unreachable!(),
         }
     }
@@ -126,27 +99,70 @@ impl<M: Store> Machine<M> {
 fn accept_schema<M: Store>(
     alloc: Global,
     schema: Schema,
-) -> Result<(Machine<M>, Response), AllocError>
-    ensures obeyed { IfOk result (λ p. Obeyed M.fields M.holds M.finds None (Command.Schema schema) p.1 p.0) }
-    ensures cost { IfOk result (λ p. steps_of p.1 ≡ 0) }
+) -> Result<(Machine<M>, Response<M::Answer>), AllocError>
+    ensures obeyed { IfOk result (λ p. Obeyed M.fields M.holds M.begun M.does None (Command.Schema schema) p.1 p.0) }
+    ensures cost { IfOk result (λ p. steps_of M.Answer.steps p.1 ≡ 0) }
 {
     let fields = schema.fields().len();
     let store = M::new(alloc, schema)?;
     Ok((Machine { store: Some(store) }, Response::Schema(fields)))
 }
 
-fn apply_edit<M: Store>(store: M, edit: Edit) -> Result<(Machine<M>, Response), AllocError>
-    requires { FitsEdit (M.fields store) edit }
-    ensures obeyed { IfOk result (λ p. Obeyed M.fields M.holds M.finds (Some store) (Command.Edit edit) p.1 p.0) }
-    ensures cost { IfOk result (λ p. steps_of p.1 ≡ 0) }
+/// What a store does.
+fn obey<M: Store, L: Ledger>(
+    store: M,
+    command: Command,
+    steps: &mut Steps<L>,
+) -> Result<(Machine<M>, Response<M::Answer>), AllocError>
+    requires { MayCome (Some (M.fields store)) command }
+    ensures obeyed { IfOk result (λ p. Obeyed M.fields M.holds M.begun M.does (Some store) command p.1 p.0) }
+    ensures cost { IfOk result (λ p. steps.new ≡ steps.old + steps_of M.Answer.steps p.1) }
+    ensures later { steps.old ≤ steps.new }
 {
-    let (store, reply) = store.apply(edit)?;
-    Ok((Machine { store: Some(store) }, response_to(reply)))
+    let (store, response) = store.obey(command, steps)?;
+    Ok((Machine { store: Some(store) }, response))
 }
 
-fn response_to(reply: Reply) -> Response
-    ensures response { result ≡ response_to reply }
-    ensures cost { steps_of result ≡ 0 }
+impl<M: Store> Answerer for Machine<M> {
+    type Answer = Response<M::Answer>;
+
+    ghost use Rattle.sk_run.specs.Output.{State, Answers, Closes};
+    ghost use Rattle.sk_run.specs.Machines.{IsAt};
+
+    ghost State = { State M.State };
+
+    ghost stands = { IsAt M.fields M.holds };
+
+    ghost answers = { Answers M.begun M.does };
+
+    ghost closes = { Closes M.closes };
+
+    fn answer<L: Ledger>(
+        self,
+        alloc: Global,
+        line: Line<'_>,
+        steps: &mut Steps<L>,
+    ) -> Result<(Machine<M>, Response<M::Answer>), AllocError> {
+        match line {
+            Line::Whole(text) => {
+                let (machine, response) = self.answer_text(alloc, text, steps)?;
+                Ok((machine, response))
+            }
+            Line::TooLong => Ok((self, Response::Refused(Refusal::TooLong))),
+        }
+    }
+
+    fn close(self, alloc: Global) -> Result<Response<M::Answer>, AllocError> {
+        match self.store {
+            Some(store) => store.close(alloc),
+            None => Ok(Response::Skipped),
+        }
+    }
+}
+
+/// What an edit's reply is answered.
+pub fn response_to<A: Drop>(reply: Reply) -> Response<A>
+    ensures { result ≡ response_to reply }
 {
     match reply {
         Reply::Id(id) => Response::Id(id),
@@ -154,30 +170,6 @@ fn response_to(reply: Reply) -> Response
         Reply::NotFound => Response::Refused(Refusal::NotFound),
         Reply::NoIdLeft => Response::Refused(Refusal::NoIdLeft),
     }
-}
-
-fn answer_find<M: Store, L: Ledger>(
-    store: M,
-    find: &Find,
-    steps: &mut Steps<L>,
-) -> Result<(Machine<M>, Response), AllocError>
-    requires { FitsFind find.now }
-    ensures obeyed { IfOk result (λ p. Obeyed M.fields M.holds M.finds (Some store) (Command.Find find.now) p.1 p.0) }
-    ensures cost { IfOk result (λ p. steps.new ≡ steps.old + steps_of p.1) }
-{
-    let response = store.answer(find, steps)?;
-    Ok((Machine { store: Some(store) }, response))
-}
-
-/// A form that is not built yet is refused as a line of a bad shape.
-fn not_built<M: Store>(store: M) -> (Machine<M>, Response)
-    ensures machine { result.0 ≡ record { store = Some store } }
-    ensures response { result.1 ≡ Response.Refused Refusal.BadShape }
-{
-    (
-        Machine { store: Some(store) },
-        Response::Refused(Refusal::BadShape),
-    )
 }
 
 fn is_blank(line: &[u8]) -> bool

@@ -1,7 +1,7 @@
 //! Why a line is refused.
 ghost use Rattle.std.specs.Prelude.{◌≡◌};
 
-/// Why a line is refused. The tests are made in this order.
+/// Why a line is refused, whatever store answers it. The tests are made in this order.
 #[derive(Clone, Copy, Debug, PartialEq, Eq)]
 pub enum Refusal {
     /// The line has more bytes than a line may have.
@@ -20,8 +20,6 @@ pub enum Refusal {
     NoIdLeft,
     /// No live document has the id.
     NotFound,
-    /// The tree of a find is no query.
-    BadTree,
 }
 
 impl Refusal {
@@ -39,7 +37,6 @@ impl Refusal {
             Refusal::BadField => 6,
             Refusal::NoIdLeft => 7,
             Refusal::NotFound => 8,
-            Refusal::BadTree => 10,
         }
     }
 
@@ -55,7 +52,6 @@ impl Refusal {
             Refusal::BadField => "BadField",
             Refusal::NoIdLeft => "NoIdLeft",
             Refusal::NotFound => "NotFound",
-            Refusal::BadTree => "BadTree",
         }
     }
 }

@@ -1,15 +1,14 @@
-//! What a line is answered, and its text.
-ghost use Rattle.std.specs.Prelude.{◌≡◌, ◌++◌, ◌+◌, ◌<◌, ◌^◌, codes, decimal, string_bytes, length, IfOk};
-ghost use Rattle.json.specs.Print.{quoted};
+//! What a line of commands is answered.
+ghost use Rattle.std.specs.Prelude.{◌≡◌, IfOk, string_bytes};
 
 use crate::refusal::Refusal;
-use serde_json::Value;
-use sk_base::{DocId, Ranked, Report, Text};
+use crate::Printed;
+use sk_base::DocId;
 use std::alloc::{AllocError, Global};
 
-/// What one line is answered.
+/// What one line is answered, by a store that has answers of its own.
 #[derive(Debug, Drop)]
-pub enum Response {
+pub enum Response<A> {
     /// A blank line has no answer.
     Skipped,
     Refused(Refusal),
@@ -19,38 +18,40 @@ pub enum Response {
     Id(DocId),
     /// So many documents were removed.
     Deleted(u32),
-    /// The rank of the first hit, and the report.
-    Found(u32, Report),
+    /// What the store answers to a line that is neither a schema nor an edit.
+    Own(A),
 }
 
-impl Response {
-    ghost use Rattle.sk_run.specs.Responses.{text_of, is_refusal};
+impl<A: Printed> Printed for Response<A> {
+    ghost use Rattle.sk_run.specs.Responses.{text_of, is_refusal, steps_of};
 
-    /// The lines that are printed, each with its end.
-    pub fn into_text(self, alloc: Global) -> Result<String, AllocError>
-        ensures { IfOk result (λ s. string_bytes s ≡ text_of self) }
-    {
+    ghost text = { text_of A.text };
+
+    ghost refuses = { is_refusal A.refuses };
+
+    ghost steps = { steps_of A.steps };
+
+    fn into_text(self, alloc: Global) -> Result<String, AllocError> {
         match self {
             Response::Skipped => Ok(String::new(alloc)),
             Response::Refused(refusal) => refusal_line(alloc, refusal),
             Response::Schema(fields) => format!(in alloc; "ok schema {fields}\n"),
             Response::Id(id) => format!(in alloc; "ok id {id}\n"),
             Response::Deleted(count) => format!(in alloc; "ok deleted {count}\n"),
-            Response::Found(first, report) => {
-                let text = found_lines(alloc, first, &report)?;
-                Ok(text)
-            }
+            Response::Own(answer) => answer.into_text(alloc),
         }
     }
 
-    pub fn is_refusal(&self) -> bool
-        ensures { result ≡ is_refusal self.now }
-    {
-        matches!(self, Response::Refused(_))
+    fn refuses(&self) -> bool {
+        match self {
+            Response::Refused(_) => true,
+            Response::Own(answer) => answer.refuses(),
+            _ => false,
+        }
     }
 }
 
-ghost use Rattle.sk_run.specs.Responses.{refusal_line, found_line, found_rest, hit_line, hit_rest, found_text};
+ghost use Rattle.sk_run.specs.Responses.{refusal_line};
 
 fn refusal_line(alloc: Global, refusal: Refusal) -> Result<String, AllocError>
     ensures { IfOk result (λ s. string_bytes s ≡ refusal_line refusal) }
@@ -58,65 +59,4 @@ fn refusal_line(alloc: Global, refusal: Refusal) -> Result<String, AllocError>
     let number = refusal.number();
     let name = refusal.name();
     format!(in alloc; "refused {number} {name}\n")
-}
-
-/// The line of a report, and one line for each hit.
-fn found_lines(alloc: Global, first: u32, report: &Report) -> Result<String, AllocError>
-    ensures { IfOk result (λ s. string_bytes s ≡ found_text first report.now) }
-{
-    let mut text = found_line(alloc, report)?;
-    'hits: for (i, hit) in report.hits.as_slice().iter().enumerate() {
-        let line = hit_line(alloc, first as usize + i, hit)?;
-        text.push_str(line.as_str())?;
-    }
-    Ok(text)
-}
-
-fn found_line(alloc: Global, report: &Report) -> Result<String, AllocError>
-    ensures { IfOk result (λ s. string_bytes s ≡ found_line report.now) }
-{
-    let hits = report.hits.as_slice().len();
-    let lower = report.lower;
-    let estimate = report.estimate;
-    let mut text = format!(in alloc; "found hits={hits} lower={lower} estimate={estimate}")?;
-    let rest = found_rest(alloc, report)?;
-    text.push_str(rest.as_str())?;
-    Ok(text)
-}
-
-fn found_rest(alloc: Global, report: &Report) -> Result<String, AllocError>
-    ensures { IfOk result (λ s. string_bytes s ≡ found_rest report.now) }
-{
-    let upper = report.upper;
-    let greatest = report.greatest;
-    let steps = report.steps;
-    format!(in alloc; " upper={upper} max={greatest} steps={steps}\n")
-}
-
-fn hit_line(alloc: Global, rank: usize, hit: &Ranked) -> Result<String, AllocError>
-    ensures { IfOk result (λ s. string_bytes s ≡ hit_line rank hit.now) }
-{
-    let id = hit.id;
-    let weight = hit.weight;
-    let mut text = format!(in alloc; "hit rank={rank} id={id} weight={weight}")?;
-    let rest = hit_rest(alloc, hit)?;
-    text.push_str(rest.as_str())?;
-    Ok(text)
-}
-
-fn hit_rest(alloc: Global, hit: &Ranked) -> Result<String, AllocError>
-    ensures { IfOk result (λ s. string_bytes s ≡ hit_rest hit.now) }
-{
-    let collapsed = hit.collapsed;
-    let data = json_string(alloc, &hit.payload)?;
-    let data = data.as_str();
-    format!(in alloc; " collapsed={collapsed} data={data}\n")
-}
-
-/// The text as a JSON string.
-fn json_string(alloc: Global, text: &Text) -> Result<String, AllocError>
-    ensures { IfOk result (λ s. string_bytes s ≡ quoted text.now) }
-{
-    let value = Value::String(String::from_str(alloc, text.as_str())?);
-    value.to_string(alloc)
 }

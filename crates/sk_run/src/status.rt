@@ -40,16 +40,16 @@ impl Status {
     }
 
     /// What is printed where the run did not come to its end; `usage` is said of words that are no form.
-    pub fn message(self, usage: &'static str) -> Option<&'static str>
+    pub fn message(self, usage: &'static [u8]) -> Option<&'static [u8]>
         ensures { option_map (λ s. s.now) result ≡ message_of usage.now self }
     {
         match self {
             Status::Done | Status::Refused => None,
             Status::Usage => Some(usage),
-            Status::ReadFault => Some("read fault"),
-            Status::WriteFault => Some("write fault"),
-            Status::Memory => Some("no memory"),
-            Status::TooMuch => Some("too much input"),
+            Status::ReadFault => Some(b"read fault"),
+            Status::WriteFault => Some(b"write fault"),
+            Status::Memory => Some(b"no memory"),
+            Status::TooMuch => Some(b"too much input"),
         }
     }
 }

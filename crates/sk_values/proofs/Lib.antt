@@ -1,2 +1,2 @@
-pub mod SlotLaws
-pub mod PlaceLaws
+pub mod ValueLaws
+mod Examples

@@ -1,2 +1,1 @@
 pub mod SlotValues
-pub mod Places

@@ -4,6 +4,5 @@
 mod slot_list;
 #[cfg(test)]
 mod tests;
-mod valued;
 
 pub use slot_list::SlotList;

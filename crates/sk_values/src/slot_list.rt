@@ -1,11 +1,11 @@
 //! The values of one slot, in order of the documents' ids.
+ghost use Rattle.std.specs.Prelude.{◌≡◌, ◌+◌, ◌≤◌, ◌<◌, [], length, true, IsOk, OnOk, OnErr};
+ghost use Rattle.sk_sorted.specs.Entries.{put, without, has};
+ghost use Rattle.sk_sorted.specs.Places.{id_at};
+ghost use Rattle.sk_values.specs.SlotValues.{AreSlotValues, found_value, value_at};
 
-ghost use Rattle.std.specs.Prelude.{◌≡◌, ◌+◌, ◌≤◌, ◌<◌, [], length, true, IfOk, IfErr, IsOk, OnOk, OnErr};
-ghost use Rattle.sk_values.specs.SlotValues.{AreSlotValues, put, without, has, value_of};
-ghost use Rattle.sk_values.specs.Places.{id_at, value_at, IsAt, IsGapFor};
-
-use crate::valued::Valued;
 use sk_base::{Bytes, DocId};
+use sk_sorted::Sorted;
 use sk_steps::Steps;
 use std::alloc::{AllocError, Global};
 use std::fmt::{Debug, Error, Formatter, Write};
@@ -15,17 +15,17 @@ use std::sync::ledger::Ledger;
 /// The documents that have a value in one slot, with their values. Only `get` and `entry` show an id or a value.
 #[derive(Drop)]
 pub struct SlotList {
-    entries: Vec<Valued>,
+    entries: Sorted<Bytes>,
 }
 
 impl Model for SlotList {
-    ghost use Rattle.sk_values.specs.SlotValues.{SlotValues, AreSlotValues};
+    ghost use Rattle.sk_values.specs.SlotValues.{SlotValues, HaveValues};
 
     ghost Value = { SlotValues };
 
-    ghost view = { λ l. l.entries.items };
+    ghost view = { λ l. l.entries };
 
-    ghost invariant = { λ l. AreSlotValues l.entries.items };
+    ghost invariant = { λ l. HaveValues l.entries };
 }
 
 impl SlotList {
@@ -34,7 +34,7 @@ impl SlotList {
         ensures { result ≡ [] }
     {
         SlotList {
-            entries: Vec::new(alloc),
+            entries: Sorted::new(alloc),
         }
     }
 
@@ -46,31 +46,16 @@ impl SlotList {
         ensures err { OnErr result (self.new ≡ self.old) }
         ensures succeeds { has id self.old ≡ true → IsOk result }
     {
-        let entry = Valued { id, value };
-        match self.place_of(id) {
-            Ok(at) => {
-                self.entries[at] = entry;
-                Ok(())
-            }
-            Err(at) => {
-                self.entries.insert(at, entry)?;
-                Ok(())
-            }
-        }
+        self.entries.put(id, value)?;
+        Ok(())
     }
 
     /// Takes the document's value out, and answers whether there was one.
     pub fn clear(&mut self, id: DocId) -> bool
         ensures after { self.new ≡ without id self.old }
-        ensures found { result ≡ has id self.old }
+        ensures there { result ≡ has id self.old }
     {
-        match self.place_of(id) {
-            Ok(at) => {
-                self.entries.remove(at);
-                true
-            }
-            Err(_) => false,
-        }
+        self.entries.remove(id).is_some()
     }
 
     /// How many documents have a value.
@@ -78,20 +63,19 @@ impl SlotList {
         ensures value { result ≡ length self.now }
         ensures sound { AreSlotValues self.now }
     {
-        self.entries.len() as u32
+        let _entries = &self.entries;
+        self.entries.length()
     }
 
     /// The document's value, empty where it has none. Either answer is one reading.
     pub fn get<L: Ledger>(&self, id: DocId, steps: &mut Steps<L>) -> &[u8]
-        ensures value { result.now ≡ value_of id self.now }
+        ensures value { result.now ≡ found_value id self.now }
         ensures cost { steps.new ≡ steps.old + 1 }
     {
-        match self.place_of(id) {
-            Ok(at) => self.read(at, steps).1,
-            Err(_) => {
-                steps.tick();
-                &[]
-            }
+        steps.tick();
+        match self.entries.get(id) {
+            Some(value) => value.as_slice(),
+            None => &[],
         }
     }
 
@@ -102,35 +86,9 @@ impl SlotList {
         ensures value { result.1.now ≡ value_at self.now i }
         ensures cost { steps.new ≡ steps.old + 1 }
     {
-        self.read(i as usize, steps)
-    }
-
-    // The one reading of an entry, which is counted.
-    fn read<L: Ledger>(&self, at: usize, steps: &mut Steps<L>) -> (DocId, &[u8])
-        requires { at < length self.now }
-        ensures id { result.0 ≡ id_at self.now at }
-        ensures value { result.1.now ≡ value_at self.now at }
-        ensures cost { steps.new ≡ steps.old + 1 }
-    {
-        let entry = &self.entries[at];
+        let entry = &self.entries.as_slice()[i as usize];
         steps.tick();
-        (entry.id, entry.value.as_slice())
-    }
-
-    // Where the id is, or where it would go. An id above all others is placed without a search.
-    fn place_of(&self, id: DocId) -> Result<usize, usize>
-        ensures found { IfOk result (IsAt self.now id) }
-        ensures absent { IfErr result (IsGapFor self.now id) }
-        ensures sound { AreSlotValues self.now }
-    {
-        match self.entries.last() {
-            None => Err(0),
-            Some(last) => if last.id < id {
-                Err(self.entries.len())
-            } else {
-                self.entries.binary_search_by_key(&id, |entry| entry.id)
-            },
-        }
+        (entry.0, entry.1.as_slice())
     }
 }
 

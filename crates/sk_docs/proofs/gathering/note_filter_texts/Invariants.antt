@@ -4,5 +4,5 @@ use Rattle.sk_docs.proofs.gathering.note_filter_texts.Given as goal
 
 abbrev pub invariant-texts : goal.invariant-texts
 invariant-texts l =
-    fold noted l.tally.terms (map (filter_term l.prefix) (filter is_given (drop l.text-index l.texts)))
-    ≡ fold noted l.initial.tally.terms (map (filter_term l.prefix) (filter is_given l.texts))
+    fold noted l.gathered.terms (map (filter_term l.prefix) (filter is_given (drop l.text-index l.texts)))
+    ≡ fold noted l.initial.gathered.terms (map (filter_term l.prefix) (filter is_given l.texts))

@@ -4,4 +4,4 @@ use Rattle.sk_docs.proofs.gathering.note_filters.Given as goal
 
 abbrev pub invariant-fields : goal.invariant-fields
 invariant-fields l =
-    fold noted l.tally.terms (filter_terms_from l.place (drop l.place l.fields) l.values) ≡ fold noted l.initial.tally.terms (filter_terms_from 0 l.fields l.values)
+    fold noted l.gathered.terms (filter_terms_from l.place (drop l.place l.fields) l.values) ≡ fold noted l.initial.gathered.terms (filter_terms_from 0 l.fields l.values)

@@ -3,4 +3,4 @@ use Rattle.sk_docs.proofs.GatherLemmas.{InFields}
 use Rattle.sk_docs.proofs.gathering.note_texts.Given as goal
 
 abbrev pub invariant-fields : goal.invariant-fields
-invariant-fields l = InFields l.values l.initial.tally l.tally l.place l.before (drop l.place l.fields) l.fields
+invariant-fields l = InFields l.values l.initial.gathered l.gathered l.place l.before (drop l.place l.fields) l.fields

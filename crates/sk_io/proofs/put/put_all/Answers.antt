@@ -1,4 +1,4 @@
-use Rattle.std.proofs.Common.{arith, rules, ◌<◌, ◌≤◌, length}
+use Rattle.std.proofs.Common.{arith, rules, ◌∙◌, ◌<◌, ◌≤◌, length}
 use Rattle.sk_io.proofs.Pieces.{put_more, rest_short, settled_more}
 use Rattle.sk_io.proofs.put.put_all.Goals as goal
 
@@ -11,5 +11,6 @@ pieces-preserved g c =
     record {
       so_far = put_more _ _ _ c.args.piece.now rest n c.in_ok-taken.ensures.bound c.pieces.invariant.so_far c.in_ok-taken.ensures.bytes;
       settled = settled_more _ _ c.args.piece.now rest n some c.in_ok-taken.ensures.bound short c.put.ensures.settled;
+      finishes = c.put.ensures.finishes ∙ c.pieces.invariant.finishes;
       later = omega (arith, c.put.ensures.cause.later);
     }

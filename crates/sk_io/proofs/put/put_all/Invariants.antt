@@ -6,6 +6,7 @@ abbrev pub invariant-pieces : goal.invariant-pieces
 invariant-pieces g l = record {
   so_far : PutSoFar (g.K.Sink.held l.fn.sink) (g.K.Sink.held l.sink) l.piece l.rest;
   settled : g.K.Sink.settled l.sink ≡ (g.K.Sink.settled l.fn.sink && (length l.rest == length l.piece));
+  finishes : g.K.Sink.finishes l.sink ≡ g.K.Sink.finishes l.fn.sink;
   later : g.K.Sink.faults l.fn.sink ≤ g.K.Sink.faults l.sink;
 }
 

@@ -1,5 +1,5 @@
 use Rattle.std.proofs.Common.{sym, ◌∙◌, true≢false}
-use Rattle.sk_record.proofs.ValueLemmas.{value_read, no_value}
+use Rattle.sk_record.proofs.LineLemmas.{value_read, no_value}
 use Rattle.sk_record.proofs.json.line_value.Goals as goal
 
 pub returns-in-Ok-clause-ok : goal.returns-in-Ok-clause-ok

@@ -13,5 +13,5 @@ returns-then-is_empty c =
 pub returns : goal.returns
 returns c =
     first_found c.args.self.now c.self.inside.terms c.self.inside.blocks.items c.deref.result.now c.deref-2.result.now c.args.key.now c.args.behind
-    c.find_place-place.result.block c.find_place-place.result.slot c.number_at.result c.self.view_is c.deref.ensures.value c.deref-2.ensures.value
+    c.find_place-place.result.block c.find_place-place.result.offset c.number_at.result c.self.view_is c.deref.ensures.value c.deref-2.ensures.value
     c.self.invariant c.find_place-place.ensures.split c.number_at.ensures

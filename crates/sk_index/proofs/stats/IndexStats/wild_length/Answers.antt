@@ -4,15 +4,18 @@ use Rattle.std.proofs.lemmas.List.{length-map}
 use Rattle.sk_base.specs.Numbers.{length_of}
 use Rattle.sk_model.specs.Documents.{Document}
 use Rattle.sk_index.specs.Listed.{list_of}
-use Rattle.sk_index.specs.Wild.{tallied}
-use Rattle.sk_index.specs.declared.term_lists.Tally.TheVariants as Tally
-use Rattle.sk_index.proofs.WildLemmas.{left-terms_with, length_of-none}
+use Rattle.sk_index.specs.Wild.{figure_of}
+use Rattle.sk_index.specs.declared.term_lists.Figure.TheVariants as Figure
+use Rattle.sk_index.proofs.WildLemmas.{sum_behind-terms_with, length_of-none}
 use Rattle.sk_index.proofs.NumberLemmas.{length-postings}
 use Rattle.sk_index.proofs.stats.IndexStats.wild_length.Goals as goal
 
 pub returns : goal.returns
 returns c =
-    let docs = c.self.inside.documents.entries in
-    let sums = left-terms_with (λ t. tallied Tally.Length (list_of t c.self.inside.terms)) (λ t. length_of t docs) c.args.prefix.now c.self.inside.terms 0 c.self.inside.highest docs c.sum.ensures.sound c.self.invariant.sound c.self.invariant.lists
-    (λ t. ap length (c.self.invariant.lists t) ∙ length-postings t docs) (λ t none. length_of-none t docs none) in
-    rw (← c.self.view_is) (c.sum.ensures.value ∙ (λ i. min ((c.length.ensures.value ∙ ap length c.self.invariant.all_is ∙ length-map docs (λ (one : ℕ × Document). record { id = one.0; wdf = 0 })) i) (sums i)))
+    let docs = c.self.inside.documents.live.documents in
+    let terms = c.beside.result.now.terms in
+    let stands = c.beside.ensures.stands in
+    let sums = sum_behind-terms_with (λ t. figure_of Figure.Length (list_of t terms)) (λ t. length_of t docs) c.args.prefix.now terms docs c.sum.ensures.sound c.beside.ensures.sound.terms stands.lists
+    (λ t. ap length (stands.lists t) ∙ length-postings t docs) (λ t none. length_of-none t docs none) in
+    let all = c.length.ensures.value ∙ ap length c.beside-2.ensures.stands.all_is ∙ length-map docs (λ (one : ℕ × Document). (one.0, 0)) in
+    rw (← c.self.view_is) (c.sum.ensures.value ∙ (λ i. min (all i) (sums i)))

@@ -1,6 +1,6 @@
 -- The list at the number of the term is changed.
 use Rattle.std.proofs.Common.{sym, ◌∙◌, arith}
-use Rattle.sk_lists.specs.Postings.{without}
+use Rattle.sk_sorted.specs.Entries.{without}
 use Rattle.sk_index.proofs.ListedLemmas.{changed_at}
 use Rattle.sk_index.proofs.term_lists.TermLists.take_out.Goals as goal
 

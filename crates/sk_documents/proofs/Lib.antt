@@ -1,0 +1,3 @@
+pub mod SoundLaws
+mod RemovingLemmas
+mod EditLemmas

@@ -1,0 +1,201 @@
+-- When a text is no query: each fault as a test of one token, by the tokens before it (the nearest first) and those behind it.
+use Rattle.std.specs.Prelude.{ℕ, zero, suc, pred, ◌+◌, ◌==◌, ◌&&◌, ◌||◌, not, nat_lt, nat_le, Bool, true, false, List, [], ◌∷◌, length, map, if◌then◌else◌, Option, Some, None}
+use Rattle.std.specs.List.{slice_get}
+use Rattle.sk_base.specs.declared.schema.Field.{Field}
+use Rattle.sk_grammar.specs.Bounds.{halves, is_number_kind, are_numbers}
+use Rattle.sk_grammar.specs.Cutting.{tokens_of}
+use Rattle.sk_grammar.specs.declared.fault.FaultKind.{FaultKind}
+use Rattle.sk_grammar.specs.declared.fault.FaultKind.TheVariants as FaultKind
+use Rattle.sk_grammar.specs.declared.token.Kind.{Kind}
+use Rattle.sk_grammar.specs.declared.token.Kind.TheVariants as Kind
+use Rattle.sk_grammar.specs.declared.token.Token.{Token}
+
+-- A word, a filter or a range, alone or several: what a query is made of.
+abbrev pub is_item : Kind → Bool
+is_item (Kind.Word field text) = true
+is_item (Kind.Wild field text) = true
+is_item (Kind.Joined field texts) = true
+is_item (Kind.Quote field texts) = true
+is_item (Kind.Filter field text) = true
+is_item (Kind.Range field text) = true
+is_item _ = false
+
+-- A word.
+abbrev pub is_word : Kind → Bool
+is_word (Kind.Word field text) = true
+is_word _ = false
+
+-- A bracket that opens.
+abbrev pub is_open : Kind → Bool
+is_open (Kind.Open field) = true
+is_open _ = false
+
+-- A bracket that closes.
+abbrev pub is_close : Kind → Bool
+is_close Kind.Close = true
+is_close _ = false
+
+-- A mark.
+abbrev pub is_mark : Kind → Bool
+is_mark Kind.Plus = true
+is_mark Kind.Minus = true
+is_mark _ = false
+
+-- NOT.
+abbrev pub is_not : Kind → Bool
+is_not Kind.Not = true
+is_not _ = false
+
+-- AND, OR or XOR.
+abbrev pub is_joining : Kind → Bool
+is_joining Kind.And = true
+is_joining Kind.Or = true
+is_joining Kind.Xor = true
+is_joining _ = false
+
+-- NEAR.
+abbrev pub is_near : Kind → Bool
+is_near (Kind.Near n) = true
+is_near _ = false
+
+-- ADJ.
+abbrev pub is_adj : Kind → Bool
+is_adj (Kind.Adj n) = true
+is_adj _ = false
+
+-- An item, or a bracket that opens.
+abbrev pub begins_unit : Kind → Bool
+begins_unit k = is_item k || is_open k
+
+-- An item, or a bracket that closes.
+abbrev pub ends_unit : Kind → Bool
+ends_unit k = is_item k || is_close k
+
+-- The first of these tokens is there and passes the test.
+abbrev pub first_is : (Kind → Bool) → List Kind → Bool
+first_is test [] = false
+first_is test (k ∷ ks) = test k
+
+-- The second of these tokens is there and passes the test.
+abbrev pub second_is : (Kind → Bool) → List Kind → Bool
+second_is test [] = false
+second_is test (k ∷ ks) = first_is test ks
+
+-- How many brackets are open behind a token, where so many are before it: a bracket that closes none leaves 0.
+abbrev pub depth_behind : ℕ → Kind → ℕ
+depth_behind depth (Kind.Open field) = suc depth
+depth_behind depth Kind.Close = pred depth
+depth_behind depth _ = depth
+
+-- How many brackets are open behind these tokens, the last of which stands first.
+abbrev pub depth_of : List Kind → ℕ
+depth_of [] = 0
+depth_of (k ∷ before) = depth_behind (depth_of before) k
+
+-- How many leaves a token counts for: each word of an item with several, and every other item one.
+abbrev pub leaves_of : Kind → ℕ
+leaves_of (Kind.Joined field texts) = length texts
+leaves_of (Kind.Quote field texts) = length texts
+leaves_of k = if is_item k then 1 else 0
+
+-- The leaves of these tokens.
+abbrev pub leaves_in : List Kind → ℕ
+leaves_in [] = 0
+leaves_in (k ∷ ks) = leaves_of k + leaves_in ks
+
+-- A bracket that closes, where none is open before it.
+abbrev pub is_stray : List Kind → Kind → Bool
+is_stray before k = is_close k && depth_of before == 0
+
+-- Whether the depth, being `now` before these tokens, is `wanted` behind some of them.
+abbrev pub comes_to : ℕ → ℕ → List Kind → Bool
+comes_to wanted now [] = false
+comes_to wanted now (k ∷ ks) = depth_behind now k == wanted || comes_to wanted (depth_behind now k) ks
+
+-- A bracket that opens, behind which the depth never comes back to the depth before it.
+abbrev pub is_unclosed : List Kind → Kind → List Kind → Bool
+is_unclosed before k behind = is_open k && not (comes_to (depth_of before) (suc (depth_of before)) behind)
+
+-- AND, OR or XOR stands behind a unit, and before one, a mark or NOT.
+abbrev pub lacks_side : List Kind → Kind → List Kind → Bool
+lacks_side before k behind =
+    is_joining k && (not (first_is ends_unit before) || not (first_is (λ next. begins_unit next || is_mark next || is_not next) behind))
+
+-- NOT stands before a unit or a mark.
+abbrev pub lacks_excluded : Kind → List Kind → Bool
+lacks_excluded k behind = is_not k && not (first_is (λ next. begins_unit next || is_mark next) behind)
+
+-- A mark stands before a unit.
+abbrev pub lacks_marked : Kind → List Kind → Bool
+lacks_marked k behind = is_mark k && not (first_is begins_unit behind)
+
+-- One of these has nothing to work on.
+abbrev pub lacks_operand : List Kind → Kind → List Kind → Bool
+lacks_operand before k behind = lacks_side before k behind || lacks_excluded k behind || lacks_marked k behind
+
+-- A distance is 1 to 10,000.
+abbrev pub is_distance : ℕ → Bool
+is_distance n = nat_le 1 n && nat_le n 10000
+
+-- A word stands on each side.
+abbrev pub is_between : List Kind → List Kind → Bool
+is_between before behind = first_is is_word before && first_is is_word behind
+
+-- NEAR and ADJ stand between two words, with a distance, and a chain has one of them alone.
+abbrev pub is_bad_near : List Kind → Kind → List Kind → Bool
+is_bad_near before (Kind.Near n) behind = not (is_between before behind) || not (is_distance n) || second_is is_adj before
+is_bad_near before (Kind.Adj n) behind = not (is_between before behind) || not (is_distance n) || second_is is_near before
+is_bad_near before _ behind = false
+
+-- A field of numbers.
+abbrev pub takes_numbers : Option Field → Bool
+takes_numbers None = false
+takes_numbers (Some field) = is_number_kind (Field.kind field)
+
+-- A range on a field of numbers has a bound that is no number.
+abbrev pub is_bad_range : List Field → Kind → Bool
+is_bad_range fields (Kind.Range f text) = takes_numbers (slice_get fields f) && not (are_numbers (halves text))
+is_bad_range fields _ = false
+
+-- A bracket opens, and 100 are open already.
+abbrev pub is_too_deep : List Kind → Kind → Bool
+is_too_deep before k = is_open k && nat_le 100 (depth_of before)
+
+-- An item with which there are more than 1,024 leaves, and without which there are not.
+abbrev pub is_too_many : List Kind → Kind → Bool
+is_too_many before k = is_item k && nat_le (leaves_in before) 1024 && nat_lt 1024 (leaves_in before + leaves_of k)
+
+-- The fault of a token: the first of these that it has.
+abbrev pub fault_at : List Field → List Kind → Kind → List Kind → Option FaultKind
+fault_at fields before k behind =
+    if is_stray before k then Some FaultKind.StrayBracket
+    else (if is_unclosed before k behind then Some FaultKind.UnclosedBracket
+    else (if lacks_operand before k behind then Some FaultKind.MissingOperand
+    else (if is_bad_near before k behind then Some FaultKind.BadNear
+    else (if is_bad_range fields k then Some FaultKind.BadRange
+    else (if is_too_deep before k then Some FaultKind.TooDeep
+    else (if is_too_many before k then Some FaultKind.TooMany
+    else None))))))
+
+-- The kinds of tokens.
+abbrev pub kinds_of : List Token → List Kind
+kinds_of ts = map Token.kind ts
+
+-- The fault of a token with its place, or else a later one.
+abbrev pub fault_or : Option FaultKind → ℕ → Option (FaultKind × ℕ) → Option (FaultKind × ℕ)
+fault_or None place later = later
+fault_or (Some fault) place later = Some (fault, place)
+
+-- The first fault in tokens behind others, the last of which stands first, with the byte of its token.
+abbrev pub fault_behind : List Field → List Kind → List Token → Option (FaultKind × ℕ)
+fault_behind fields before [] = None
+fault_behind fields before (t ∷ ts) =
+    fault_or (fault_at fields before (Token.kind t) (kinds_of ts)) (Token.from t) (fault_behind fields (Token.kind t ∷ before) ts)
+
+-- The fault of tokens.
+abbrev pub fault_in : List Field → List Token → Option (FaultKind × ℕ)
+fault_in fields tokens = fault_behind fields [] tokens
+
+-- The fault of a text with its byte: the one at the least place, and there the first of the table; none where the text is a query.
+abbrev pub fault_of : List Field → List ℕ → Option (FaultKind × ℕ)
+fault_of fields text = fault_in fields (tokens_of fields text)

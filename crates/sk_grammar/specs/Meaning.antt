@@ -1,0 +1,126 @@
+-- The query of a text, by splitting.
+use Rattle.std.specs.Prelude.{ℕ, ◌&&◌, not, Bool, true, false, List, [], ◌∷◌, map, filter, if◌then◌else◌, Option, Some, None}
+use Rattle.sk_base.specs.declared.schema.Field.{Field}
+use Rattle.sk_base.specs.declared.find.Join.{Join}
+use Rattle.sk_query.specs.declared.form.Form.TheVariants as Form
+use Rattle.sk_query.specs.Trees.{Tree}
+use Rattle.sk_grammar.specs.declared.fault.FaultKind.{FaultKind}
+use Rattle.sk_grammar.specs.declared.token.Kind.{Kind}
+use Rattle.sk_grammar.specs.declared.token.Kind.TheVariants as Kind
+use Rattle.sk_grammar.specs.declared.token.Token.{Token}
+use Rattle.sk_grammar.specs.Cutting.{tokens_of}
+use Rattle.sk_grammar.specs.Faults.{is_not, kinds_of, fault_in}
+use Rattle.sk_grammar.specs.Brackets.{Nest, single, bracket, Nests, no_nests, nest, Levels, levels_of}
+use Rattle.sk_grammar.specs.Parts.{Part, unit, empty, operator, prefix_in, part_of, chained}
+use Rattle.sk_grammar.specs.Runs.{joined, without, all_of, run_tree}
+
+-- AND, OR, XOR.
+abbrev pub is_and : Kind → Bool
+is_and Kind.And = true
+is_and _ = false
+
+abbrev pub is_or : Kind → Bool
+is_or Kind.Or = true
+is_or _ = false
+
+abbrev pub is_xor : Kind → Bool
+is_xor Kind.Xor = true
+is_xor _ = false
+
+-- The part is an operator that passes the test.
+abbrev pub at : (Kind → Bool) → Part → Bool
+at test (operator k) = test k
+at test _ = false
+
+-- The first part is.
+abbrev pub first_at : (Kind → Bool) → List Part → Bool
+first_at test [] = false
+first_at test (p ∷ ps) = at test p
+
+-- A part put before the first of these lists.
+abbrev pub in_front : Part → List (List Part) → List (List Part)
+in_front p [] = (p ∷ []) ∷ []
+in_front p (ps ∷ more) = (p ∷ ps) ∷ more
+
+-- What stands between the operators that pass the test.
+abbrev pub split : (Kind → Bool) → List Part → List (List Part)
+split test [] = [] ∷ []
+split test (p ∷ ps) = if at test p then [] ∷ split test ps else in_front p (split test ps)
+
+-- A run: what stands between AND and NOT, and whether it stands behind NOT.
+pub record Run : Type 0 where
+  pub negative : Bool
+  pub inside : List Part
+
+-- A part put before the first of these runs.
+abbrev pub in_run : Part → List Run → List Run
+in_run p [] = record { negative = false; inside = p ∷ [] } ∷ []
+in_run p (run ∷ more) = record { negative = run.negative; inside = p ∷ run.inside } ∷ more
+
+-- The runs of these parts, the first standing behind NOT or not. AND directly before NOT is passed over.
+abbrev pub runs : Bool → List Part → List Run
+runs negative [] = record { negative = negative; inside = [] } ∷ []
+runs negative (p ∷ ps) =
+    if at is_and p then (if first_at is_not ps then runs negative ps else record { negative = negative; inside = [] } ∷ runs false ps)
+    else (if at is_not p then record { negative = negative; inside = [] } ∷ runs true ps
+    else in_run p (runs negative ps))
+
+-- The runs of a part of XOR. NOT that stands first has no run before it.
+abbrev pub runs_in : List Part → List Run
+runs_in [] = runs false []
+runs_in (p ∷ ps) = if at is_not p then runs true ps else runs false (p ∷ ps)
+
+abbrev pub is_positive : Run → Bool
+is_positive run = not run.negative
+
+-- The queries of the runs that pass.
+abbrev pub run_trees : Join → (Run → Bool) → List Run → List Tree
+run_trees join test rs = map (λ (run : Run). run_tree join run.inside) (filter test rs)
+
+-- The query of runs: all that are positive, without the negative ones.
+abbrev pub runs_tree : Join → List Run → Tree
+runs_tree join rs = without (all_of (run_trees join is_positive rs)) (run_trees join Run.negative rs)
+
+-- The query of what stands between two XOR.
+abbrev pub and_tree : Join → List Part → Tree
+and_tree join ps = runs_tree join (runs_in ps)
+
+-- The query of what stands between two OR.
+abbrev pub xor_tree : Join → List Part → Tree
+xor_tree join ps = joined Form.Xor (map (and_tree join) (split is_xor ps))
+
+-- The query of parts.
+abbrev pub parts_tree : Join → List Part → Tree
+parts_tree join ps = joined Form.Or (map (xor_tree join) (split is_or ps))
+
+-- The part that a bracket is, by what stands inside.
+abbrev pub closed_part : Join → List Part → Part
+closed_part join [] = empty
+closed_part join (p ∷ ps) = unit (parts_tree join (chained (p ∷ ps)))
+
+abbrev mutual
+  -- The part that a token or a bracket is, where the brackets around it give this prefix. What a bracket's own field says holds inside.
+  pub nest_part : List Field → Join → List ℕ → Nest → Part
+  nest_part fields join around (single k) = part_of fields around k
+  nest_part fields join around (bracket field ns) = closed_part join (nest_parts fields join (prefix_in fields around field) ns)
+
+  pub nest_parts : List Field → Join → List ℕ → Nests → List Part
+  nest_parts fields join around no_nests = []
+  nest_parts fields join around (nest n ns) = nest_part fields join around n ∷ nest_parts fields join around ns
+
+-- The query of tokens without a fault, by their kinds.
+abbrev pub tree_in : List Field → Join → List Kind → Tree
+tree_in fields join ks = parts_tree join (chained (nest_parts fields join [] (Levels.here (levels_of ks))))
+
+-- The query of tokens that have this fault or none.
+abbrev pub meant_or : List Field → Join → Option (FaultKind × ℕ) → List Token → Option Tree
+meant_or fields join None tokens = Some (tree_in fields join (kinds_of tokens))
+meant_or fields join (Some fault) tokens = None
+
+-- The query of tokens, where they have no fault.
+abbrev pub meant_in : List Field → Join → List Token → Option Tree
+meant_in fields join tokens = meant_or fields join (fault_in fields tokens) tokens
+
+-- The query of a text, where it has no fault.
+abbrev pub query_meant : List Field → Join → List ℕ → Option Tree
+query_meant fields join text = meant_in fields join (tokens_of fields text)

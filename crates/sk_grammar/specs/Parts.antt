@@ -1,0 +1,113 @@
+-- The tokens of a list as parts of a query, each bracket being one part already.
+use Rattle.std.specs.Prelude.{ℕ, ◌+◌, ◌-◌, max, Bool, true, false, List, [], ◌∷◌, ◌++◌, length, map, if◌then◌else◌, Option, Some, None}
+use Rattle.std.specs.List.{slice_get}
+use Rattle.std.specs.Str.Parse.{digits_value}
+use Rattle.sk_base.specs.declared.schema.Field.{Field}
+use Rattle.sk_base.specs.declared.schema.FieldKind.{FieldKind}
+use Rattle.sk_base.specs.declared.schema.FieldKind.TheVariants as FieldKind
+use Rattle.sk_base.specs.Terms.{prefixed}
+use Rattle.sk_query.specs.Trees.{Tree, nothing, term, wildcard, near, phrase, range, Limit, unbounded, number, bytes}
+use Rattle.sk_grammar.specs.declared.token.Kind.{Kind}
+use Rattle.sk_grammar.specs.declared.token.Kind.TheVariants as Kind
+use Rattle.sk_grammar.specs.Bounds.{halves}
+
+-- A part of a list of tokens.
+pub data Part : Type 0 where
+  -- Words that NEAR or, where the order counts, ADJ holds together, with the greatest distance; or a word alone.
+  chain : Bool → ℕ → List (List ℕ) → Part
+  -- Another unit that is no filter.
+  unit : Tree → Part
+  -- A filter or a range, with its field.
+  chosen : ℕ → Tree → Part
+  -- Brackets with nothing inside.
+  empty : Part
+  -- NEAR or, where the order counts, ADJ, with its distance.
+  link : Bool → ℕ → Part
+  -- Another operator, or a mark.
+  operator : Kind → Part
+
+-- The prefix of a field's terms.
+abbrev pub kind_prefix : FieldKind → List ℕ
+kind_prefix (FieldKind.Text prefix step) = prefix
+kind_prefix (FieldKind.Filter prefix) = prefix
+kind_prefix (FieldKind.Number slot) = []
+kind_prefix (FieldKind.Word slot) = []
+
+abbrev pub prefix_of : Option Field → List ℕ
+prefix_of None = []
+prefix_of (Some field) = kind_prefix (Field.kind field)
+
+-- The prefix under a token's own field, or else the one of the brackets around it.
+abbrev pub prefix_in : List Field → List ℕ → Option ℕ → List ℕ
+prefix_in fields around None = around
+prefix_in fields around (Some f) = prefix_of (slice_get fields f)
+
+-- Words that stand side by side: in their order, within as many places as there are words; one word is a term.
+abbrev pub side_by_side : List (List ℕ) → Tree
+side_by_side [] = nothing
+side_by_side (t ∷ []) = term t
+side_by_side (t ∷ u ∷ ts) = phrase (length (t ∷ u ∷ ts)) (t ∷ u ∷ ts)
+
+-- A bound of a field of this kind: an open one, a number, or the text as it is written.
+abbrev pub limit_in : FieldKind → List ℕ → Limit
+limit_in kind [] = unbounded
+limit_in (FieldKind.Number slot) (b ∷ bs) = number (digits_value 10 (b ∷ bs))
+limit_in (FieldKind.Text prefix step) (b ∷ bs) = bytes (b ∷ bs)
+limit_in (FieldKind.Filter prefix) (b ∷ bs) = bytes (b ∷ bs)
+limit_in (FieldKind.Word slot) (b ∷ bs) = bytes (b ∷ bs)
+
+-- The slot of a field.
+abbrev pub slot_of : FieldKind → ℕ
+slot_of (FieldKind.Number slot) = slot
+slot_of (FieldKind.Word slot) = slot
+slot_of (FieldKind.Text prefix step) = 0
+slot_of (FieldKind.Filter prefix) = 0
+
+-- The range of a field: its slot, between the two bounds of the text.
+abbrev pub range_in : Option Field → List ℕ → Tree
+range_in None text = nothing
+range_in (Some field) text =
+    range (slot_of (Field.kind field)) (limit_in (Field.kind field) (halves text).0) (limit_in (Field.kind field) (halves text).1)
+
+-- The terms under a prefix.
+abbrev pub all_prefixed : List ℕ → List (List ℕ) → List (List ℕ)
+all_prefixed prefix terms = map (prefixed prefix) terms
+
+-- The part that a token is, which is no bracket, where the brackets around it give this prefix.
+abbrev pub part_of : List Field → List ℕ → Kind → Part
+part_of fields around (Kind.Word field t) = chain false 0 (prefixed (prefix_in fields around field) t ∷ [])
+part_of fields around (Kind.Wild field t) = unit (wildcard (prefixed (prefix_in fields around field) t))
+part_of fields around (Kind.Joined field ts) = unit (side_by_side (all_prefixed (prefix_in fields around field) ts))
+part_of fields around (Kind.Quote field ts) = unit (side_by_side (all_prefixed (prefix_in fields around field) ts))
+part_of fields around (Kind.Filter f text) = chosen f (term (prefixed (prefix_of (slice_get fields f)) text))
+part_of fields around (Kind.Range f text) = chosen f (range_in (slice_get fields f) text)
+part_of fields around (Kind.Near n) = link false n
+part_of fields around (Kind.Adj n) = link true n
+part_of fields around k = operator k
+
+-- The greatest distance and all terms of a word, a link and a chain.
+abbrev pub linked_words : List (List ℕ) → Bool → ℕ → Part → List Part → List Part
+linked_words ts ordered n (chain o m us) ps = chain ordered (max n m) (ts ++ us) ∷ ps
+linked_words ts ordered n p ps = chain ordered n ts ∷ p ∷ ps
+
+-- A word before other parts, the words among which are linked already: behind it may stand a link, and a word or a chain.
+abbrev pub link_word : ℕ → List (List ℕ) → List Part → List Part
+link_word k ts (link ordered n ∷ p ∷ ps) = linked_words ts ordered n p ps
+link_word k ts ps = chain false k ts ∷ ps
+
+-- A part before others, the words among which are linked already.
+abbrev pub linked : Part → List Part → List Part
+linked (chain o k ts) ps = link_word k ts ps
+linked p ps = p ∷ ps
+
+-- The parts with their words linked.
+abbrev pub chained : List Part → List Part
+chained [] = []
+chained (p ∷ ps) = linked p (chained ps)
+
+-- The query of a chain: its window is the greatest distance and one for each word but the first. One word is a term.
+abbrev pub chain_tree : Bool → ℕ → List (List ℕ) → Tree
+chain_tree ordered n [] = nothing
+chain_tree ordered n (t ∷ []) = term t
+chain_tree true n (t ∷ u ∷ ts) = phrase (n + length (t ∷ u ∷ ts) - 1) (t ∷ u ∷ ts)
+chain_tree false n (t ∷ u ∷ ts) = near (n + length (t ∷ u ∷ ts) - 1) (t ∷ u ∷ ts)

@@ -1,0 +1,6 @@
+-- Lemmas.
+mod RunLemmas
+mod GroupLemmas
+mod OperatorLemmas
+mod FieldLemmas
+mod WalkLemmas

@@ -1,0 +1,113 @@
+//! Runs of characters.
+ghost use Rattle.std.specs.Prelude.{◌≡◌, ◌≤◌, ◌<◌, ◌+◌, false, not, length, drop, position};
+ghost use Rattle.std.specs.List.{prefix_len};
+ghost use Rattle.sk_base.specs.Names.{is_name_byte};
+ghost use Rattle.sk_text.specs.Characters.{is_apostrophe, begins_word, belongs};
+ghost use Rattle.sk_grammar.specs.Characters.{is_joiner, group_len, runs_on, run_len};
+
+use sk_text::is_word;
+
+pub(crate) fn is_joiner(c: char) -> bool
+    ensures { result ≡ is_joiner c }
+{
+    matches!(c, '.' | '-' | '/' | ':' | '\\' | '@')
+}
+
+pub(crate) fn begins_word(cs: &[char]) -> bool
+    ensures { result ≡ begins_word cs.now }
+{
+    match cs {
+        [c, ..] => is_word(*c),
+        [] => false,
+    }
+}
+
+fn is_apostrophe(c: char) -> bool
+    ensures { result ≡ is_apostrophe c }
+{
+    c == '\'' || c == '\u{2019}'
+}
+
+/// Whether the first character belongs to a word, where `after` says that a word character stands right before it.
+fn belongs(after: bool, c: char, behind: &[char]) -> bool
+    ensures { result ≡ belongs after c behind.now }
+{
+    is_word(c) || (after && is_apostrophe(c) && begins_word(behind))
+}
+
+/// The characters behind a place.
+fn behind(cs: &[char], i: usize) -> &[char]
+    requires { i < length cs.now }
+    ensures { result.now ≡ drop (i + 1) cs.now }
+{
+    &cs[i + 1..]
+}
+
+/// The characters behind the first so many.
+pub(crate) fn drop_front(cs: &[char], n: usize) -> &[char]
+    requires { n ≤ length cs.now }
+    ensures { result.now ≡ drop n cs.now }
+{
+    &cs[n..]
+}
+
+/// How many characters the group at the front has.
+pub(crate) fn group_len(cs: &[char]) -> usize
+    ensures value { result ≡ group_len false cs.now }
+    ensures within { result ≤ length cs.now }
+{
+    let mut end = 0usize;
+    let mut after = false;
+    'cs: for i in 0..cs.len() {
+        let c = cs[i];
+        if belongs(after, c, behind(cs, i)) {
+            end = i + 1;
+        } else if !is_joiner(c) {
+            return end;
+        }
+        after = is_word(c);
+    }
+    end
+}
+
+pub(crate) fn runs_on(c: char) -> bool
+    ensures { result ≡ runs_on c }
+{
+    !c.is_whitespace() && c != ')'
+}
+
+/// Where the run at the front ends, before the end of the characters.
+fn run_end(cs: &[char]) -> Option<usize>
+    ensures { result ≡ position (λ c. not (runs_on c)) cs.now }
+{
+    cs.iter().position(|c| !runs_on(*c))
+}
+
+/// How many characters the run at the front has.
+pub(crate) fn run_len(cs: &[char]) -> usize
+    ensures value { result ≡ run_len cs.now }
+    ensures within { result ≤ length cs.now }
+{
+    run_end(cs).unwrap_or(cs.len())
+}
+
+fn is_name_char(c: char) -> bool
+    ensures { result ≡ is_name_byte c }
+{
+    c.is_ascii_lowercase() || c.is_ascii_digit() || c == '_'
+}
+
+/// Where the name at the front ends, before the end of the characters.
+fn name_end(cs: &[char]) -> Option<usize>
+    ensures { result ≡ position (λ c. not (is_name_byte c)) cs.now }
+{
+    cs.iter().position(|c| !is_name_char(*c))
+}
+
+/// How many characters the name at the front has.
+pub(crate) fn name_len(cs: &[char]) -> usize
+    ensures value { result ≡ prefix_len is_name_byte cs.now }
+    ensures within { result ≤ length cs.now }
+{
+    name_end(cs).unwrap_or(cs.len())
+}

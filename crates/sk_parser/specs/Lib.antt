@@ -1,0 +1,2 @@
+-- What the code of the parser keeps, in the words of the definitions.
+pub mod Before

@@ -1,0 +1,64 @@
+//! How lines and answers are written in a section.
+use std::alloc::AllocError;
+use std::str;
+
+/// Whether the lines of a text are those that are written, and no others.
+pub fn fits(wanted: &[String], answered: &str) -> bool {
+    let mut lines = answered.lines();
+    for want in wanted {
+        match lines.next() {
+            Some(line) => {
+                if !line_fits(want.as_str(), line) {
+                    return false;
+                }
+            }
+            None => return false,
+        }
+    }
+    lines.next().is_none()
+}
+
+/// Whether a line is the one that is written. A line that ends in `<=` and a number fits one that ends in `=` and a number
+/// that is no greater: how many readings a find makes is only bounded.
+fn line_fits(want: &str, line: &str) -> bool {
+    match want.rsplit_once("<=") {
+        Some((front, most)) => match line.rsplit_once("=") {
+            Some((start, number)) => start == front && is_at_most(number, most),
+            None => false,
+        },
+        None => want == line,
+    }
+}
+
+fn is_at_most(number: &str, most: &str) -> bool {
+    match (number.parse::<u64>(), most.parse::<u64>()) {
+        (Ok(number), Ok(most)) => number <= most,
+        _ => false,
+    }
+}
+
+/// Puts a line. `<<N*B>>` in it stands for a byte N times, B being its number in two hexadecimal digits.
+pub fn put_expanded(to: &mut Vec<u8>, line: &[u8]) -> Result<(), AllocError> {
+    match repeated(line) {
+        Some((front, count, byte, back)) => {
+            to.extend_from_slice(front)?;
+            for _ in 0..count {
+                to.push(byte)?;
+            }
+            to.extend_from_slice(back)?;
+        }
+        None => to.extend_from_slice(line)?,
+    }
+    Ok(())
+}
+
+/// What stands before a repeated byte, how often which, and what stands behind it.
+fn repeated(line: &[u8]) -> Option<(&[u8], usize, u8, &[u8])> {
+    let line = str::from_utf8(line).ok()?;
+    let (front, rest) = line.split_once("<<")?;
+    let (inner, back) = rest.split_once(">>")?;
+    let (count, byte) = inner.split_once("*")?;
+    let count = count.parse::<usize>().ok()?;
+    let byte = u8::from_str_radix(byte, 16).ok()?;
+    Some((front.as_bytes(), count, byte, back.as_bytes()))
+}

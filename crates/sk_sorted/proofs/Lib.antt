@@ -1,0 +1,4 @@
+pub mod EntryLaws
+pub mod PlaceLaws
+pub mod PickedLaws
+mod Examples

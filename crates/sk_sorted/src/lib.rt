@@ -1,0 +1,10 @@
+//! Lists of entries in order of their ids.
+#![tactic(auto)]
+
+mod place;
+mod sorted;
+#[cfg(test)]
+mod tests;
+
+pub use place::place_of;
+pub use sorted::Sorted;

@@ -1,0 +1,5 @@
+-- The ledger is the blank's own.
+use Rattle.sk_values.proofs.tests.each_call_succeeds_with_memory.Given as goal
+
+abbrev pub ghosts-read_one : goal.ghosts-read_one
+ghosts-read_one g a = record { name = a.blank.name; parts = a.blank.parts }
