@@ -1,5 +1,5 @@
 -- How many matches are kept: it hangs on how often each key occurs alone.
-use Rattle.std.proofs.Common.{◌≡◌, ◌<◌, ◌≤◌, ◌+◌, ◌-◌, ℕ, suc, min, Bool, true, false, cond, ◌||◌, ◌==◌, nat_lt, List, [], ◌∷◌, length, take, count_by, bytes_eq, Option, Some, None, refl, sym, ap, ◌∙◌, subst, arith, true≢false, length-take, ◌++◌, drop, length-drop}
+use Rattle.std.proofs.Common.{◌≡◌, ◌<◌, ◌≤◌, ◌+◌, ◌-◌, ℕ, zero, suc, min, Bool, true, false, cond, ◌||◌, ◌==◌, nat_lt, List, [], ◌∷◌, length, take, filter, if◌then◌else◌, count_by, bytes_eq, Option, Some, None, refl, sym, ap, ◌∙◌, subst, arith, true≢false, length-take, ◌++◌, drop, length-drop}
 use Rattle.std.proofs.lemmas.Bool.Decides.{nat_tests}
 use Rattle.std.proofs.lemmas.List.Sums.{sum_by-cons, sum_by-append, sum_by-take-le, sum_by-take-drop}
 use Rattle.std.proofs.lemmas.List.Sorted.{sum_by-IsPermutation}
@@ -8,7 +8,7 @@ use Rattle.sk_base.specs.declared.find.Collapse.{Collapse}
 use Rattle.sk_base.specs.declared.rank.Rank.{Rank}
 use Rattle.sk_base.specs.declared.rank.Order.{Order}
 use Rattle.sk_model.specs.Page.{best_first, is_kept, kept_behind, kept, count_key, dropped}
-use Rattle.sk_model.specs.Laws.{kept_number}
+use Rattle.sk_model.specs.Laws.{kept_number, kept_first}
 use Rattle.sk_model.proofs.OrderLaws.{best_first_permutation, length-best_first}
 
 -- ---- tests
@@ -86,6 +86,65 @@ module _ (key : Rank → List ℕ) (k : List ℕ) where
     behind_number xs true e = behind_all e [] xs
     behind_number xs false e = behind_is e [] xs ∙ omega arith
 
+  -- the matches of this key
+  abbrev own : List Rank → List Rank
+  own xs = filter (λ x. bytes_eq (key x) k) xs
+
+  own_more : (x : Rank) (xs : List Rank) (same : Bool) → bytes_eq (key x) k ≡ same → own (x ∷ xs) ≡ cond same (x ∷ own xs) (own xs)
+  own_more x xs same e = ap (λ b. cond b (x ∷ own xs) (own xs)) e
+
+  take_one : (x : Rank) (xs : List Rank) (m n : ℕ) → n ≡ suc m → take n (x ∷ xs) ≡ x ∷ take m xs
+  take_one x xs m n e = ap (λ i. take i (x ∷ xs)) e
+
+  take_none : (xs : List Rank) (n : ℕ) → n ≡ 0 → take n xs ≡ []
+  take_none xs n e = ap (λ i. take i xs) e
+
+  own_step : (x : Rank) (more less xs : List Rank) (most n m : ℕ) (is same : Bool)
+      → bytes_eq (key x) k ≡ same
+      → own more ≡ take (most - m) (own xs)
+      → own less ≡ take (most - n) (own xs)
+      → m ≡ cond same 1 0 + n
+      → (same ≡ true → is ≡ nat_lt n most)
+      → own (cond is (x ∷ more) less) ≡ take (most - n) (own (x ∷ xs))
+  own_step x more less xs most n m true true e h g before test =
+      let room : n < most = is_less n most (sym (test refl)) in
+      own_more x more true e ∙ ap (λ ys. x ∷ ys) h ∙ sym (take_one x (own xs) (most - m) (most - n) (omega (arith, room, before))) ∙ ap (take (most - n)) (sym (own_more x xs true e))
+  own_step x more less xs most n m true false e h g before test =
+      let same : most - m ≡ most - n = omega (arith, before) in
+      own_more x more false e ∙ h ∙ ap (λ i. take i (own xs)) same ∙ ap (take (most - n)) (sym (own_more x xs false e))
+  own_step x more less xs most n m false true e h g before test =
+      let full : most ≤ n = not_less n most (sym (test refl)) in
+      g ∙ take_none (own xs) (most - n) (omega (arith, full)) ∙ sym (take_none (own (x ∷ xs)) (most - n) (omega (arith, full)))
+  own_step x more less xs most n m false false e h g before test = g ∙ ap (take (most - n)) (sym (own_more x xs false e))
+
+  own_empty : (x : Rank) (more less xs : List Rank) (is same : Bool)
+      → bytes_eq (key x) k ≡ same → own more ≡ own xs → own less ≡ own xs → (same ≡ true → is ≡ true) → own (cond is (x ∷ more) less) ≡ own (x ∷ xs)
+  own_empty x more less xs true true e h g test = own_more x more true e ∙ ap (λ ys. x ∷ ys) h ∙ sym (own_more x xs true e)
+  own_empty x more less xs true false e h g test = own_more x more false e ∙ h ∙ sym (own_more x xs false e)
+  own_empty x more less xs false true e h g test = absurd (true≢false (sym (test refl)))
+  own_empty x more less xs false false e h g test = g ∙ sym (own_more x xs false e)
+
+  module _ (most : ℕ) where
+    own_behind : (length k == 0) ≡ false → (before : List (List ℕ)) (xs : List Rank) → own (kept_behind most key before xs) ≡ take (most - count_by (bytes_eq k) before) (own xs)
+    own_behind some before [] = sym (take_nil (most - count_by (bytes_eq k) before))
+      where
+        take_nil : (n : ℕ) → take n (own []) ≡ []
+        take_nil zero = refl
+        take_nil (suc n) = refl
+    own_behind some before (x ∷ xs) =
+        own_step x (kept_behind most key (key x ∷ before) xs) (kept_behind most key before xs) xs most (count_by (bytes_eq k) before) (count_by (bytes_eq k) (key x ∷ before))
+        (is_kept most (key x) before) (bytes_eq (key x) k) refl (own_behind some (key x ∷ before) xs) (own_behind some before xs) (before_more most x before) (test_is most x before false some)
+
+    own_all : (length k == 0) ≡ true → (before : List (List ℕ)) (xs : List Rank) → own (kept_behind most key before xs) ≡ own xs
+    own_all none before [] = refl
+    own_all none before (x ∷ xs) =
+        own_empty x (kept_behind most key (key x ∷ before) xs) (kept_behind most key before xs) xs
+        (is_kept most (key x) before) (bytes_eq (key x) k) refl (own_all none (key x ∷ before) xs) (own_all none before xs) (test_is most x before true none)
+
+    own_kept : (xs : List Rank) (none : Bool) → (length k == 0) ≡ none → own (kept_behind most key [] xs) ≡ (if none then own xs else take most (own xs))
+    own_kept xs true e = own_all e [] xs
+    own_kept xs false e = let same : most - 0 ≡ most = omega arith in own_behind e [] xs ∙ ap (λ i. take i (own xs)) same
+
   in_order : (order : Order) (ranks : List Rank) → count_key key k (best_first order ranks) ≡ count_key key k ranks
   in_order order ranks = sum_by-IsPermutation (λ y. cond (bytes_eq (key y) k) 1 0) ranks (best_first order ranks) (best_first_permutation order ranks)
 
@@ -94,6 +153,11 @@ pub kept_each : (order : Order) (collapse : Collapse) (key : Rank → List ℕ) 
 kept_each order collapse key k ranks =
     behind_number key k collapse.max (best_first order ranks) (length k == 0) refl
     ∙ ap (kept_number collapse.max k) (in_order key k order ranks)
+
+-- those of a key that are kept are the first of its best
+pub kept_of_key : (order : Order) (collapse : Collapse) (key : Rank → List ℕ) (k : List ℕ) (ranks : List Rank)
+    → filter (λ x. bytes_eq (key x) k) (kept order (Some collapse) key ranks) ≡ kept_first collapse.max k (filter (λ x. bytes_eq (key x) k) (best_first order ranks))
+kept_of_key order collapse key k ranks = own_kept key k collapse.max (best_first order ranks) (length k == 0) refl
 
 -- ---- all keys
 

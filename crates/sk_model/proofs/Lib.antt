@@ -3,11 +3,13 @@ pub mod DocumentLaws
 pub mod TermLaws
 pub mod KeptLaws
 pub mod CombiningLaws
+pub mod CoverLaws
 pub mod HeldLaws
 pub mod CeilLaws
 pub mod StaticLaws
 pub mod WeightLaws
 pub mod CountLaws
+pub mod NearLaws
 pub mod ReportLaws
 pub mod SettledLaws
 mod Examples

@@ -9,7 +9,7 @@ use Rattle.sk_base.specs.declared.rank.Order.{Order}
 use Rattle.sk_base.specs.declared.rank.SortKey.{SortKey}
 use Rattle.sk_base.specs.Numbers.{Docs}
 use Rattle.sk_query.specs.declared.form.Form.{Form}
-use Rattle.sk_query.specs.Trees.{unbounded, number, bytes, Tree, nothing, all, term, wildcard, parts, near, phrase, synonym, scale, range, trees_from}
+use Rattle.sk_query.specs.Trees.{Tree, nothing, all, term, parts, phrase, trees_from}
 use Rattle.sk_model.specs.Matches.{key_of}
 use Rattle.sk_model.specs.Counts.{kept_by, dropped_by}
 use Rattle.sk_model.specs.Reports.{found_by, page_of}

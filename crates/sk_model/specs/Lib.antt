@@ -9,6 +9,7 @@ pub mod Scores
 pub mod Matches
 pub mod Page
 pub mod Bounds
+pub mod Covers
 pub mod Counts
 pub mod Allowance
 pub mod Settled

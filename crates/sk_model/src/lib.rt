@@ -4,10 +4,12 @@
 mod bounds;
 mod combining;
 mod counts;
+mod covers;
 mod documents;
 mod one_word;
 mod order;
 mod page;
+mod positions;
 mod reports;
 mod settled;
 
@@ -16,9 +18,11 @@ pub use combining::{
     first_and_others, scores_in_any_order, scores_in_pieces, scores_that_are_there,
 };
 pub use counts::{counts_are_there, counts_in_order};
+pub use covers::{covers_follow, sides_cover, two_sides};
 pub use documents::{slots_of_schema, terms_of_mentions};
 pub use one_word::is_one_word;
-pub use order::{one_order, sort_best_first};
-pub use page::{kept_by_keys, kept_of_front, slice};
+pub use order::{one_order, place_never_worse, sort_best_first};
+pub use page::{kept_by_keys, kept_of_front, kept_of_key, slice};
+pub use positions::near_is_a_window;
 pub use reports::reports_are_there;
 pub use settled::{settled_is_least, sharp_is_least};

@@ -1,5 +1,5 @@
 //! The order of matches.
-ghost use Rattle.std.specs.Prelude.{◌≡◌, ◌≢◌, List, AllPairs, IsPermutation};
+ghost use Rattle.std.specs.Prelude.{◌≡◌, ◌≢◌, ◌<◌, ◌++◌, ℕ, false, List, length, get_or, AllPairs, IsPermutation};
 ghost use Rattle.std.specs.List.Sorted.{IsSortedBy};
 ghost use Rattle.sk_base.specs.declared.rank.Rank.{Rank};
 ghost use Rattle.sk_base.specs.declared.rank.Order.{Order};
@@ -20,4 +20,11 @@ pub fn sort_best_first(ranks: &mut [Rank], order: &Order)
 pub fn one_order()
     ensures { (order : Order) (ranks sorted : List Rank) → AllPairs (λ x y. x.id ≢ y.id) ranks
         → IsPermutation ranks sorted → IsSortedBy (is_before order) sorted → sorted ≡ best_first order ranks }
+{}
+
+/// A law: while matches are added, what stands at a place of the ordered list gets no worse. So the weight that a match
+/// needs in order to enter a page never falls.
+pub fn place_never_worse()
+    ensures { (order : Order) (added ranks : List Rank) (k : ℕ) (d : Rank) → k < length ranks
+        → is_before order (get_or (best_first order ranks) k d) (get_or (best_first order (added ++ ranks)) k d) ≡ false }
 {}

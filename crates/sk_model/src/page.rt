@@ -1,10 +1,10 @@
 //! The asked page, and laws of the matches that are kept.
-ghost use Rattle.std.specs.Prelude.{◌≡◌, ◌≤◌, ◌+◌, ℕ, List, length, take, drop, Option, Some};
+ghost use Rattle.std.specs.Prelude.{◌≡◌, ◌≤◌, ◌+◌, ℕ, List, length, take, drop, filter, bytes_eq, Option, Some};
 ghost use Rattle.sk_base.specs.declared.find.Collapse.{Collapse};
 ghost use Rattle.sk_base.specs.declared.rank.Rank.{Rank};
 ghost use Rattle.sk_base.specs.declared.rank.Order.{Order};
-ghost use Rattle.sk_model.specs.Page.{kept, count_key, dropped, slice};
-ghost use Rattle.sk_model.specs.Laws.{kept_number};
+ghost use Rattle.sk_model.specs.Page.{best_first, kept, count_key, dropped, slice};
+ghost use Rattle.sk_model.specs.Laws.{kept_number, kept_first};
 
 use sk_base::Rank;
 
@@ -35,4 +35,11 @@ pub fn kept_of_front()
         → length (kept order collapse key ranks) ≤ length (kept order collapse key (take n ranks)) + length (drop n ranks) }
     ensures dropped { (order : Order) (collapse : Option Collapse) (key : Rank → List ℕ) (k : List ℕ) (n : ℕ) (ranks : List Rank)
         → dropped order collapse key k (take n ranks) ≤ dropped order collapse key k ranks }
+{}
+
+/// A law: of a key the kept matches are the first of its best, as many as may be; of the empty key all.
+pub fn kept_of_key()
+    ensures { (order : Order) (collapse : Collapse) (key : Rank → List ℕ) (k : List ℕ) (ranks : List Rank)
+        → filter (λ x. bytes_eq (key x) k) (kept order (Some collapse) key ranks)
+        ≡ kept_first collapse.max k (filter (λ x. bytes_eq (key x) k) (best_first order ranks)) }
 {}

@@ -1,3 +1,3 @@
 mod CountLemmas
-mod ShapeLemmas
+mod ReadingLemmas
 pub mod ViewLaws

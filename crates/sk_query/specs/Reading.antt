@@ -80,45 +80,45 @@ parts_named name =
 
 abbrev mutual
   -- The tree of an object with exactly one member, its windows, factors and slots being in their ranges, whether or not it fits.
-  pub shape_of : Data → Option Tree
-  shape_of null = None
-  shape_of (boolean b) = None
-  shape_of (number n) = None
-  shape_of (string s) = None
-  shape_of (array ds) = None
-  shape_of (object ms) = shape_in ms
+  pub read_tree : Data → Option Tree
+  read_tree null = None
+  read_tree (boolean b) = None
+  read_tree (number n) = None
+  read_tree (string s) = None
+  read_tree (array ds) = None
+  read_tree (object ms) = read_member ms
 
-  pub shape_in : Members → Option Tree
-  shape_in no_members = None
-  shape_in (member name d no_members) = shape_named (parts_named name) name d
-  shape_in (member name d (member other e ms)) = None
+  pub read_member : Members → Option Tree
+  read_member no_members = None
+  read_member (member name d no_members) = read_named (parts_named name) name d
+  read_member (member name d (member other e ms)) = None
 
   -- The tree of a member, by its name: a form of several queries with an array of them, a factor and a query, or a form without a query inside.
-  pub shape_named : Option Form → List ℕ → Data → Option Tree
-  shape_named (Some form) name null = None
-  shape_named (Some form) name (boolean b) = None
-  shape_named (Some form) name (number n) = None
-  shape_named (Some form) name (string s) = None
-  shape_named (Some form) name (array ds) = option_map (parts form) (shapes_of ds)
-  shape_named (Some form) name (object ms) = None
-  shape_named None name null = None
-  shape_named None name (boolean b) = None
-  shape_named None name (number n) = None
-  shape_named None name (string s) = leaf_named name (string s)
-  shape_named None name (array ds) = if bytes_eq name (codes "scale") then scaled ds else leaf_named name (array ds)
-  shape_named None name (object ms) = None
+  pub read_named : Option Form → List ℕ → Data → Option Tree
+  read_named (Some form) name null = None
+  read_named (Some form) name (boolean b) = None
+  read_named (Some form) name (number n) = None
+  read_named (Some form) name (string s) = None
+  read_named (Some form) name (array ds) = option_map (parts form) (read_trees ds)
+  read_named (Some form) name (object ms) = None
+  read_named None name null = None
+  read_named None name (boolean b) = None
+  read_named None name (number n) = None
+  read_named None name (string s) = leaf_named name (string s)
+  read_named None name (array ds) = if bytes_eq name (codes "scale") then scaled ds else leaf_named name (array ds)
+  read_named None name (object ms) = None
 
   -- A factor and a query.
   pub scaled : Items → Option Tree
   scaled no_items = None
   scaled (item f no_items) = None
-  scaled (item f (item q no_items)) = option_and_then (λ factor. option_map (scale factor) (shape_of q)) (number_if is_factor f)
+  scaled (item f (item q no_items)) = option_and_then (λ factor. option_map (scale factor) (read_tree q)) (number_if is_factor f)
   scaled (item f (item q (item d ds))) = None
 
   -- The trees of items.
-  pub shapes_of : Items → Option Trees
-  shapes_of no_items = Some no_trees
-  shapes_of (item d ds) = option_and_then (λ t. option_map (tree t) (shapes_of ds)) (shape_of d)
+  pub read_trees : Items → Option Trees
+  read_trees no_items = Some no_trees
+  read_trees (item d ds) = option_and_then (λ t. option_map (tree t) (read_trees ds)) (read_tree d)
 
 -- The tree, where it fits.
 abbrev pub fitting : Tree → Option Tree
@@ -126,4 +126,4 @@ fitting t = if fits_tree t then Some t else None
 
 -- The tree of a JSON value: an object with exactly one member of these forms, which fits; and none of any other value.
 abbrev pub tree_of : Data → Option Tree
-tree_of d = option_and_then fitting (shape_of d)
+tree_of d = option_and_then fitting (read_tree d)

@@ -8,7 +8,7 @@ ghost use Rattle.serde_json.specs.View.{view, items_view, members_view};
 ghost use Rattle.sk_json.specs.Values.{texts_of};
 ghost use Rattle.sk_query.specs.Trees.{limit_of, query_view, queries_view};
 ghost use Rattle.sk_query.specs.Fits.{is_window, is_factor, is_slot, fits_tree};
-ghost use Rattle.sk_query.specs.Reading.{number_if, windowed, limit_of_value, range_of, string_named, empty_named, filled_named, leaf_named, parts_named, shape_of, shape_in, shape_named, scaled, shapes_of, tree_of};
+ghost use Rattle.sk_query.specs.Reading.{number_if, windowed, limit_of_value, range_of, string_named, empty_named, filled_named, leaf_named, parts_named, read_tree, read_member, read_named, scaled, read_trees, tree_of};
 
 use crate::form::parts_named;
 use crate::limits::{is_factor, is_slot, is_window};
@@ -24,7 +24,7 @@ pub fn from_json(alloc: Global, value: &Value) -> Result<Query, TreeFault>
     ensures fits { IfOk result (λ q. fits_tree (query_view q) ≡ true) }
     ensures shape { result ≡ Err TreeFault.Shape → tree_of (view value.now) ≡ None }
 {
-    let query = shape_of(alloc, value)?;
+    let query = read_tree(alloc, value)?;
     if query.fits() {
         Ok(query)
     } else {
@@ -33,25 +33,25 @@ pub fn from_json(alloc: Global, value: &Value) -> Result<Query, TreeFault>
 }
 
 /// The query of an object with exactly one member, whether or not it fits.
-#[cycle(shape_of)]
-fn shape_of(alloc: Global, value: &Value) -> Result<Query, TreeFault>
-    ensures ok { IfOk result (λ q. shape_of (view value.now) ≡ Some (query_view q)) }
-    ensures shape { result ≡ Err TreeFault.Shape → shape_of (view value.now) ≡ None }
+#[cycle(read_tree)]
+fn read_tree(alloc: Global, value: &Value) -> Result<Query, TreeFault>
+    ensures ok { IfOk result (λ q. read_tree (view value.now) ≡ Some (query_view q)) }
+    ensures shape { result ≡ Err TreeFault.Shape → read_tree (view value.now) ≡ None }
 {
     let Value::Object(members) = value else {
         return Err(TreeFault::Shape);
     };
     match only(members) {
-        Some((name, inner)) => shape_named(alloc, name, inner),
+        Some((name, inner)) => read_named(alloc, name, inner),
         None => Err(TreeFault::Shape),
     }
 }
 
 /// The one member of an object.
-#[tactic(auto, using(crate::proofs::ShapeLemmas::many_members, crate::proofs::ShapeLemmas::one_member, crate::proofs::ShapeLemmas::first_inside))]
+#[tactic(auto, using(crate::proofs::ReadingLemmas::many_members, crate::proofs::ReadingLemmas::one_member, crate::proofs::ReadingLemmas::first_inside))]
 fn only(members: &Map<String, Value>) -> Option<(&str, &Value)>
     ensures one { IfSome result (λ p. members_view members.entry.now.entries ≡ member p.0.now (view p.1.now) no_members) }
-    ensures none { IfNone result (shape_in (members_view members.entry.now.entries) ≡ None) }
+    ensures none { IfNone result (read_member (members_view members.entry.now.entries) ≡ None) }
     ensures inside { IfSome result (λ p. IsAmong (values members.entry.now) p.1.now) }
 {
     if members.len() != 1 {
@@ -62,15 +62,15 @@ fn only(members: &Map<String, Value>) -> Option<(&str, &Value)>
 }
 
 /// The query of a member.
-#[cycle(shape_of)]
-fn shape_named(alloc: Global, name: &str, value: &Value) -> Result<Query, TreeFault>
-    ensures ok { IfOk result (λ q. shape_named (parts_named name.now) name.now (view value.now) ≡ Some (query_view q)) }
-    ensures shape { result ≡ Err TreeFault.Shape → shape_named (parts_named name.now) name.now (view value.now) ≡ None }
+#[cycle(read_tree)]
+fn read_named(alloc: Global, name: &str, value: &Value) -> Result<Query, TreeFault>
+    ensures ok { IfOk result (λ q. read_named (parts_named name.now) name.now (view value.now) ≡ Some (query_view q)) }
+    ensures shape { result ≡ Err TreeFault.Shape → read_named (parts_named name.now) name.now (view value.now) ≡ None }
 {
     match parts_named(name) {
         Some(form) => match value {
             Value::Array(items) => {
-                let parts = shapes_of(alloc, items)?;
+                let parts = read_trees(alloc, items)?;
                 Ok(Query::joined(form, parts))
             }
             _ => Err(TreeFault::Shape),
@@ -90,7 +90,7 @@ fn shape_named(alloc: Global, name: &str, value: &Value) -> Result<Query, TreeFa
 }
 
 /// A factor and a query.
-#[cycle(shape_of)]
+#[cycle(read_tree)]
 fn scaled(alloc: Global, items: &[Value]) -> Result<Query, TreeFault>
     ensures ok { IfOk result (λ q. scaled (items_view items.now) ≡ Some (query_view q)) }
     ensures shape { result ≡ Err TreeFault.Shape → scaled (items_view items.now) ≡ None }
@@ -102,7 +102,7 @@ fn scaled(alloc: Global, items: &[Value]) -> Result<Query, TreeFault>
             let Some(factor) = factor_of(factor) else {
                 return Err(TreeFault::Shape);
             };
-            let part = shape_of(alloc, part)?;
+            let part = read_tree(alloc, part)?;
             let part = Box::new(alloc, part)?;
             Ok(Query::Scale(factor, part))
         }
@@ -111,14 +111,14 @@ fn scaled(alloc: Global, items: &[Value]) -> Result<Query, TreeFault>
 }
 
 /// The queries of an array.
-#[cycle(shape_of)]
-fn shapes_of(alloc: Global, items: &[Value]) -> Result<Queries, TreeFault>
-    ensures ok { IfOk result (λ qs. shapes_of (items_view items.now) ≡ Some (queries_view qs.items)) }
-    ensures shape { result ≡ Err TreeFault.Shape → shapes_of (items_view items.now) ≡ None }
+#[cycle(read_tree)]
+fn read_trees(alloc: Global, items: &[Value]) -> Result<Queries, TreeFault>
+    ensures ok { IfOk result (λ qs. read_trees (items_view items.now) ≡ Some (queries_view qs.items)) }
+    ensures shape { result ≡ Err TreeFault.Shape → read_trees (items_view items.now) ≡ None }
 {
     let mut made = Vec::new(alloc);
     'items: for item in items {
-        made.push(shape_of(alloc, item)?)?;
+        made.push(read_tree(alloc, item)?)?;
     }
     Ok(made)
 }

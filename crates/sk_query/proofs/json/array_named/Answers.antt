@@ -1,5 +1,5 @@
 use Rattle.std.proofs.Common.{◌∙◌}
-use Rattle.sk_query.proofs.ShapeLemmas.{filled_items}
+use Rattle.sk_query.proofs.ReadingLemmas.{filled_items}
 use Rattle.sk_query.proofs.json.array_named.Goals as goal
 
 pub returns-in-len1-up-clause-ok : goal.returns-in-len1-up-clause-ok

@@ -1,6 +1,6 @@
 use Rattle.std.proofs.Common.{◌∙◌, sym, arith, rules}
 use Rattle.sk_query.specs.declared.query.Query.{the_lemmas}
-use Rattle.sk_query.proofs.ShapeLemmas.{not_three, ranged_by, three_items}
+use Rattle.sk_query.proofs.ReadingLemmas.{not_three, ranged_by, three_items}
 use Rattle.sk_query.proofs.json.range_of.Goals as goal
 
 pub returns-in-len1-clause-shape : goal.returns-in-len1-clause-shape

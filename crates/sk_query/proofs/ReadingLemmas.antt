@@ -10,12 +10,12 @@ use Rattle.serde_json.specs.declared.value.Value.{Value}
 use Rattle.sk_query.specs.declared.query.Query.{Query}
 use Rattle.sk_query.specs.Trees.{Limit, Tree, scale, range, Trees, no_trees, tree, query_view, queries_view}
 use Rattle.sk_query.specs.Fits.{is_factor, is_slot}
-use Rattle.sk_query.specs.Reading.{number_if, shape_of, shape_in, scaled, shapes_of, limit_of_value, range_of, filled_named, leaf_named}
+use Rattle.sk_query.specs.Reading.{number_if, read_tree, read_member, scaled, read_trees, limit_of_value, range_of, filled_named, leaf_named}
 
 abbrev pub Entry : Type 0
 Entry = String Global × Value
 
-pub many_members : (es : List Entry) → (length es ≢ 1) → shape_in (members_view es) ≡ None
+pub many_members : (es : List Entry) → (length es ≢ 1) → read_member (members_view es) ≡ None
 many_members [] h = refl
 many_members (e ∷ []) h = absurd (h (omega arith))
 many_members (e ∷ f ∷ es) h = refl
@@ -57,12 +57,12 @@ abbrev pub scaled_by : Option ℕ → Option Tree → Option Tree
 scaled_by f t = option_and_then (λ factor. option_map (scale factor) t) f
 
 pub two_items : (vs : List Value) (a b : Value) → length vs ≡ 2 → a ≡ get_or vs 0 a → b ≡ get_or vs 1 b
-    → scaled (items_view vs) ≡ scaled_by (number_if is_factor (view a)) (shape_of (view b))
+    → scaled (items_view vs) ≡ scaled_by (number_if is_factor (view a)) (read_tree (view b))
 two_items [] a b e f g = absurd (omega arith)
 two_items (v ∷ []) a b e f g = absurd (omega arith)
 two_items (v ∷ w ∷ []) a b e f g =
-    ap (λ x. scaled_by (number_if is_factor (view x)) (shape_of (view w))) (sym f)
-    ∙ ap (λ x. scaled_by (number_if is_factor (view a)) (shape_of (view x))) (sym g)
+    ap (λ x. scaled_by (number_if is_factor (view x)) (read_tree (view w))) (sym f)
+    ∙ ap (λ x. scaled_by (number_if is_factor (view a)) (read_tree (view x))) (sym g)
 two_items (v ∷ w ∷ x ∷ vs) a b e f g = absurd (omega arith)
 
 pub scaled_none : (f : Option ℕ) (t : Option Tree) → t ≡ None → scaled_by f t ≡ None
@@ -96,7 +96,7 @@ trees_append (tree t ts) us = tree t (trees_append ts us)
 
 -- what a list is, where the first ts were read and the rest is left
 abbrev pub with_read : Trees → List Value → Option Trees
-with_read ts left = option_map (trees_append ts) (shapes_of (items_view left))
+with_read ts left = option_map (trees_append ts) (read_trees (items_view left))
 
 append_nil : (ts : Trees) → trees_append ts no_trees ≡ ts
 append_nil no_trees = refl
@@ -106,20 +106,20 @@ append_more : (qs : List Query) (q : Query) (us : Trees) → trees_append (queri
 append_more [] q us = refl
 append_more (x ∷ qs) q us = ap (tree (query_view x)) (append_more qs q us)
 
-pub read_none : (qs : List Query) (v : Value) (left : List Value) → shape_of (view v) ≡ None → with_read (queries_view qs) (v ∷ left) ≡ None
-read_none qs v left e = ap (λ o. option_map (trees_append (queries_view qs)) (option_and_then (λ t. option_map (tree t) (shapes_of (items_view left))) o)) e
+pub read_none : (qs : List Query) (v : Value) (left : List Value) → read_tree (view v) ≡ None → with_read (queries_view qs) (v ∷ left) ≡ None
+read_none qs v left e = ap (λ o. option_map (trees_append (queries_view qs)) (option_and_then (λ t. option_map (tree t) (read_trees (items_view left))) o)) e
 
 more_step : (qs : List Query) (q : Query) (o : Option Trees) → option_map (trees_append (queries_view qs)) (option_map (tree (query_view q)) o) ≡ option_map (trees_append (queries_view (qs ++ q ∷ []))) o
 more_step qs q None = refl
 more_step qs q (Some us) = ap Some (sym (append_more qs q us))
 
-read_more : (qs : List Query) (q : Query) (v : Value) (left : List Value) → shape_of (view v) ≡ Some (query_view q) → with_read (queries_view qs) (v ∷ left) ≡ with_read (queries_view (qs ++ q ∷ [])) left
+read_more : (qs : List Query) (q : Query) (v : Value) (left : List Value) → read_tree (view v) ≡ Some (query_view q) → with_read (queries_view qs) (v ∷ left) ≡ with_read (queries_view (qs ++ q ∷ [])) left
 read_more qs q v left e =
-    ap (λ o. option_map (trees_append (queries_view qs)) (option_and_then (λ t. option_map (tree t) (shapes_of (items_view left))) o)) e
-    ∙ more_step qs q (shapes_of (items_view left))
+    ap (λ o. option_map (trees_append (queries_view qs)) (option_and_then (λ t. option_map (tree t) (read_trees (items_view left))) o)) e
+    ∙ more_step qs q (read_trees (items_view left))
 
-pub step_read : (vs : List Value) (i : ℕ) (v : Value) (qs next : List Query) (q : Query) → i < length vs → v ≡ get_or vs i v → shape_of (view v) ≡ Some (query_view q) → next ≡ qs ++ q ∷ []
-    → with_read (queries_view qs) (drop i vs) ≡ shapes_of (items_view vs) → with_read (queries_view next) (drop (i + 1) vs) ≡ shapes_of (items_view vs)
+pub step_read : (vs : List Value) (i : ℕ) (v : Value) (qs next : List Query) (q : Query) → i < length vs → v ≡ get_or vs i v → read_tree (view v) ≡ Some (query_view q) → next ≡ qs ++ q ∷ []
+    → with_read (queries_view qs) (drop i vs) ≡ read_trees (items_view vs) → with_read (queries_view next) (drop (i + 1) vs) ≡ read_trees (items_view vs)
 step_read vs i v qs next q l is e grown before =
     let cut : drop i vs ≡ v ∷ drop (i + 1) vs = rw (add-one) (drop-cons vs i v l ∙ ap (λ w. w ∷ drop (suc i) vs) (sym is)) in
     ap (λ w. with_read (queries_view w) (drop (i + 1) vs)) grown
@@ -127,6 +127,6 @@ step_read vs i v qs next q l is e grown before =
     ∙ ap (with_read (queries_view qs)) (sym cut)
     ∙ before
 
-pub end_read : (vs : List Value) (i : ℕ) (qs : List Query) → length vs ≤ i → with_read (queries_view qs) (drop i vs) ≡ shapes_of (items_view vs) → shapes_of (items_view vs) ≡ Some (queries_view qs)
+pub end_read : (vs : List Value) (i : ℕ) (qs : List Query) → length vs ≤ i → with_read (queries_view qs) (drop i vs) ≡ read_trees (items_view vs) → read_trees (items_view vs) ≡ Some (queries_view qs)
 end_read vs i qs l before =
     sym before ∙ ap (with_read (queries_view qs)) (drop_all i vs l) ∙ ap Some (append_nil (queries_view qs))

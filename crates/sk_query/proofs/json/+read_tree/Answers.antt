@@ -1,8 +1,8 @@
 use Rattle.std.proofs.Common.{◌∙◌, Some, ap, sym, arith, rules}
 use Rattle.sk_query.specs.declared.query.Query.{the_lemmas}
 use Rattle.sk_query.specs.Trees.{query_view}
-use Rattle.sk_query.proofs.ShapeLemmas.{not_two, scaled_by, scaled_none, two_items, step_read, end_read}
-use Rattle.sk_query.proofs.json.+shape_of.Goals as goal
+use Rattle.sk_query.proofs.ReadingLemmas.{not_two, scaled_by, scaled_none, two_items, step_read, end_read}
+use Rattle.sk_query.proofs.json.+read_tree.Goals as goal
 
 pub scaled-returns-in_err-part-in-len2-clause-shape :
     goal.scaled-returns-in_err-part-in-len2-clause-shape
@@ -32,11 +32,11 @@ scaled-returns-in-len3-up-clause-shape t c =
     let least = c.in-len3-up.len_at_least in
     λ _. not_two c.args.items.now (λ e. omega arith)
 
-pub shapes_of-items-preserved : goal.shapes_of-items-preserved
-shapes_of-items-preserved t c =
-    step_read c.args.items.now c.items.item-index c.item-item.result c.items.made.items _ c.in_ok-shape_of.field-0
-    (omega arith) c.item-item.is c.in_ok-shape_of.ensures.ok c.in_ok-push.ensures.items c.items.invariant
+pub read_trees-items-preserved : goal.read_trees-items-preserved
+read_trees-items-preserved t c =
+    step_read c.args.items.now c.items.item-index c.item-item.result c.items.made.items _ c.in_ok-read_tree.field-0
+    (omega arith) c.item-item.is c.in_ok-read_tree.ensures.ok c.in_ok-push.ensures.items c.items.invariant
 
-pub shapes_of-returns-clause-ok : goal.shapes_of-returns-clause-ok
-shapes_of-returns-clause-ok t c =
+pub read_trees-returns-clause-ok : goal.read_trees-returns-clause-ok
+read_trees-returns-clause-ok t c =
     end_read c.args.items.now c.items.item-index c.items.made.items (omega arith) c.items.invariant
