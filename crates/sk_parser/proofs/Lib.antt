@@ -2,3 +2,4 @@
 mod BoundLemmas
 mod UnclosedLemmas
 mod FaultLemmas
+mod SplitLemmas

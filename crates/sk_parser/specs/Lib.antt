@@ -1,2 +1,3 @@
 -- What the code of the parser keeps, in the words of the definitions.
 pub mod Before
+pub mod Views

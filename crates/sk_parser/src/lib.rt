@@ -4,6 +4,10 @@
 mod before;
 mod bounds;
 mod faults;
+mod group;
 mod kinds;
+mod part;
+mod split;
+mod unit;
 
 pub use faults::fault_in;
