@@ -3,3 +3,4 @@ mod BoundLemmas
 mod UnclosedLemmas
 mod FaultLemmas
 mod SplitLemmas
+mod ChainLemmas

@@ -68,3 +68,8 @@ segments_view vs = map segment_view vs
 -- A run with these parts.
 abbrev pub run_of : Bool → List PartMeant → RunMeant
 run_of negative inside = record { negative = negative; inside = inside }
+
+-- A filter that is still to be put to its group, if it is.
+abbrev pub added_or : ℕ → Option Tree → List GroupMeant → List GroupMeant
+added_or f None gs = gs
+added_or f (Some t) gs = added f t gs

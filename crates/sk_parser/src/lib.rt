@@ -3,6 +3,7 @@
 
 mod before;
 mod bounds;
+mod chain;
 mod faults;
 mod group;
 mod kinds;
