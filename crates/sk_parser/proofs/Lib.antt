@@ -4,3 +4,5 @@ mod UnclosedLemmas
 mod FaultLemmas
 mod SplitLemmas
 mod ChainLemmas
+mod TreeLemmas
+mod StackLemmas

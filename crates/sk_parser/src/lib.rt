@@ -1,6 +1,7 @@
 //! From the tokens of a query text to its fault or its query.
 #![tactic(auto)]
 
+mod base;
 mod before;
 mod bounds;
 mod chain;
@@ -9,6 +10,8 @@ mod group;
 mod kinds;
 mod part;
 mod split;
+mod stack;
+mod tree;
 mod unit;
 
 pub use faults::fault_in;
