@@ -6,3 +6,4 @@ mod SplitLemmas
 mod ChainLemmas
 mod TreeLemmas
 mod StackLemmas
+mod SoundLemmas

@@ -6,7 +6,7 @@ use Rattle.sk_base.specs.declared.find.Join.{Join}
 use Rattle.sk_grammar.specs.Brackets.{Nest, single, bracket, Nests, no_nests, nest, Levels, opened, with_token}
 use Rattle.sk_grammar.specs.declared.token.Kind.{Kind}
 use Rattle.sk_grammar.specs.declared.token.Kind.TheVariants as Kind
-use Rattle.sk_grammar.specs.Parts.{Part, prefix_in, chained}
+use Rattle.sk_grammar.specs.Parts.{Part, prefix_in, part_of, with_part, chained}
 use Rattle.sk_grammar.specs.Meaning.{closed_part, nest_part, nest_parts}
 use Rattle.sk_parser.specs.declared.stack.Level.{Level}
 use Rattle.sk_parser.specs.Stack.{Inside, inside_with, filled, finished, level_view, below_view, field_or}
@@ -50,3 +50,18 @@ pub other_token : (k : Kind) (behind : Levels) → ((field : Option ℕ) → k �
 other_token (Kind.Open field) behind f g = absurd (f field refl)
 other_token Kind.Close behind f g = absurd (g refl)
 other_token k behind f g = refl
+
+-- A token that is no bracket is one part more.
+pub put_moved : (fields : List Field) (join : Join) (top next : Inside) (below : List Inside) (k : Kind) (here : Nests) (outside : List Nests)
+    → next.prefix ≡ top.prefix → next.made ≡ with_part top.made (part_of fields top.prefix k) → finished fields join next below here outside ≡ finished fields join top below (nest (single k) here) outside
+put_moved fields join top next below k here outside e f =
+    let moved : finished fields join next below here outside ≡ finished fields join (inside_with top (part_of fields top.prefix k)) below here outside =
+        λ i. finished fields join (record { prefix = e i; made = f i }) below here outside in
+    moved ∙ one_nest fields join top below (single k) here outside
+
+-- A bracket that opens stands before those around it.
+pub open_moved : (fields : List Field) (join : Join) (top inner : Inside) (below more : List Inside) (field : Option ℕ) (here : Nests) (outside : List Nests)
+    → more ≡ top ∷ below → inner.prefix ≡ prefix_in fields top.prefix field → inner.made ≡ []
+    → finished fields join inner more here outside ≡ finished fields join top below (Levels.here (opened field here outside)) (Levels.outside (opened field here outside))
+open_moved fields join top inner below more field here outside m e f =
+    ap (λ levels. finished fields join inner levels here outside) m ∙ one_open fields join top inner below field here outside e f

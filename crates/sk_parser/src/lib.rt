@@ -8,10 +8,13 @@ mod chain;
 mod faults;
 mod group;
 mod kinds;
+mod parsing;
 mod part;
+mod reading;
 mod split;
 mod stack;
 mod tree;
 mod unit;
 
 pub use faults::fault_in;
+pub use parsing::{ParseError, parse};

@@ -1,5 +1,5 @@
 //! The brackets that are open while tokens are read.
-ghost use Rattle.std.specs.Prelude.{◌≡◌, ◌≤◌, List, length, IfOk, false};
+ghost use Rattle.std.specs.Prelude.{◌≡◌, ◌≤◌, ◌+◌, List, length, IfOk, false};
 ghost use Rattle.sk_base.specs.declared.schema.Field.{Field};
 ghost use Rattle.sk_grammar.specs.declared.token.Kind.TheVariants as Kind;
 ghost use Rattle.sk_grammar.specs.Brackets.{Levels, single, nest, opened, with_token};
@@ -60,7 +60,7 @@ fn closed(alloc: Global, join: Join, level: Level, outer: Level) -> Result<Level
 }
 
 /// Opens a bracket.
-pub(crate) fn open(alloc: Global, stack: Stack, field: Option<usize>) -> Result<Stack, AllocError>
+fn open(alloc: Global, stack: Stack, field: Option<usize>) -> Result<Stack, AllocError>
     ensures { IfOk result (λ s. (fields : List Field) (join : Join) (behind : Levels) → ends_as fields join s behind ≡ ends_as fields join stack (opened field behind.here behind.outside)) }
 {
     let Stack { below, top } = stack;
@@ -74,9 +74,10 @@ pub(crate) fn open(alloc: Global, stack: Stack, field: Option<usize>) -> Result<
 }
 
 /// Closes the innermost bracket.
-fn close(alloc: Global, join: Join, stack: Stack) -> Result<Stack, AllocError>
+pub(crate) fn close(alloc: Global, join: Join, stack: Stack) -> Result<Stack, AllocError>
     requires { 1 ≤ length (stack.below).items }
-    ensures { IfOk result (λ s. (fields : List Field) (behind : Levels) → ends_as fields join s behind ≡ ends_as fields join stack (with_token Kind.Close behind)) }
+    ensures ends { IfOk result (λ s. (fields : List Field) (behind : Levels) → ends_as fields join s behind ≡ ends_as fields join stack (with_token Kind.Close behind)) }
+    ensures fewer { IfOk result (λ s. length (s.below).items + 1 ≡ length (stack.below).items) }
 {
     let Stack { below, top } = stack;
     let mut below = below;
@@ -102,7 +103,7 @@ fn put(alloc: Global, fields: &[Field], stack: Stack, kind: &Kind) -> Result<Sta
 }
 
 /// Adds a token.
-fn step(
+pub(crate) fn step(
     alloc: Global,
     fields: &[Field],
     join: Join,
