@@ -56,7 +56,7 @@ pub put_moved : (fields : List Field) (join : Join) (top next : Inside) (below :
     → next.prefix ≡ top.prefix → next.made ≡ with_part top.made (part_of fields top.prefix k) → finished fields join next below here outside ≡ finished fields join top below (nest (single k) here) outside
 put_moved fields join top next below k here outside e f =
     let moved : finished fields join next below here outside ≡ finished fields join (inside_with top (part_of fields top.prefix k)) below here outside =
-        λ i. finished fields join (record { prefix = e i; made = f i }) below here outside in
+    λ i. finished fields join (record { prefix = e i; made = f i }) below here outside in
     moved ∙ one_nest fields join top below (single k) here outside
 
 -- A bracket that opens stands before those around it.

@@ -18,7 +18,11 @@ use std::mem;
 pub(crate) fn all_of(queries: Queries) -> Query
     ensures { query_view result ≡ all_of (map query_view queries.items) }
 {
-    if queries.is_empty() { Query::All } else { joined(Form::And, queries) }
+    if queries.is_empty() {
+        Query::All
+    } else {
+        joined(Form::And, queries)
+    }
 }
 
 /// A query, and others that may match.
@@ -38,18 +42,17 @@ fn loved_and_plain(alloc: Global, loved: Queries, plain: Queries) -> Result<Quer
     ensures { IfOk result (λ q. query_view q ≡ loved_and_plain (map query_view loved.items) (map query_view plain.items)) }
 {
     if loved.is_empty() {
-        return Ok(if plain.is_empty() { Query::All } else { joined(Form::Or, plain) });
+        return Ok(if plain.is_empty() {
+            Query::All
+        } else {
+            joined(Form::Or, plain)
+        });
     }
     with_plain(alloc, joined(Form::And, loved), plain)
 }
 
 /// What is loved and what is plain, by how a run is joined.
-fn base_from(
-    alloc: Global,
-    join: Join,
-    loved: Queries,
-    plain: Queries,
-) -> Result<Query, AllocError>
+fn base_from(alloc: Global, join: Join, loved: Queries, plain: Queries) -> Result<Query, AllocError>
     ensures { IfOk result (λ q. query_view q ≡ base_from join (map query_view loved.items) (map query_view plain.items)) }
 {
     match join {
@@ -122,7 +125,15 @@ fn units_tree(alloc: Global, join: Join, units: Vec<Unit>) -> Result<Query, Allo
     let mut hated = Vec::new(alloc);
     let mut groups = Vec::new(alloc);
     'units: for unit in units {
-        place(alloc, join, unit, &mut loved, &mut plain, &mut hated, &mut groups)?;
+        place(
+            alloc,
+            join,
+            unit,
+            &mut loved,
+            &mut plain,
+            &mut hated,
+            &mut groups,
+        )?;
     }
     let base = base_from(alloc, join, loved, plain)?;
     without(filtered(alloc, base, groups)?, hated)

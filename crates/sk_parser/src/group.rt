@@ -88,11 +88,7 @@ pub(crate) fn added(
 }
 
 /// A query under filters, if there are any.
-pub(crate) fn filtered(
-    alloc: Global,
-    base: Query,
-    groups: Vec<Group>,
-) -> Result<Query, AllocError>
+pub(crate) fn filtered(alloc: Global, base: Query, groups: Vec<Group>) -> Result<Query, AllocError>
     ensures { IfOk result (λ q. query_view q ≡ filtered (query_view base) (map group_view groups.items)) }
 {
     if groups.is_empty() {

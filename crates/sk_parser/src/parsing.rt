@@ -44,10 +44,12 @@ pub fn parse(alloc: Global, text: &str, schema: &Schema, join: Join) -> Result<Q
     ensures fault { (kind : FaultKind) (place : ℕ) → result ≡ Err (ParseError.Fault kind place) → fault_of schema.now text.now ≡ Some (kind, place) }
 {
     let found = tokens(alloc, text, schema)?;
-    match fault_in(schema.fields(), found.as_slice()) {
+    let fields = schema.fields();
+    let list = found.as_slice();
+    match fault_in(fields, list) {
         Some((kind, place)) => Err(ParseError::Fault(kind, place)),
         None => {
-            let query = tree_in(alloc, schema.fields(), join, found.as_slice())?;
+            let query = tree_in(alloc, fields, join, list)?;
             Ok(query)
         }
     }

@@ -102,14 +102,22 @@ fn side_by_side(terms: Vec<Text>) -> Result<Query, AllocError>
 }
 
 /// The query of a chain.
-pub(crate) fn chain_tree(ordered: bool, distance: u32, words: Vec<Text>) -> Result<Query, AllocError>
+pub(crate) fn chain_tree(
+    ordered: bool,
+    distance: u32,
+    words: Vec<Text>,
+) -> Result<Query, AllocError>
     ensures { IfOk result (λ q. query_view q ≡ chain_tree ordered distance words.items) }
 {
     let mut words = words;
     if words.len() > 1 {
         let width = window(distance, words.len())?;
         let texts = Items::from_vec(words);
-        return Ok(if ordered { Query::Phrase(width, texts) } else { Query::Near(width, texts) });
+        return Ok(if ordered {
+            Query::Phrase(width, texts)
+        } else {
+            Query::Near(width, texts)
+        });
     }
     match words.pop() {
         Some(word) => Ok(Query::Term(word)),
@@ -183,7 +191,11 @@ pub(crate) fn part_of(
     ensures { IfOk result (λ p. part_view p ≡ part_of fields.now around.now kind.now) }
 {
     match kind {
-        Kind::Word(field, term) => word_part(alloc, prefix_in(fields, around, *field), term.as_str()),
+        Kind::Word(field, term) => word_part(
+            alloc,
+            prefix_in(fields, around, *field),
+            term.as_str(),
+        ),
         Kind::Wild(field, term) => {
             let term = prefixed(alloc, prefix_in(fields, around, *field), term.as_str())?;
             Ok(Part::Unit(Query::Wildcard(term)))
@@ -215,12 +227,7 @@ pub(crate) fn part_of(
 }
 
 /// The range of the field at this place.
-fn range_in(
-    alloc: Global,
-    fields: &[Field],
-    place: usize,
-    text: &str,
-) -> Result<Query, AllocError>
+fn range_in(alloc: Global, fields: &[Field], place: usize, text: &str) -> Result<Query, AllocError>
     requires { takes_numbers (slice_get fields.now place) ≡ true → are_numbers (halves text.now) ≡ true }
     ensures { IfOk result (λ q. query_view q ≡ range_in (slice_get fields.now place) text.now) }
 {

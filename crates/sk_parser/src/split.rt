@@ -46,7 +46,11 @@ fn is_not(part: &Part) -> bool
 }
 
 /// What stands between the operators.
-pub(crate) fn split(alloc: Global, border: Border, parts: Vec<Part>) -> Result<Vec<Vec<Part>>, AllocError>
+pub(crate) fn split(
+    alloc: Global,
+    border: Border,
+    parts: Vec<Part>,
+) -> Result<Vec<Vec<Part>>, AllocError>
     ensures { IfOk result (λ v. segments_view v.items ≡ split (border_test border) (parts_view parts.items)) }
 {
     let mut made = Vec::new(alloc);

@@ -8,5 +8,5 @@ use Rattle.sk_parser.proofs.tree.closed_part.Goals as goal
 pub returns : goal.returns
 returns c =
     let some : (length (parts_view c.args.parts.items) == 0) ≡ false =
-        ap (λ n. n == 0) (length-map c.args.parts.items part_view ∙ sym c.args.parts.ok.0) ∙ sym c.is_empty.ensures ∙ c.if-is_empty.false in
+    ap (λ n. n == 0) (length-map c.args.parts.items part_view ∙ sym c.args.parts.ok.0) ∙ sym c.is_empty.ensures ∙ c.if-is_empty.false in
     ap unit c.in_ok-query.ensures ∙ closed_some c.args.join (parts_view c.args.parts.items) some
