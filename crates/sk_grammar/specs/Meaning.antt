@@ -34,7 +34,7 @@ at test _ = false
 
 -- A part put before the first of these lists.
 abbrev pub in_front : Part → List (List Part) → List (List Part)
-in_front p [] = (p ∷ []) ∷ []
+in_front p [] = []
 in_front p (ps ∷ more) = (p ∷ ps) ∷ more
 
 -- What stands between the operators that pass the test.
@@ -49,7 +49,7 @@ pub record Run : Type 0 where
 
 -- A part put before the first of these runs.
 abbrev pub in_run : Part → List Run → List Run
-in_run p [] = record { negative = false; inside = p ∷ [] } ∷ []
+in_run p [] = []
 in_run p (run ∷ more) = record { negative = run.negative; inside = p ∷ run.inside } ∷ more
 
 -- The runs of these parts, the first being negative or not. Where AND or nothing stands right before them (`fresh`), NOT begins no run of its own:

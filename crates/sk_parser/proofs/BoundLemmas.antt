@@ -76,3 +76,19 @@ pub number_read : {E : Type 0} (bs : List ℕ) (r : Result ℕ E) → ParsesUnsi
 number_read bs r h digits some =
     read_is (length bs) (2 ^ 64) (digits_value 10 bs) r (parse_digits own 64 bs r h digits) some
     ∙ sym (λ i. some i || (digits i && nat_lt (digits_value 10 bs) (2 ^ 64)))
+
+first_of : (a b c : Bool) → (a || (b && c)) ≡ true → a ≡ false → b ≡ true
+first_of true b c e f = absurd (cc)
+first_of false true c e f = refl
+first_of false false c e f = absurd (cc)
+
+failed : {E : Type 0} (r : Result ℕ E) (x : E) (b : Bool) → is_ok r ≡ b → b ≡ true → r ≡ Err x → ⊥
+failed (Ok n) x b e f g = cc
+failed (Err y) x b e f g = let wrong : false ≡ true = e ∙ f in cc
+
+-- A bound that is a number is read.
+pub number_fails : {E : Type 0} (bs : List ℕ) (r : Result ℕ E) (x : E) → ParsesUnsigned 64 10 bs r → is_number bs ≡ true → (length bs ≡ 0 → ⊥) → r ≡ Err x → ⊥
+number_fails bs r x h number some e =
+    let none : (length bs == 0) ≡ false = grind (arith, nat_tests) in
+    let digits : list_all is_ascii_digit bs ≡ true = first_of (length bs == 0) (list_all is_ascii_digit bs) (nat_lt (digits_value 10 bs) (2 ^ 64)) number none in
+    failed r x (is_number bs) (number_read bs r h digits none) number e

@@ -2,3 +2,8 @@
 mod BoundLemmas
 mod UnclosedLemmas
 mod FaultLemmas
+mod SplitLemmas
+mod ChainLemmas
+mod TreeLemmas
+mod StackLemmas
+mod SoundLemmas

@@ -1,2 +1,6 @@
 -- What the code of the parser keeps, in the words of the definitions.
 pub mod Before
+pub mod Views
+pub mod Base
+pub mod Stack
+pub mod Sound

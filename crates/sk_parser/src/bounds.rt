@@ -26,7 +26,7 @@ fn are_digits(text: &str) -> bool
 }
 
 /// Nothing, or digits with a value of 64 bits.
-fn is_number(text: &str) -> bool
+pub(crate) fn is_number(text: &str) -> bool
     ensures { result ≡ is_number text.now }
 {
     text.is_empty() || (are_digits(text) && text.parse::<u64>().is_ok())

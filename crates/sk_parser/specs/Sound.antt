@@ -1,0 +1,23 @@
+-- What the code asks of tokens before it makes their query.
+use Rattle.std.specs.Prelude.{◌≡◌, ℕ, false, List, [], ◌∷◌, Option}
+use Rattle.sk_base.specs.declared.schema.Field.{Field}
+use Rattle.sk_base.specs.declared.find.Join.{Join}
+use Rattle.sk_grammar.specs.declared.token.Kind.{Kind}
+use Rattle.sk_grammar.specs.declared.token.Token.{Token}
+use Rattle.sk_grammar.specs.Brackets.{Nests, no_nests, Levels, levels_of}
+use Rattle.sk_grammar.specs.Faults.{is_bad_range}
+use Rattle.sk_grammar.specs.Meaning.{nest_parts}
+use Rattle.sk_grammar.specs.Parts.{Part, chained}
+
+-- No range has a bound that can't be read.
+abbrev pub AreSound : List Field → List Token → Type 0
+AreSound fields [] = Unit {0}
+AreSound fields (t ∷ ts) = (is_bad_range fields (Token.kind t) ≡ false) × AreSound fields ts
+
+-- The parts of tokens outside all brackets, the last of which stands first.
+abbrev pub outside_of : List Field → Join → List Kind → List Part
+outside_of fields join ks = chained [] (nest_parts fields join [] (Levels.here (levels_of ks)))
+
+-- Nothing follows.
+abbrev pub nothing_behind : Levels
+nothing_behind = record { here = no_nests; outside = [] }

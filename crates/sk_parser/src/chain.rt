@@ -1,0 +1,82 @@
+//! Puts linked words together.
+ghost use Rattle.std.specs.Prelude.{◌≡◌, OnOk};
+ghost use Rattle.sk_grammar.specs.Parts.{linked, with_words, with_part};
+ghost use Rattle.sk_parser.specs.Views.{part_view, parts_behind};
+
+use crate::part::Part;
+use sk_base::Text;
+use std::alloc::AllocError;
+
+/// Adds words behind a link, which was taken off.
+#[tactic(auto, using(crate::proofs::ChainLemmas::behind_last))]
+fn link(
+    parts: &mut Vec<Part>,
+    ordered: bool,
+    distance: u32,
+    in_order: bool,
+    own: u32,
+    words: Vec<Text>,
+) -> Result<(), AllocError>
+    ensures { OnOk result (parts_behind parts.new.items ≡ linked ordered distance (parts_behind parts.old.items) in_order own words.items) }
+{
+    let mut words = words;
+    match parts.pop() {
+        Some(Part::Chain(_, greatest, before)) => {
+            let mut all = before;
+            all.append(&mut words)?;
+            parts.push(Part::Chain(ordered, greatest.max(distance), all))?;
+            Ok(())
+        }
+        Some(other) => {
+            parts.push(other)?;
+            parts.push(Part::Link(ordered, distance))?;
+            parts.push(Part::Chain(in_order, own, words))?;
+            Ok(())
+        }
+        None => {
+            parts.push(Part::Link(ordered, distance))?;
+            parts.push(Part::Chain(in_order, own, words))?;
+            Ok(())
+        }
+    }
+}
+
+/// Adds words.
+#[tactic(auto, using(crate::proofs::ChainLemmas::behind_last))]
+fn add_words(
+    parts: &mut Vec<Part>,
+    in_order: bool,
+    own: u32,
+    words: Vec<Text>,
+) -> Result<(), AllocError>
+    ensures { OnOk result (parts_behind parts.new.items ≡ with_words (parts_behind parts.old.items) in_order own words.items) }
+{
+    match parts.pop() {
+        Some(Part::Link(ordered, distance)) => {
+            link(parts, ordered, distance, in_order, own, words)
+        }
+        Some(other) => {
+            parts.push(other)?;
+            parts.push(Part::Chain(in_order, own, words))?;
+            Ok(())
+        }
+        None => {
+            parts.push(Part::Chain(in_order, own, words))?;
+            Ok(())
+        }
+    }
+}
+
+/// Adds a part.
+#[tactic(auto, using(crate::proofs::ChainLemmas::behind_last))]
+pub(crate) fn add(parts: &mut Vec<Part>, part: Part) -> Result<(), AllocError>
+    ensures { OnOk result (parts_behind parts.new.items ≡ with_part (parts_behind parts.old.items) (part_view part)) }
+{
+    match part {
+        Part::Chain(in_order, own, words) => add_words(parts, in_order, own, words),
+        other => {
+            parts.push(other)?;
+            Ok(())
+        }
+    }
+}

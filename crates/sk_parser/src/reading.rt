@@ -1,0 +1,54 @@
+//! From tokens to a query.
+ghost use Rattle.std.specs.Prelude.{◌≡◌, ◌≤◌, ◌==◌, List, length, map, reverse, IfOk};
+ghost use Rattle.sk_base.specs.declared.schema.Field.{Field};
+ghost use Rattle.sk_query.specs.Trees.{query_view};
+ghost use Rattle.sk_grammar.specs.Faults.{kinds_of};
+ghost use Rattle.sk_grammar.specs.Meaning.{parts_tree, tree_in};
+ghost use Rattle.sk_parser.specs.Sound.{AreSound, nothing_behind};
+ghost use Rattle.sk_parser.specs.Stack.{ends_as};
+
+use crate::kinds::is_close;
+use crate::stack::{Level, Stack, close, step};
+use crate::tree::parts_tree;
+use sk_base::{Field, Join};
+use sk_grammar::Token;
+use sk_query::Query;
+use std::alloc::{AllocError, Global};
+
+/// Closes all brackets.
+fn finish(alloc: Global, join: Join, stack: Stack) -> Result<Query, AllocError>
+    ensures { IfOk result (λ q. (fields : List Field) → query_view q ≡ parts_tree join (reverse (ends_as fields join stack nothing_behind))) }
+{
+    let mut stack = stack;
+    'levels: while !stack.below.is_empty() {
+        stack = close(alloc, join, stack)?;
+    }
+    parts_tree(alloc, join, stack.top.parts)
+}
+
+/// The query of tokens that have no fault.
+pub(crate) fn tree_in(
+    alloc: Global,
+    fields: &[Field],
+    join: Join,
+    tokens: &[Token],
+) -> Result<Query, AllocError>
+    requires { AreSound fields.now tokens.now }
+    ensures { IfOk result (λ q. query_view q ≡ tree_in fields.now join (kinds_of tokens.now)) }
+{
+    let mut stack = Stack {
+        below: Vec::new(alloc),
+        top: Level {
+            field: None,
+            parts: Vec::new(alloc),
+        },
+    };
+    'tokens: for i in 0..tokens.len() {
+        let kind = &tokens[i].kind;
+        if is_close(kind) && stack.below.is_empty() {
+            return parts_tree(alloc, join, stack.top.parts);
+        }
+        stack = step(alloc, fields, join, stack, kind)?;
+    }
+    finish(alloc, join, stack)
+}
