@@ -60,8 +60,7 @@ says_within n h = ap (λ b. is_some (if b then Some (1048576 - n) else None)) (s
 pub fit_is : (fields : List Field) (values : List Entry) (b : Bool) → b ≡ fit fields values → (b ≡ true → FitsValues fields values) × (FitsValues fields values → b ≡ true)
 fit_is fields values b is =
     let kinds = list_all (fits_entry fields) values in
-    let short = is_some (left_behind most_bytes (bytes_of_values values)) in
-    (
+    let short = is_some (left_behind most_bytes (bytes_of_values values)) in (
       λ e.
           let all = sym is ∙ e in
           let front = first_so (follow 0 values && kinds) short all in

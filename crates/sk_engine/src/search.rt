@@ -69,7 +69,14 @@ fn report_of<L: Ledger>(
     let count = list.length();
     let mut matches = all_matches(alloc, list, find.options.scheme, steps)?;
     sort_best_first(&mut matches.ranks, &Order::Relevance);
-    let hits = page(alloc, index, &matches.ranks, find.options.first, find.options.size, steps)?;
+    let hits = page(
+        alloc,
+        index,
+        &matches.ranks,
+        find.options.first,
+        find.options.size,
+        steps,
+    )?;
     let spent = matches.steps + hits.as_slice().len() as u128;
     Ok(Report {
         hits,

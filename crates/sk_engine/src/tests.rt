@@ -5,8 +5,8 @@ ghost use Rattle.sk_model.specs.Queries.{is_one_word};
 
 use super::*;
 use sk_base::{
-    Ask, Edit, Entry, Field, FieldKind, FieldValue, Find, Items, Join, Options, Order, Record, Reply,
-    Schema, Scheme, Text,
+    Ask, Edit, Entry, Field, FieldKind, FieldValue, Find, Items, Join, Options, Order, Record,
+    Reply, Schema, Scheme, Text,
 };
 use sk_io::{MemorySink, MemorySource, Sink, Source};
 use sk_model::is_one_word;

@@ -14,9 +14,9 @@ use crate::{Status, Store};
 use sk_io::{Sink, Source};
 use sk_steps::Steps;
 use std::alloc::{AllocError, Global};
-use std::sync::ledger::Ledger;
 use std::env::Args;
 use std::io;
+use std::sync::ledger::Ledger;
 
 /// Does what the words ask for. `run`: each line of `input` is a command, obeyed by a store of its own, and is answered on
 /// `output` before the next line is read.
@@ -59,9 +59,7 @@ pub fn arguments(alloc: Global, args: io::Result<Args>) -> Result<Vec<String>, S
             Ok(words) => Ok(words),
             Err(_) => Err(Status::Memory),
         },
-        Err(error) => {
-            Err(status_for(error.kind()))
-        }
+        Err(error) => { Err(status_for(error.kind())) }
     }
 }
 

@@ -1,8 +1,8 @@
 //! What a line of commands is answered.
 ghost use Rattle.std.specs.Prelude.{◌≡◌, IfOk, string_bytes};
 
-use crate::refusal::Refusal;
 use crate::Printed;
+use crate::refusal::Refusal;
 use sk_base::DocId;
 use std::alloc::{AllocError, Global};
 

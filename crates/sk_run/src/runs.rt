@@ -51,12 +51,7 @@ pub fn answer_lines<A: Answerer, S: Source, K: Sink, L: Ledger>(
 }
 
 /// Puts what closes the run, and ends the output.
-fn close<A: Answerer, K: Sink>(
-    alloc: Global,
-    answerer: A,
-    output: &mut K,
-    refused: bool,
-) -> Status
+fn close<A: Answerer, K: Sink>(alloc: Global, answerer: A, output: &mut K, refused: bool) -> Status
     ensures { Closed A.Answer.text A.Answer.refuses A.Answer.steps A.stands A.closes answerer refused result
         (record { held = K.held output.old; faults = K.faults output.old; finishes = K.finishes output.old; settled = K.settled output.old })
         (record { held = K.held output.new; faults = K.faults output.new; finishes = K.finishes output.new; settled = K.settled output.new }) }

@@ -62,4 +62,3 @@ pub trait Store: Drop {
         ensures closes { IfOk result (λ answer. (s : State) → holds self s → closes (fields self) s answer) }
         ensures free { IfOk result (λ answer. steps_of Self.Answer.steps answer ≡ 0) };
 }
-

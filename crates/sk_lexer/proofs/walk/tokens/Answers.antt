@@ -13,5 +13,5 @@ tokens_in-requires c =
 pub returns-clause-cut : goal.returns-clause-cut
 returns-clause-cut c = λ pieces h.
     subst (λ want. IfOk c.tokens_in.result (λ ts. ts ≡ want))
-        (ap (tokens_in c.args.schema.now) (c.as_slice.ensures.value ∙ c.in_ok-cs.ensures) ∙ ap (tokens_from 0 (chars c.args.text.now)) (sym (cut_once c.args.schema.now (chars c.args.text.now) pieces h)))
-        c.tokens_in.ensures
+    (ap (tokens_in c.args.schema.now) (c.as_slice.ensures.value ∙ c.in_ok-cs.ensures) ∙ ap (tokens_from 0 (chars c.args.text.now)) (sym (cut_once c.args.schema.now (chars c.args.text.now) pieces h)))
+    c.tokens_in.ensures

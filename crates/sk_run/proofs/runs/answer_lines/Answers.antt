@@ -27,20 +27,18 @@ returns-in-Ok-None g c =
 pub returns-in-Err-Failed : goal.returns-in-Err-Failed
 returns-in-Err-Failed g c =
     let reads = rw (c.in-Err-Failed.is, c.in-Err-Failed.field-0-is) at c.next.follows.holds-at-none in
-    let so = c.lines.invariant in
-    (
+    let so = c.lines.invariant in (
       ends_unread g.A.Answer.Printed.text g.A.Answer.Printed.refuses g.A.Answer.Printed.steps g.A.Answerer.stands g.A.Answerer.answers g.A.Answerer.closes
-      _ _ _ _ _ _ _ _ LineStop.Failed so.so_far (reads.goes_on so.goes) (λ at_end. true≢false (sym (c.in-Err-Failed.ensures.no_stop at_end so.goes))) so.finishes,
+          _ _ _ _ _ _ _ _ LineStop.Failed so.so_far (reads.goes_on so.goes) (λ at_end. true≢false (sym (c.in-Err-Failed.ensures.no_stop at_end so.goes))) so.finishes,
       rose_since _ _ _ so.read_later (failed_now _ _ _ so.goes (c.in-Err-Failed.ensures.cause.failed (ap Err c.in-Err-Failed.field-0-is))),
     )
 
 pub returns-in-Err-TooMuch : goal.returns-in-Err-TooMuch
 returns-in-Err-TooMuch g c =
     let reads = rw (c.in-Err-TooMuch.is, c.in-Err-TooMuch.field-0-is) at c.next.follows.holds-at-none in
-    let so = c.lines.invariant in
-    (
+    let so = c.lines.invariant in (
       ends_unread g.A.Answer.Printed.text g.A.Answer.Printed.refuses g.A.Answer.Printed.steps g.A.Answerer.stands g.A.Answerer.answers g.A.Answerer.closes
-      _ _ _ _ _ _ _ _ LineStop.TooMuch so.so_far (reads.goes_on so.goes) (λ at_end. true≢false (sym (c.in-Err-TooMuch.ensures.no_stop at_end so.goes))) so.finishes,
+          _ _ _ _ _ _ _ _ LineStop.TooMuch so.so_far (reads.goes_on so.goes) (λ at_end. true≢false (sym (c.in-Err-TooMuch.ensures.no_stop at_end so.goes))) so.finishes,
       λ bytes told. full bytes _ _ _ _ (so.taken bytes told) (reads.goes_on so.goes),
     )
 
@@ -61,11 +59,10 @@ returns-in_default-into_text g c =
 pub returns-in_default-put_all : goal.returns-in_default-put_all
 returns-in_default-put_all g c =
     let reads = rw (c.in-Ok-Some.is, c.in-Ok-Some.field-0-is) at c.next.follows.holds-at-none in
-    let so = c.lines.invariant in
-    (
+    let so = c.lines.invariant in (
       ends_unwritten g.A.Answer.Printed.text g.A.Answer.Printed.refuses g.A.Answer.Printed.steps g.A.Answerer.stands g.A.Answerer.answers g.A.Answerer.closes
-      _ _ _ _ _ _ _ _ _ _ _ c.in-Ok-Some.line c.in-Ok-answer.answer _ so.so_far (reads.goes_on so.goes) c.in-Ok-answer.ensures.answered
-      (c.as_bytes.ensures.value ∙ c.in-Ok-into_text.ensures) c.in_default-put_all.ensures.err c.in-Ok-answer.ensures.cost (c.in_default-put_all.ensures.finishes ∙ so.finishes),
+          _ _ _ _ _ _ _ _ _ _ _ c.in-Ok-Some.line c.in-Ok-answer.answer _ so.so_far (reads.goes_on so.goes) c.in-Ok-answer.ensures.answered
+          (c.as_bytes.ensures.value ∙ c.in-Ok-into_text.ensures) c.in_default-put_all.ensures.err c.in-Ok-answer.ensures.cost (c.in_default-put_all.ensures.finishes ∙ so.finishes),
       rose_since _ _ _ so.write_later (c.in_default-put_all.ensures.cause.failed refl),
     )
 
