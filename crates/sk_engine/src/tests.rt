@@ -8,7 +8,7 @@ use sk_base::{
     Ask, Edit, Entry, Field, FieldKind, FieldValue, Find, Items, Join, Options, Order, Record,
     Reply, Schema, Scheme, Text,
 };
-use sk_io::{MemorySink, MemorySource, Sink, Source};
+use sk_io::{MemorySink, MemorySource};
 use sk_model::is_one_word;
 use sk_steps::Steps;
 use std::alloc::{AllocError, Global};
@@ -16,23 +16,15 @@ use std::marker::Brand;
 use std::sync::ledger::{Blank, Ledger};
 use std::test::Fail;
 
-fn counted<S: Source, R: Source, K: Sink, L: Ledger>(
-    blank: Blank,
-    alloc: Global,
-    words: &[String],
-    input: &mut S,
-    records: &mut R,
-    output: &mut K,
-) -> Status
-    requires name { blank.name ≡ L.name }
-    requires parts { blank.parts ≡ L.parts }
-    requires one { blank.parts ≡ 1 }
-{
-    let mut steps = Steps::<L>::open(blank);
-    run(alloc, words, input, records, output, &mut steps)
+/// What a program that was started with one word came to: its number, its output, and what it said.
+#[derive(Debug, Drop)]
+struct Outcome {
+    code: u8,
+    output: Vec<u8>,
+    said: Vec<u8>,
 }
 
-/// The status and the output of a run of one word over these bytes, given in pieces.
+/// What a program comes to whose input are these bytes, given in pieces.
 fn outcome(
     alloc: Global,
     word: &str,
@@ -41,7 +33,7 @@ fn outcome(
     room: usize,
     read_fails: &[u64],
     write_fails: &[u64],
-) -> Result<(Status, Vec<u8>), AllocError>
+) -> Result<Outcome, AllocError>
     requires { 1 ≤ piece }
 {
     let mut words = Vec::new(alloc);
@@ -49,16 +41,22 @@ fn outcome(
     let mut input = MemorySource::new(bytes.to_vec(alloc)?, piece, read_fails.to_vec(alloc)?);
     let mut records = MemorySource::new(Vec::new(alloc), 1, Vec::new(alloc));
     let mut output = MemorySink::new(alloc, piece, room, write_fails.to_vec(alloc)?)?;
-    let status = counted::<_, _, _, Brand>(
+    let mut errors = MemorySink::new(alloc, 100, 100, Vec::new(alloc))?;
+    let code = start::<_, _, _, _, Brand>(
         Blank::new(1),
         alloc,
-        words.as_slice(),
+        b"usage: run",
+        Ok(words),
         &mut input,
         &mut records,
         &mut output,
+        &mut errors,
     );
-    let bytes = output.bytes().to_vec(alloc)?;
-    Ok((status, bytes))
+    Ok(Outcome {
+        code,
+        output: output.bytes().to_vec(alloc)?,
+        said: errors.bytes().to_vec(alloc)?,
+    })
 }
 
 const INPUT: &str = concat!(
@@ -78,36 +76,48 @@ const OUTPUT: &str = concat!(
 #[test]
 fn with_ample_memory_the_output_is_whole(rt: HostRuntime) -> Result<(), Fail> {
     for piece in [1, 3, 64, 4096] {
-        let (status, bytes) = outcome(rt.alloc(), "run", INPUT.as_bytes(), piece, 4096, &[], &[])?;
-        assert_eq!(rt; status, Status::Done, "pieces of {piece}");
-        assert_eq!(rt; bytes.as_slice(), OUTPUT.as_bytes(), "pieces of {piece}");
+        let outcome = outcome(rt.alloc(), "run", INPUT.as_bytes(), piece, 4096, &[], &[])?;
+        assert_eq!(rt; outcome.code, 0, "pieces of {piece}");
+        assert_eq!(rt;
+            outcome.output.as_slice(),
+            OUTPUT.as_bytes(),
+            "pieces of {piece}"
+        );
+        assert_eq!(rt;
+            outcome.said.as_slice(),
+            b"".as_slice(),
+            "pieces of {piece}"
+        );
     }
     Ok(())
 }
 
-/// A word, the calls of the source and of the sink that fail, the room of the sink; what the sink holds, and the status.
-const FAULTS: [(&str, &[u64], &[u64], usize, &str, Status); 8] = [
-    ("fetch", &[], &[], 4096, "", Status::Usage),
-    ("", &[1], &[1], 4096, "", Status::Usage),
-    ("run", &[1], &[], 4096, "", Status::ReadFault),
-    ("run", &[], &[1], 4096, "", Status::WriteFault),
-    ("run", &[], &[], 3, "ok ", Status::WriteFault),
-    ("run", &[], &[2], 4096, "ok schema 1\n", Status::WriteFault),
+/// A word, the calls of the source and of the sink that fail, the room of the sink; what the sink holds, the number, and
+/// what is said.
+const FAULTS: [(&str, &[u64], &[u64], usize, &str, u8, &str); 9] = [
+    ("fetch", &[], &[], 4096, "", 2, "usage: run\n"),
+    ("", &[1], &[1], 4096, "", 2, "usage: run\n"),
+    ("run", &[1], &[], 4096, "", 3, "read fault\n"),
+    ("run", &[], &[1], 4096, "", 4, "write fault\n"),
+    ("run", &[], &[], 3, "ok ", 4, "write fault\n"),
+    ("run", &[], &[2], 4096, "ok schema 1\n", 4, "write fault\n"),
     (
         "run",
         &[2],
         &[],
         4096,
         "ok schema 1\nok id 1\n",
-        Status::ReadFault,
+        3,
+        "read fault\n",
     ),
-    ("run", &[3], &[], 4096, OUTPUT, Status::ReadFault),
+    ("run", &[3], &[], 4096, OUTPUT, 3, "read fault\n"),
+    ("run", &[], &[6], 4096, OUTPUT, 4, "write fault\n"),
 ];
 
 #[test]
-fn a_fault_ends_the_run_with_its_status(rt: HostRuntime) -> Result<(), Fail> {
-    for (word, read_fails, write_fails, room, held, want) in FAULTS {
-        let (status, bytes) = outcome(
+fn a_program_says_why_it_stopped(rt: HostRuntime) -> Result<(), Fail> {
+    for (word, read_fails, write_fails, room, held, code, said) in FAULTS {
+        let outcome = outcome(
             rt.alloc(),
             word,
             INPUT.as_bytes(),
@@ -117,13 +127,18 @@ fn a_fault_ends_the_run_with_its_status(rt: HostRuntime) -> Result<(), Fail> {
             write_fails,
         )?;
         assert_eq!(rt;
-            status,
-            want,
+            outcome.code,
+            code,
             "{word} {read_fails:?} {write_fails:?} {room}"
         );
         assert_eq!(rt;
-            bytes.as_slice(),
+            outcome.output.as_slice(),
             held.as_bytes(),
+            "{word} {read_fails:?} {write_fails:?} {room}"
+        );
+        assert_eq!(rt;
+            outcome.said.as_slice(),
+            said.as_bytes(),
             "{word} {read_fails:?} {write_fails:?} {room}"
         );
     }
@@ -223,10 +238,10 @@ fn a_session_shows_the_asked_page(rt: HostRuntime) -> Result<(), Fail> {
 fn nothing_is_read_behind_the_end(rt: HostRuntime) -> Result<(), Fail> {
     // The first call gives all, the last line without its end, and the second tells the end.
     let lines = b"{\"schema\":[{\"name\":\"body\",\"kind\":\"text\"}]}\nred";
-    let (status, bytes) = outcome(rt.alloc(), "run", lines.as_slice(), 4096, 4096, &[3], &[])?;
-    assert_eq!(rt; status, Status::Refused);
+    let outcome = outcome(rt.alloc(), "run", lines.as_slice(), 4096, 4096, &[3], &[])?;
+    assert_eq!(rt; outcome.code, 1);
     assert_eq!(rt;
-        bytes.as_slice(),
+        outcome.output.as_slice(),
         b"ok schema 1\nrefused 2 NotJson\n".as_slice()
     );
     Ok(())

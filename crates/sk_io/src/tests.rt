@@ -3,7 +3,7 @@ ghost use Rattle.std.specs.Prelude.{◌≤◌};
 
 use super::*;
 use std::alloc::{AllocError, Global};
-use std::io::Cursor;
+use std::io::{self, Cursor, ErrorKind, Read, Write};
 use std::process::Abort;
 use std::test::Fail;
 
@@ -76,15 +76,15 @@ fn is_too_long(rt: &impl Abort, alloc: Global, length: usize, has_next: bool) ->
 #[test]
 fn passes_over_long_lines(rt: HostRuntime) -> Result<(), Fail> {
     let alloc = rt.alloc();
-    let longest = vec![in alloc; b'x'; MAX_LINE]?;
+    let longest = vec![in alloc; b'x'; 1_048_576]?;
     let mut text = longest.clone()?;
     text.extend_from_slice(b"\na\n")?;
     has_lines(&rt, alloc, &longest, &[longest.as_slice()])?;
     has_lines(&rt, alloc, &text, &[longest.as_slice(), b"a"])?;
 
     for has_next in [true, false] {
-        is_too_long(&rt, alloc, MAX_LINE + 1, has_next)?;
-        is_too_long(&rt, alloc, 4 * MAX_LINE, has_next)?;
+        is_too_long(&rt, alloc, 1_048_577, has_next)?;
+        is_too_long(&rt, alloc, 4_194_304, has_next)?;
     }
     Ok(())
 }
@@ -223,5 +223,53 @@ fn std_streams_are_read_and_written(rt: HostRuntime) -> Result<(), Fail> {
     let mut small = [0u8; 2];
     let mut sink = StdSink::new(Cursor::new(small.as_mut_slice()));
     assert_eq!(rt; put_all(&mut sink, b"abc"), Err(Failed));
+    Ok(())
+}
+
+/// A stream whose first calls are interrupted, and that then gives nothing and takes all.
+#[derive(Debug, Drop)]
+struct Interrupted {
+    times: u32,
+}
+
+impl Interrupted {
+    fn turn(&mut self) -> io::Result<()> {
+        match self.times.checked_sub(1) {
+            Some(left) => {
+                self.times = left;
+                Err(ErrorKind::Interrupted.into())
+            }
+            None => Ok(()),
+        }
+    }
+}
+
+impl Read for Interrupted {
+    fn read(&mut self, _buf: &mut [u8]) -> io::Result<usize> {
+        self.turn()?;
+        Ok(0)
+    }
+}
+
+impl Write for Interrupted {
+    fn write(&mut self, piece: &[u8]) -> io::Result<usize> {
+        self.turn()?;
+        Ok(piece.len())
+    }
+
+    fn flush(&mut self) -> io::Result<()> {
+        Ok(())
+    }
+}
+
+#[test]
+fn an_interrupted_call_is_tried_64_times(rt: HostRuntime) -> Result<(), Fail> {
+    for (times, wanted) in [(0, Ok(0)), (63, Ok(0)), (64, Err(Failed))] {
+        let mut source = StdSource::new(Interrupted { times });
+        let mut buf = [0u8; 4];
+        assert_eq!(rt; source.take(&mut buf), wanted, "{times} times");
+        let mut sink = StdSink::new(Interrupted { times });
+        assert_eq!(rt; sink.put(b""), wanted, "{times} times");
+    }
     Ok(())
 }

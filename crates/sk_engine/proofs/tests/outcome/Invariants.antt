@@ -1,4 +1,4 @@
 use Rattle.sk_engine.proofs.tests.outcome.Given as goal
 
-abbrev pub ghosts-counted : goal.ghosts-counted
-ghosts-counted a = record { name = a.blank.name; parts = a.blank.parts }
+abbrev pub ghosts-start : goal.ghosts-start
+ghosts-start a = record { name = a.blank.name; parts = a.blank.parts }
