@@ -3,7 +3,7 @@
 /// How many bytes the texts of a record may have in all, and a query text.
 pub const MOST_TEXT: usize = 1_048_576;
 
-/// The greatest rank that a page may reach, and how many documents of one key a collapse may keep.
+/// Before which rank a page ends at the latest, and how many documents of one key a collapse may keep.
 pub const MOST_HITS: u32 = 100_000;
 
 /// No wdf is greater.

@@ -8,7 +8,7 @@ use std::alloc::{AllocError, Global};
 use std::fmt::{Debug, Error, Formatter, Write};
 use std::marker::Model;
 
-/// The entries of one term, one for each document that has it, with its wdf there. Only a cursor shows them.
+/// The entries of one term, one for each document that has it, with its wdf there. On a list that is only lent, only a cursor shows them.
 #[derive(Drop)]
 pub struct List {
     pub(crate) entries: Sorted<u32>,

@@ -1,3 +1,4 @@
+mod Examples
 mod CountLemmas
 mod ReadingLemmas
 pub mod ViewLaws
