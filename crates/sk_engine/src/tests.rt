@@ -18,7 +18,7 @@ use std::test::Fail;
 
 /// What a program that was started with one word came to: its number, its output, and what it said.
 #[derive(Debug, Drop)]
-struct Outcome {
+struct Ending {
     code: u8,
     output: Vec<u8>,
     said: Vec<u8>,
@@ -33,7 +33,7 @@ fn outcome(
     room: usize,
     read_fails: &[u64],
     write_fails: &[u64],
-) -> Result<Outcome, AllocError>
+) -> Result<Ending, AllocError>
     requires { 1 ≤ piece }
 {
     let mut words = Vec::new(alloc);
@@ -52,7 +52,7 @@ fn outcome(
         &mut output,
         &mut errors,
     );
-    Ok(Outcome {
+    Ok(Ending {
         code,
         output: output.bytes().to_vec(alloc)?,
         said: errors.bytes().to_vec(alloc)?,
