@@ -16,7 +16,7 @@ use std::marker::Brand;
 use std::sync::ledger::{Blank, Ledger};
 use std::test::Fail;
 
-/// What a program that was started with one word came to: its number, its output, and what it said.
+/// What a program that was started with one word behind its name came to: its number, its output, and what it said.
 #[derive(Debug, Drop)]
 struct Ending {
     code: u8,
@@ -36,8 +36,9 @@ fn outcome(
 ) -> Result<Ending, AllocError>
     requires { 1 ≤ piece }
 {
-    let mut words = Vec::new(alloc);
-    words.push(String::from_str(alloc, word)?)?;
+    let mut arguments = Vec::new(alloc);
+    arguments.push(String::from_str(alloc, "program")?)?;
+    arguments.push(String::from_str(alloc, word)?)?;
     let mut input = MemorySource::new(bytes.to_vec(alloc)?, piece, read_fails.to_vec(alloc)?);
     let mut records = MemorySource::new(Vec::new(alloc), 1, Vec::new(alloc));
     let mut output = MemorySink::new(alloc, piece, room, write_fails.to_vec(alloc)?)?;
@@ -46,7 +47,7 @@ fn outcome(
         Blank::new(1),
         alloc,
         b"usage: run",
-        Ok(words),
+        Ok(arguments),
         &mut input,
         &mut records,
         &mut output,
