@@ -4,7 +4,7 @@ use Rattle.std.proofs.Common.{String, Global, Vec}
 use Rattle.sk_model.specs.Edits.{nothing_live}
 use Rattle.sk_run.specs.declared.status.Status.{Status}
 use Rattle.sk_run.specs.Responses.{text_of, is_refusal, steps_of}
-use Rattle.sk_run.specs.FindAnswers.{answer_text, is_refused, steps_in}
+use Rattle.sk_run.specs.FindAnswers.{answer_text, is_refused, steps_in, Shown}
 use Rattle.sk_run.specs.Statuses.{code_of}
 use Rattle.sk_run.specs.Conclusions.{Says}
 use Rattle.sk_run.specs.Output.{Answers, Closes, Begins, DoesOnLive, ClosesSilently}
@@ -15,7 +15,7 @@ use Rattle.sk_engine.specs.Finds.{Shows}
 -- What a run did that was given these words.
 abbrev pub RanWith : List (List ℕ) → Status → Outside → Outside → Type 0
 RanWith words status before after =
-    Ran (text_of answer_text) (is_refusal is_refused) (steps_of steps_in) (Answers nothing_live (DoesOnLive Shows)) (Closes ClosesSilently) Begins words status before after
+    Ran (text_of answer_text) (is_refusal is_refused) (steps_of steps_in) (Answers nothing_live (DoesOnLive Shows Shown)) (Closes ClosesSilently) Begins words status before after
 
 -- What a run did whose arguments were read, or not: behind the first of them stand its words. Where they were not, nothing happened.
 abbrev pub RanBy : Result (Vec (String Global) Global) Status → Status → Outside → Outside → Type 0

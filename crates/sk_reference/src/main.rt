@@ -1,11 +1,8 @@
 //! Answers command lines by the definitions alone, slowly on purpose.
 #![tactic(auto)]
 
-mod asked;
 mod shelf;
 mod store;
-#[cfg(test)]
-mod tests;
 
 ghost use Rattle.std.specs.Prelude.{◌≡◌};
 

@@ -3,3 +3,4 @@ mod RunLemmas
 mod EndLemmas
 mod Examples
 mod RanLemmas
+pub mod AskLemmas
