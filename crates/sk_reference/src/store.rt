@@ -87,6 +87,7 @@ fn apply(shelf: Shelf, edit: Edit) -> Result<(Shelf, Response<FindAnswer>), Allo
     Ok((shelf, response_to(reply)))
 }
 
+#[tactic(auto, using(sk_run::proofs::AskLemmas::refused_for))]
 fn answer<L: Ledger>(
     shelf: &Shelf,
     find: &Find,
