@@ -42,12 +42,7 @@ pub fn query_of(alloc: Global, schema: &Schema, ask: &Ask) -> Result<Query, AskE
 }
 
 /// The query of a text under the schema, where its words are joined so.
-pub fn text_query(
-    alloc: Global,
-    schema: &Schema,
-    join: Join,
-    text: &str,
-) -> Result<Query, AskError>
+pub fn text_query(alloc: Global, schema: &Schema, join: Join, text: &str) -> Result<Query, AskError>
     requires { length text.now ≤ 1048576 }
     ensures reads { ReadsAs (text_asked schema.now join text.now) result }
     ensures fits { IfOk result (λ query. fits_tree (query_view query) ≡ true) }

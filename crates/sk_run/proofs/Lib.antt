@@ -4,3 +4,4 @@ mod EndLemmas
 mod Examples
 mod RanLemmas
 pub mod AskLemmas
+pub mod ProgramLemmas
