@@ -15,10 +15,10 @@ abbrev pub hit_of : Docs → Rank → Ranked
 hit_of docs rank = record { id = rank.id; weight = rank.weight; collapsed = 0; payload = payload_of (document_at rank.id docs) }
 
 -- The hits are the asked page of these matches, both bounds are their number, and a reading was made for each hit.
-pub record IsPageOf (options : Options) (docs : Docs) (ranks : List Rank) (greatest spent : ℕ) (report : Report) : Type 0 where
+pub record IsPageOf (options : Options) (docs : Docs) (ranks : List Rank) (bound spent : ℕ) (report : Report) : Type 0 where
   pub hits : report.hits ≡ map (hit_of docs) (slice options.first options.size (best_first Order.Relevance ranks))
   pub lower : report.lower ≡ length ranks
   pub upper : report.upper ≡ length ranks
   pub estimate : report.estimate ≡ (report.lower + report.upper) / 2
-  pub greatest : report.greatest ≡ greatest
+  pub greatest : report.greatest ≡ bound
   pub steps : report.steps ≡ spent + length report.hits

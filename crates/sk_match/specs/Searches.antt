@@ -1,16 +1,16 @@
 -- What a search has seen, and what it still has to see.
-use Rattle.std.specs.Prelude.{◌≡◌, ◌≢◌, ◌<◌, ◌^◌, ℕ, List, length, ◌++◌, map, AllPairs, None}
+use Rattle.std.specs.Prelude.{◌≡◌, ◌≢◌, ◌<◌, ◌^◌, ℕ, List, [], length, ◌++◌, map, AllPairs, None, true}
 use Rattle.sk_base.specs.declared.find.Find.{Find}
 use Rattle.sk_base.specs.declared.rank.Rank.{Rank}
 use Rattle.sk_base.specs.declared.rank.Order.TheVariants as Order
 use Rattle.sk_sorted.specs.Entries.{AreSorted}
 use Rattle.sk_query.specs.Trees.{Tree}
+use Rattle.sk_query.specs.Fits.{is_sound}
 use Rattle.sk_model.specs.Bounds.{ceil}
 use Rattle.sk_model.specs.Reports.{found_by}
 use Rattle.sk_index.specs.Indexed.{Indexed}
-use Rattle.sk_nodes.specs.Left.{left}
-use Rattle.sk_nodes.specs.Built.{IsTree, Built}
-use Rattle.sk_match.specs.declared.search.Search.{Search}
+use Rattle.sk_nodes.specs.Built.{left, IsTree, Built}
+use Rattle.sk_match.specs.declared.turns.Search.{Search}
 
 -- The rank of a document that weighs so, where its value does not matter.
 abbrev pub rank_at : ℕ × ℕ → Rank
@@ -35,6 +35,7 @@ pub record IsOn (search : Search) (index : Indexed) : Type 0 where
 -- A search is one of this find and query on this index: its tree is the query's, and what it saw and has to see is what the find matches.
 pub record Stands (search : Search) (index : Indexed) (find : Find) (query : Tree) : Type 0 where
   pub built : Built search.tree index query find.options.scheme
+  pub sound : is_sound 1 query ≡ true
   pub options : search.options ≡ find.options
   pub order : find.order ≡ Order.Relevance
   pub alone : find.collapse ≡ None

@@ -3,7 +3,9 @@
 
 mod asking;
 mod page;
-mod search;
+mod turns;
+mod whole;
 
 pub use asking::is_built;
-pub use search::{Search, Turn, search};
+pub use turns::{Search, Turn};
+pub use whole::search;

@@ -1,5 +1,5 @@
 //! The page of a find.
-ghost use Rattle.std.specs.Prelude.{◌≡◌, ◌≢◌, ◌≤◌, ◌+◌, length, map, AllPairs, IfOk};
+ghost use Rattle.std.specs.Prelude.{◌≡◌, ◌≢◌, ◌<◌, ◌≤◌, ◌+◌, ◌^◌, length, map, AllPairs, IfOk};
 ghost use Rattle.sk_base.specs.declared.rank.Rank.{Rank};
 ghost use Rattle.sk_model.specs.Page.{slice};
 ghost use Rattle.sk_match.specs.Pages.{hit_of, IsPageOf};
@@ -22,6 +22,7 @@ pub(crate) fn page_of<L: Ledger>(
     spent: u128,
     steps: &mut Steps<L>,
 ) -> Result<Report, AllocError>
+    requires few { length seen.items < 2 ^ 32 }
     requires apart { AllPairs (λ (x y : Rank). x.id ≢ y.id) seen.items }
     ensures page { IfOk result (IsPageOf options index.now.live.documents seen.items greatest spent) }
     ensures cost { IfOk result (λ report. steps.new + spent ≡ steps.old + report.steps) }
@@ -36,7 +37,10 @@ pub(crate) fn page_of<L: Ledger>(
         slice(&ranks, options.first, options.size),
         steps,
     )?;
-    let all = spent + hits.as_slice().len() as u128;
+    let count_of_hits = hits.as_slice().len() as u128;
+    let Some(all) = spent.checked_add(count_of_hits) else {
+        return Err(AllocError);
+    };
     Ok(Report {
         hits,
         lower: count,

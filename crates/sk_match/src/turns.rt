@@ -1,12 +1,16 @@
 //! A search: its matches one by one, and its report.
-ghost use Rattle.std.specs.Prelude.{◌≡◌, ◌≤◌, ◌<◌, ◌+◌, [], true, length, IfOk};
+ghost use Rattle.std.specs.Prelude.{◌≡◌, ◌≤◌, ◌<◌, ◌+◌, [], drop, true, length, Some, IfOk};
 ghost use Rattle.sk_base.specs.declared.find.Find.{Find};
-ghost use Rattle.sk_query.specs.Trees.{Tree, query_view};
+ghost use Rattle.sk_base.specs.declared.find.Scheme.{Scheme};
+ghost use Rattle.sk_sorted.specs.Entries.{AreSorted, first_id};
+ghost use Rattle.sk_query.specs.Trees as QueryTree;
+ghost use Rattle.sk_query.specs.Trees.{query_view};
 ghost use Rattle.sk_query.specs.Fits.{fits_tree};
 ghost use Rattle.sk_model.specs.Reports.{ReportsFor};
+ghost use Rattle.sk_nodes.specs.Built.{left, IsTree, Built};
 ghost use Rattle.sk_match.specs.Asking.{is_built};
 ghost use Rattle.sk_match.specs.Searches.{IsOn, Stands, ahead, all_of};
-ghost use Rattle.sk_match.specs.declared.search.Turn.TheVariants as Turn;
+ghost use Rattle.sk_match.specs.declared.turns.Turn.TheVariants as Turn;
 
 use crate::page::page_of;
 use sk_base::{Bytes, DocId, Find, Options, Rank, Report, Weight};
@@ -76,7 +80,7 @@ impl Search {
     ) -> Result<Turn, AllocError>
         requires on { IsOn self.old index.now }
         ensures on { IfOk result (λ turn. IsOn self.new index.now) }
-        ensures stands { IfOk result (λ turn. (find : Find) (query : Tree) → Stands self.old index.now find query → Stands self.new index.now find query) }
+        ensures stands { IfOk result (λ turn. (find : Find) (query : QueryTree.Tree) → Stands self.old index.now find query → Stands self.new index.now find query) }
 
         // It is done exactly where nothing is left to see, and then nothing changes.
         ensures done { IfOk result (λ turn. turn ≡ Turn.Done → (ahead index.now self.old ≡ []) × (self.new ≡ self.old) × (steps.new ≡ steps.old)) }
@@ -108,20 +112,20 @@ impl Search {
     ) -> Result<Report, AllocError>
         requires on { IsOn self index.now }
         requires done { ahead index.now self ≡ [] }
-        ensures report { IfOk result (λ report. (find : Find) (query : Tree) → Stands self index.now find query → ReportsFor query find index.now.live.documents report) }
+        ensures report { IfOk result (λ report. (find : Find) (query : QueryTree.Tree) → Stands self index.now find query → ReportsFor query find index.now.live.documents report) }
         ensures cost { IfOk result (λ report. steps.new + self.tree.spent ≡ steps.old + report.steps) }
         ensures later { steps.old ≤ steps.new }
     {
-        let spent = self.tree.spent();
-        page_of(
-            self.alloc,
-            index,
-            self.options,
-            self.seen,
-            self.greatest,
-            spent,
-            steps,
-        )
+        let Search {
+            alloc,
+            tree,
+            options,
+            greatest,
+            seen,
+        } = self;
+        let spent = tree.spent();
+        let report = page_of(alloc, index, options, seen, greatest, spent, steps)?;
+        Ok(report)
     }
 
     /// The readings that were made since it was opened, and with the opening.
@@ -134,33 +138,20 @@ impl Search {
 
 /// Moves a tree past its head.
 fn pass<L: Ledger>(tree: &mut Tree, index: &Index, head: DocId, steps: &mut Steps<L>)
+    requires tree { IsTree index.now tree.old }
+    requires free { tree.old.need ≡ 0 }
+    requires sorted { AreSorted (left index.now tree.old) }
+    requires head { first_id (left index.now tree.old) ≡ Some head }
+    ensures left { left index.now tree.new ≡ drop 1 (left index.now tree.old) }
+    ensures tree { IsTree index.now tree.new }
+    ensures built { (query : QueryTree.Tree) (scheme : Scheme) → Built tree.old index.now query scheme → Built tree.new index.now query scheme }
+    ensures free { tree.new.need ≡ 0 }
+    ensures cost { steps.new + tree.old.spent ≡ steps.old + tree.new.spent }
+    ensures later { steps.old ≤ steps.new }
 {
     if head == DocId::MAX {
         tree.close();
         return;
     }
     tree.seek(index, head + 1, 0, steps);
-}
-
-/// The report of a find for a query: a search that is opened, turned until it is done, and finished.
-pub fn search<L: Ledger>(
-    alloc: Global,
-    index: &Index,
-    find: &Find,
-    query: &Query,
-    steps: &mut Steps<L>,
-) -> Result<Report, AllocError>
-    requires fits { fits_tree (query_view query.now) ≡ true }
-    requires built { is_built (query_view query.now) find.now ≡ true }
-    ensures report { IfOk result (λ report. ReportsFor (query_view query.now) find.now index.now.live.documents report) }
-    ensures cost { IfOk result (λ report. steps.new ≡ steps.old + report.steps) }
-    ensures later { steps.old ≤ steps.new }
-{
-    let mut search = Search::open(alloc, index, find, query, steps)?;
-    'turns: loop {
-        match search.turn(index, steps)? {
-            Turn::More => {}
-            Turn::Done => return search.finish(index, steps),
-        }
-    }
 }
