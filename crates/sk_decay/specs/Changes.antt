@@ -115,3 +115,15 @@ LeadsByNeed Change.Not Form.Xor need = Unit {0}
 LeadsByNeed Change.Not _ need = ⊥
 LeadsByNeed Change.NotSwap Form.Xor need = Unit {0}
 LeadsByNeed Change.NotSwap _ need = ⊥
+
+-- One side goes on alone only where it has not ended.
+abbrev pub TakesOpen : Change → Bool → Bool → Type 0
+TakesOpen Change.Keep a_ended b_ended = Unit {0}
+TakesOpen Change.Nothing a_ended b_ended = Unit {0}
+TakesOpen Change.First a_ended b_ended = a_ended ≡ false
+TakesOpen Change.Second a_ended b_ended = b_ended ≡ false
+TakesOpen Change.Maybe a_ended b_ended = Unit {0}
+TakesOpen Change.MaybeSwap a_ended b_ended = Unit {0}
+TakesOpen Change.Both a_ended b_ended = Unit {0}
+TakesOpen Change.Not a_ended b_ended = Unit {0}
+TakesOpen Change.NotSwap a_ended b_ended = Unit {0}

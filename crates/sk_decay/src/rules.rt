@@ -3,7 +3,7 @@ ghost use Rattle.std.specs.Prelude.{◌≡◌, ◌≤◌, ◌<◌, ◌+◌, ◌^
 ghost use Rattle.sk_query.specs.declared.form.Form.TheVariants as Form;
 ghost use Rattle.sk_model.specs.Covers.{CoversAt};
 ghost use Rattle.sk_decay.specs.Sides.{paired, IsSide, greatest_under};
-ghost use Rattle.sk_decay.specs.Changes.{changed, changed_greatest, or_change, maybe_change, both_change, xor_change, max_change, filter_change, not_change, change_of, LeadsByNeed};
+ghost use Rattle.sk_decay.specs.Changes.{changed, changed_greatest, or_change, maybe_change, both_change, xor_change, max_change, filter_change, not_change, change_of, LeadsByNeed, TakesOpen};
 
 use crate::Change;
 use sk_query::Form;
@@ -15,6 +15,7 @@ pub fn or_rule(a: u64, b: u64, a_ended: bool, b_ended: bool, need: u64) -> Chang
     ensures covers { (v w : Option ℕ) → IsSide a a_ended v → IsSide b b_ended w → CoversAt (paired Form.Or v w) (changed result Form.Or v w) need }
     ensures falls { changed_greatest result Form.Or a b ≤ greatest_under Form.Or a b }
     ensures needed { LeadsByNeed result Form.Or need }
+    ensures alone { TakesOpen result a_ended b_ended }
 {
     if a_ended {
         if b_ended {
@@ -47,6 +48,7 @@ pub fn maybe_rule(a: u64, b: u64, a_ended: bool, b_ended: bool, need: u64) -> Ch
     ensures covers { (v w : Option ℕ) → IsSide a a_ended v → IsSide b b_ended w → CoversAt (paired Form.AndMaybe v w) (changed result Form.AndMaybe v w) need }
     ensures falls { changed_greatest result Form.AndMaybe a b ≤ greatest_under Form.AndMaybe a b }
     ensures needed { LeadsByNeed result Form.AndMaybe need }
+    ensures alone { TakesOpen result a_ended b_ended }
 {
     if a_ended {
         return Change::Nothing;
@@ -70,6 +72,7 @@ pub fn both_rule(a: u64, b: u64, a_ended: bool, b_ended: bool, need: u64) -> Cha
     ensures covers { (v w : Option ℕ) → IsSide a a_ended v → IsSide b b_ended w → CoversAt (paired Form.And v w) (changed result Form.And v w) need }
     ensures falls { changed_greatest result Form.And a b ≤ greatest_under Form.And a b }
     ensures needed { LeadsByNeed result Form.And need }
+    ensures alone { TakesOpen result a_ended b_ended }
 {
     if a_ended {
         return Change::Nothing;
@@ -90,6 +93,7 @@ pub fn xor_rule(a: u64, b: u64, a_ended: bool, b_ended: bool, need: u64) -> Chan
     ensures covers { (v w : Option ℕ) → IsSide a a_ended v → IsSide b b_ended w → CoversAt (paired Form.Xor v w) (changed result Form.Xor v w) need }
     ensures falls { changed_greatest result Form.Xor a b ≤ greatest_under Form.Xor a b }
     ensures needed { LeadsByNeed result Form.Xor need }
+    ensures alone { TakesOpen result a_ended b_ended }
 {
     if a_ended {
         if b_ended {
@@ -119,6 +123,7 @@ pub fn max_rule(a: u64, b: u64, a_ended: bool, b_ended: bool, need: u64) -> Chan
     ensures covers { (v w : Option ℕ) → IsSide a a_ended v → IsSide b b_ended w → CoversAt (paired Form.Max v w) (changed result Form.Max v w) need }
     ensures falls { changed_greatest result Form.Max a b ≤ greatest_under Form.Max a b }
     ensures needed { LeadsByNeed result Form.Max need }
+    ensures alone { TakesOpen result a_ended b_ended }
 {
     if a_ended {
         if b_ended {
@@ -148,6 +153,7 @@ pub fn filter_rule(a: u64, b: u64, a_ended: bool, b_ended: bool, need: u64) -> C
     ensures covers { (v w : Option ℕ) → IsSide a a_ended v → IsSide b b_ended w → CoversAt (paired Form.Filter v w) (changed result Form.Filter v w) need }
     ensures falls { changed_greatest result Form.Filter a b ≤ greatest_under Form.Filter a b }
     ensures needed { LeadsByNeed result Form.Filter need }
+    ensures alone { TakesOpen result a_ended b_ended }
 {
     if a_ended {
         return Change::Nothing;
@@ -168,6 +174,7 @@ pub fn not_rule(a: u64, b: u64, a_ended: bool, b_ended: bool, need: u64) -> Chan
     ensures covers { (v w : Option ℕ) → IsSide a a_ended v → IsSide b b_ended w → CoversAt (paired Form.AndNot v w) (changed result Form.AndNot v w) need }
     ensures falls { changed_greatest result Form.AndNot a b ≤ greatest_under Form.AndNot a b }
     ensures needed { LeadsByNeed result Form.AndNot need }
+    ensures alone { TakesOpen result a_ended b_ended }
 {
     if a_ended {
         return Change::Nothing;
@@ -188,6 +195,7 @@ pub fn rule(form: Form, a: u64, b: u64, a_ended: bool, b_ended: bool, need: u64)
     ensures covers { (v w : Option ℕ) → IsSide a a_ended v → IsSide b b_ended w → CoversAt (paired form v w) (changed result form v w) need }
     ensures falls { changed_greatest result form a b ≤ greatest_under form a b }
     ensures needed { LeadsByNeed result form need }
+    ensures alone { TakesOpen result a_ended b_ended }
 {
     match form {
         Form::And => both_rule(a, b, a_ended, b_ended, need),

@@ -1,13 +1,7 @@
-// A library with one function.
+//! The tree of a query: nodes that walk through the lists together, and pass over what is not wanted.
 #![tactic(auto)]
 
-ghost use Rattle.std.specs.Prelude.{◌≡◌};
-ghost use Rattle.sk_nodes.specs.Echo.{echo_of};
-
-// The `ensures` clause is the contract: what `echo` returns is `echo_of` of its argument, a definition
-// in `specs/Echo.antt`, which a caller's clause can cite too.
-pub fn echo(x: usize) -> usize
-    ensures { result ≡ echo_of x }
-{
-    x
-}
+mod leaf;
+mod moves;
+mod node;
+mod top;
