@@ -1,2 +1,4 @@
 pub mod LeafLaws
 pub mod NodeLaws
+pub mod TreeLaws
+pub mod WalkedLaws

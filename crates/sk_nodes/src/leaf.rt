@@ -1,12 +1,9 @@
 //! The entries of one list, with what they weigh.
 ghost use Rattle.std.specs.Prelude.{◌≡◌, ◌≤◌, ◌<◌, ◌+◌, ◌^◌, ℕ, length};
-ghost use Rattle.std.specs.Option.{option_map};
-ghost use Rattle.sk_sorted.specs.Entries.{found};
-ghost use Rattle.sk_lists.specs.Cursor.{unread};
-ghost use Rattle.sk_model.specs.Weights.{weigh_by};
+ghost use Rattle.sk_sorted.specs.Entries.{AreSorted};
 ghost use Rattle.sk_model.specs.Covers.{Covers};
 ghost use Rattle.sk_index.specs.Indexed.{Indexed};
-ghost use Rattle.sk_nodes.specs.Leaves.{list_in, leaf_rest, leaf_unread, leaf_greatest, IsThere, entries_of, head_of, IsLeafOn, AreLight, IsLeafTop};
+ghost use Rattle.sk_nodes.specs.Leaves.{list_in, weighed, leaf_rest, leaf_unread, leaf_greatest, IsThere, entries_of, head_of, IsLeafOn, AreLight, IsLeafTop};
 ghost use Rattle.sk_nodes.specs.Left.{from_on};
 
 use crate::top::{END, Top};
@@ -33,6 +30,44 @@ pub(crate) struct Leaf {
 }
 
 impl Leaf {
+    /// A leaf on the first entry of its list, with its top.
+    pub fn open<L: Ledger>(
+        top: &mut Top,
+        index: &Index,
+        number: Option<usize>,
+        scheme: Scheme,
+        factor: u64,
+        spent: &mut u128,
+        steps: &mut Steps<L>,
+    ) -> Leaf
+        requires there { IsThere number index.now.terms }
+        requires factor { factor ≤ 65536 }
+        requires documents { AreSorted index.now.live.documents }
+        requires room { spent.old + length (list_in index.now number) < 2 ^ 128 }
+        ensures sound { IsLeafOn index.now result }
+        ensures top { IsLeafTop index.now top.new result }
+        ensures gives { (id : ℕ) → leaf_rest index.now result id ≡ weighed factor scheme (list_in index.now number) id }
+        ensures ceiling { top.new.greatest ≤ leaf_greatest factor scheme (list_in index.now number) }
+        ensures paid { spent.new + leaf_unread index.now result ≤ spent.old + length (list_in index.now number) }
+        ensures counted { steps.new + spent.old ≡ steps.old + spent.new }
+        ensures later { spent.old ≤ spent.new }
+    {
+        let list = list_of(index, number);
+        let length = list.length();
+        let leaf = Leaf {
+            number,
+            scheme,
+            factor,
+            need: 0,
+            need_wdf: 0,
+            greatest: greatest_of(list, scheme, factor),
+            cursor: Cursor::open(list, steps),
+        };
+        *spent += u128::from(length.min(1));
+        leaf.show(top);
+        leaf
+    }
+
     /// Moves on to the first entry from the target on; it may pass over what weighs less than the need.
     pub fn seek<L: Ledger>(
         &mut self,
@@ -98,6 +133,25 @@ impl Leaf {
             }
         }
     }
+}
+
+// What the entries of a list can weigh.
+fn greatest_of(list: &List, scheme: Scheme, factor: u64) -> u64
+    requires { factor ≤ 65536 }
+    ensures { result ≡ leaf_greatest factor scheme list.now }
+{
+    if list.length() == 0 {
+        return 0;
+    }
+    weigh_by(factor, scheme, u64::from(list.greatest()))
+}
+
+/// How long the list is.
+pub(crate) fn length_of(index: &Index, number: Option<usize>) -> u32
+    requires { IsThere number index.now.terms }
+    ensures { result ≡ length (list_in index.now number) }
+{
+    list_of(index, number).length()
 }
 
 // The list.

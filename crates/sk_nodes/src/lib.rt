@@ -4,4 +4,10 @@
 mod leaf;
 mod moves;
 mod node;
+mod opening;
 mod top;
+mod tree;
+mod walked;
+
+pub use tree::Tree;
+pub use walked::is_walked;

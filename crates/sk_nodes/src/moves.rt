@@ -86,7 +86,7 @@ fn seek<L: Ledger>(
 
 /// Moves two sides on to their first match from the target on.
 #[cycle(seek)]
-fn seek_pair<L: Ledger>(
+pub(crate) fn seek_pair<L: Ledger>(
     top: &mut Top,
     form: Form,
     ta: &mut Top,
