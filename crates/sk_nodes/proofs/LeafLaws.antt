@@ -1,8 +1,7 @@
 -- What a leaf gives, and what a seek leaves of it.
-use Rattle.std.proofs.Common.{◌≡◌, ◌≤◌, ◌<◌, ◌+◌, ◌-◌, ◌*◌, ◌^◌, ℕ, zero, suc, nat_le, nat_lt, ltb, Bool, true, false, List, [], ◌∷◌, ◌++◌, length, drop, Option, None, Some, unwrap_or, if◌then◌else◌, ◌⊎◌, inl, inr, refl, sym, subst, ap, ◌∙◌, arith, le_refl}
-use mathlib.Core.Bool.{true≢false}
+use Rattle.std.proofs.Common.{◌≡◌, ◌≤◌, ◌<◌, ◌+◌, ◌^◌, ℕ, nat_le, nat_lt, Bool, true, false, [], ◌∷◌, ◌++◌, length, drop, Option, None, Some, unwrap_or, if◌then◌else◌, ◌⊎◌, inl, inr, refl, sym, subst, ap, ◌∙◌, arith, le_refl}
 use Rattle.std.specs.Option.{option_map}
-use Rattle.std.proofs.lemmas.Bool.{cases_eq, cases_lt, ltb-true, ltb-false}
+use Rattle.std.proofs.lemmas.Bool.{cases_eq, cases_lt, ltb-false}
 use Rattle.std.proofs.lemmas.Bool.Decides.{nat_tests}
 use Rattle.std.proofs.lemmas.List.{length-drop}
 use Rattle.sk_base.specs.declared.find.Scheme.{Scheme}
@@ -10,7 +9,7 @@ use Rattle.sk_sorted.specs.Entries.{RiseAbove, LieBelow, AreSorted, found, from,
 use Rattle.sk_sorted.proofs.EntryLaws.{RiseAbove-lower, found-here, found-other, found-below, from-below, from-at}
 use Rattle.sk_lists.specs.declared.cursor.Cursor.{Cursor}
 use Rattle.sk_lists.specs.Postings.{Postings, first_wdf, is_below}
-use Rattle.sk_lists.specs.Cursor.{unread, left, IsOn}
+use Rattle.sk_lists.specs.Cursor.{left, IsOn}
 use Rattle.sk_lists.proofs.CursorLaws.{AreSorted-left}
 use Rattle.sk_index.specs.Indexed.{Indexed}
 use Rattle.sk_model.specs.Weights.{weigh_by}

@@ -2,3 +2,5 @@ pub mod LeafLaws
 pub mod NodeLaws
 pub mod TreeLaws
 pub mod WalkedLaws
+pub mod ListLaws
+pub mod OpenLaws

@@ -1,5 +1,5 @@
 -- What nodes give, and what a change and a move leave of it.
-use Rattle.std.proofs.Common.{◌≡◌, ◌≤◌, ◌<◌, ◌+◌, ◌*◌, ◌^◌, ℕ, max, nat_le, Bool, true, false, Option, None, Some, unwrap_or, is_some, is_none, if◌then◌else◌, inl, inr, refl, sym, subst, ap, ◌∙◌, arith, rules, le_refl, Box, Global}
+use Rattle.std.proofs.Common.{◌≡◌, ◌≤◌, ◌<◌, ◌+◌, ◌^◌, ℕ, Bool, true, false, Option, None, Some, unwrap_or, if◌then◌else◌, inl, inr, refl, sym, subst, ap, ◌∙◌, arith, rules, le_refl, Box, Global}
 use Rattle.std.proofs.lemmas.Bool.{cases_lt}
 use Rattle.sk_query.specs.declared.form.Form.{Form}
 use Rattle.sk_model.specs.Covers.{CoversAt, Covers, first_need, second_need}
@@ -12,11 +12,11 @@ use Rattle.sk_nodes.specs.declared.top.Top.{Top}
 use Rattle.sk_nodes.specs.declared.leaf.Leaf.{Leaf}
 use Rattle.sk_nodes.specs.declared.node.Node.{Node, the_lemmas}
 use Rattle.sk_nodes.specs.declared.node.Node.TheVariants as Node
-use Rattle.sk_nodes.specs.Leaves.{AtMost, IsLeafOn, IsLeafTop}
+use Rattle.sk_nodes.specs.Leaves.{AtMost, IsLeafTop}
 use Rattle.sk_nodes.specs.Shapes.{Shape, ended, leaf, pair, shape_of, size_of}
 use Rattle.sk_nodes.specs.Left.{rest, from_on, unread_of, greatest_in}
 use Rattle.sk_nodes.specs.Sound.{IsTop, IsPair, Sound, Decays}
-use Rattle.sk_nodes.proofs.LeafLaws.{from_on-at, from_on-below, from_on-none, from_cases, covers_none, covers_less, AtMost-covers}
+use Rattle.sk_nodes.proofs.LeafLaws.{from_on-at, from_on-below, from_cases, covers_none}
 
 -- ---- the shapes of nodes
 

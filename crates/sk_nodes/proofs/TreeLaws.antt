@@ -1,21 +1,20 @@
 -- What a tree still gives, as a list.
-use Rattle.std.proofs.Common.{◌≡◌, ◌≤◌, ◌<◌, ◌+◌, ◌^◌, ℕ, nat_le, List, [], ◌∷◌, Option, None, Some, unwrap_or, inl, inr, refl, sym, subst, ap, ◌∙◌, arith, le_refl}
-use Rattle.std.specs.List.{filter_map, cons_option}
+use Rattle.std.proofs.Common.{◌≡◌, ◌≤◌, ◌<◌, ◌+◌, ◌^◌, ℕ, List, [], ◌∷◌, Option, None, Some, inl, inr, refl, sym, subst, ap, ◌∙◌, arith, le_refl}
+use Rattle.std.specs.List.{cons_option}
 use Rattle.std.specs.Option.{option_map}
 use Rattle.std.proofs.lemmas.Bool.{cases_lt, cases_eq}
 use Rattle.sk_base.specs.Numbers.{Docs}
-use Rattle.sk_sorted.specs.Entries.{RiseAbove, LieBelow, AreSorted, from, first_id, found}
-use Rattle.sk_sorted.proofs.EntryLaws.{from-below, from-at, found-other, found-below}
+use Rattle.sk_sorted.specs.Entries.{RiseAbove, AreSorted, from, first_id}
+use Rattle.sk_sorted.proofs.EntryLaws.{from-below, from-at, found-here, found-other, found-below}
 use Rattle.sk_model.specs.Documents.{Document}
 use Rattle.sk_model.specs.Edits.{document_at}
-use Rattle.sk_model.specs.Covers.{CoversAt, Covers}
+use Rattle.sk_model.specs.Covers.{Covers}
 use Rattle.sk_model.proofs.CoverLaws.{covers_exactly}
 use Rattle.sk_index.specs.Indexed.{Indexed}
 use Rattle.sk_decay.specs.Heads.{IsHead, NoneBelow}
 use Rattle.sk_decay.proofs.SideLaws.{paired-none}
 use Rattle.sk_decay.specs.Sides.{paired}
 use Rattle.sk_nodes.specs.declared.top.Top.{Top}
-use Rattle.sk_nodes.specs.Leaves.{AtMost, IsLeafOn}
 use Rattle.sk_nodes.specs.Shapes.{Shape, ended, leaf, pair}
 use Rattle.sk_nodes.specs.Left.{rest, from_on}
 use Rattle.sk_nodes.specs.Sound.{IsTop, Sound}
@@ -117,3 +116,11 @@ pub left_exact : (i : Indexed) (target : ℕ) (old new : Shape) → AreSorted i.
 left_exact i target old new sorted covers =
     weighed_ids-same (λ one. rest i new one.0) (λ one. from_on target (rest i old) one.0) i.live.documents (λ one. covers_exactly (from_on target (rest i old) one.0) (rest i new one.0) (covers one.0))
     ∙ weighed_ids-from target 0 (rest i old) i.live.documents sorted.rise
+
+-- what gives the scores of documents leaves them
+pub weighed_ids-scored : (f : ℕ → Option ℕ) (g : Option Document → Option ℕ) (low : ℕ) (docs : Docs) → RiseAbove low docs → ((id : ℕ) → low < id → f id ≡ g (document_at id docs))
+    → weighed_ids (λ one. f one.0) docs ≡ weighed_ids (λ one. g (Some one.1)) docs
+weighed_ids-scored f g low [] up same = refl
+weighed_ids-scored f g low (one ∷ more) up same =
+    λ i. cons_option (option_map (λ w. (one.0, w)) ((same one.0 up.0 ∙ ap g (found-here one.0 one more refl)) i))
+    (weighed_ids-scored f g one.0 more up.1 (λ id lt. same id (omega (arith, lt, up.0)) ∙ ap g (found-other id one more (λ e. omega (arith, e, lt)))) i)

@@ -1,5 +1,5 @@
 -- How many parts there are.
-use Rattle.std.proofs.Common.{◌≡◌, ◌+◌, ℕ, List, [], ◌∷◌, length, refl, arith}
+use Rattle.std.proofs.Common.{◌≡◌, List, [], ◌∷◌, length, refl, arith}
 use Rattle.sk_query.specs.declared.query.Query.{Query}
 use Rattle.sk_query.specs.Trees.{queries_view}
 use Rattle.sk_nodes.specs.Walked.{count_in}

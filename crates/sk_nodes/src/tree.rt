@@ -58,9 +58,7 @@ impl Tree {
         let _sorted = index.all().length();
         let mut most = 0u128;
         let mut spent = 0u128;
-        let (top, node) = open_node(
-            alloc, index, query, scheme, 1, &mut most, &mut spent, steps,
-        )?;
+        let (top, node) = open_node(alloc, index, query, scheme, 1, &mut most, &mut spent, steps)?;
         Ok(Tree {
             top,
             node,

@@ -1,10 +1,9 @@
 -- Two sides, how far they have come and where they meet.
-use Rattle.std.proofs.Common.{◌≡◌, ◌≤◌, ◌<◌, ◌+◌, ℕ, refl, sym, ap, subst, ◌∙◌, arith, le_refl}
-use Rattle.sk_model.specs.Covers.{Covers, first_need, second_need}
-use Rattle.sk_decay.specs.Sides.{paired}
+use Rattle.std.proofs.Common.{sym, subst, arith}
+use Rattle.sk_model.specs.Covers.{Covers}
 use Rattle.sk_nodes.specs.declared.top.Top.{Top}
-use Rattle.sk_nodes.specs.Shapes.{Shape, pair, shape_of, size_of}
-use Rattle.sk_nodes.specs.Left.{rest, from_on, unread_of}
+use Rattle.sk_nodes.specs.Shapes.{Shape, pair, shape_of}
+use Rattle.sk_nodes.specs.Left.{rest, from_on}
 use Rattle.sk_nodes.specs.Sound.{IsTop, Sound}
 use Rattle.sk_nodes.proofs.NodeLaws.{shape_of-Pair, pair_shape, covers_along, weight_le, target_ended, head_reached, pair_top, pair_top_ended, sides_covers, sides_covers_ended, sides_more, size_along, paid_along}
 use Rattle.sk_nodes.proofs.moves.+seek.Goals as goal

@@ -1,6 +1,5 @@
 -- Nothing gives nothing.
-use Rattle.std.proofs.Common.{None, ap, ◌∙◌, refl}
-use Rattle.sk_nodes.specs.Shapes.{ended, shape_of}
+use Rattle.std.proofs.Common.{ap}
 use Rattle.sk_nodes.specs.Left.{rest}
 use Rattle.sk_nodes.proofs.NodeLaws.{shape_of-Nothing}
 use Rattle.sk_nodes.proofs.TreeLaws.{weighed_ids-none}

@@ -1,5 +1,5 @@
 -- The head is the first that is left.
-use Rattle.std.proofs.Common.{sym, ap, ◌∙◌}
+use Rattle.std.proofs.Common.{sym, ap}
 use Rattle.sk_sorted.specs.Entries.{first_id}
 use Rattle.sk_nodes.specs.Shapes.{shape_of}
 use Rattle.sk_nodes.proofs.TreeLaws.{top_left, top_ended}

@@ -1,7 +1,7 @@
 -- Nothing is left where the need exceeds the ceiling; without a need just what lies below the target goes.
-use Rattle.std.proofs.Common.{◌≡◌, None, sym, ap, subst, ◌∙◌, refl, arith}
+use Rattle.std.proofs.Common.{sym, ap, subst, refl}
 use Rattle.sk_model.specs.Covers.{Covers}
-use Rattle.sk_nodes.specs.Shapes.{Shape, ended, shape_of}
+use Rattle.sk_nodes.specs.Shapes.{Shape, shape_of}
 use Rattle.sk_nodes.specs.Left.{rest, from_on}
 use Rattle.sk_nodes.proofs.NodeLaws.{shape_of-Nothing, covers_gone}
 use Rattle.sk_nodes.proofs.TreeLaws.{weighed_ids-none, left_exact}
@@ -21,4 +21,4 @@ returns-clause-exact g c none =
     let i = c.args.index.now in
     left_exact i c.args.target (shape_of c.args.self.now.node) (shape_of c.reach.new.node) c.requires.tree.documents
     (subst (λ n. Covers (from_on c.args.target (rest i (shape_of c.args.self.now.node))) (rest i (shape_of c.reach.new.node)) n) none
-      (subst (λ n. Covers (from_on n (rest i (shape_of c.args.self.now.node))) (rest i (shape_of c.reach.new.node)) c.args.need) c.from.ensures c.reach.ensures.covers))
+    (subst (λ n. Covers (from_on n (rest i (shape_of c.args.self.now.node))) (rest i (shape_of c.reach.new.node)) c.args.need) c.from.ensures c.reach.ensures.covers))
