@@ -1,0 +1,6 @@
+pub mod LeafLaws
+pub mod NodeLaws
+pub mod TreeLaws
+pub mod WalkedLaws
+pub mod ListLaws
+pub mod OpenLaws

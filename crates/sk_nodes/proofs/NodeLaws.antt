@@ -1,0 +1,333 @@
+-- What nodes give, and what a change and a move leave of it.
+use Rattle.std.proofs.Common.{◌≡◌, ◌≤◌, ◌<◌, ◌+◌, ◌^◌, ℕ, Bool, true, false, Option, None, Some, unwrap_or, if◌then◌else◌, inl, inr, refl, sym, subst, ap, ◌∙◌, arith, rules, le_refl, Box, Global}
+use Rattle.std.proofs.lemmas.Bool.{cases_lt}
+use Rattle.sk_query.specs.declared.form.Form.{Form}
+use Rattle.sk_model.specs.Covers.{CoversAt, Covers, first_need, second_need}
+use Rattle.sk_model.proofs.CoverLaws.{covers_itself, covers_then}
+use Rattle.sk_index.specs.Indexed.{Indexed}
+use Rattle.sk_decay.specs.Sides.{paired, greatest_under, is_led, second_target, IsSide}
+use Rattle.sk_decay.specs.Heads.{IsHead, NoneBelow}
+use Rattle.sk_decay.proofs.SideLaws.{paired-covers, paired-bound, paired-led, paired-none}
+use Rattle.sk_nodes.specs.declared.top.Top.{Top}
+use Rattle.sk_nodes.specs.declared.leaf.Leaf.{Leaf}
+use Rattle.sk_nodes.specs.declared.node.Node.{Node, the_lemmas}
+use Rattle.sk_nodes.specs.declared.node.Node.TheVariants as Node
+use Rattle.sk_nodes.specs.Leaves.{AtMost, IsLeafTop}
+use Rattle.sk_nodes.specs.Shapes.{Shape, ended, leaf, pair, shape_of, size_of}
+use Rattle.sk_nodes.specs.Left.{rest, from_on, unread_of, greatest_in}
+use Rattle.sk_nodes.specs.Sound.{IsTop, IsPair, Sound, Decays}
+use Rattle.sk_nodes.proofs.LeafLaws.{from_on-at, from_on-below, from_cases, covers_none}
+
+-- ---- the shapes of nodes
+
+pub shape_of-Nothing : shape_of Node.Nothing ≡ ended
+shape_of-Nothing = search (rules, the_lemmas)
+
+pub shape_of-Leaf : (l : Leaf) → shape_of (Node.Leaf l) ≡ leaf l
+shape_of-Leaf l = search (rules, the_lemmas)
+
+pub shape_of-Pair : (form : Form) (ta tb : Top) (a b : Box Node Global) → shape_of (Node.Pair form ta a tb b) ≡ pair form ta (shape_of a.value) tb (shape_of b.value)
+shape_of-Pair form ta tb a b = search (rules, the_lemmas)
+
+-- ---- one side
+
+-- a head at the target or behind it stays
+pub covers_stays : (target need head weight : ℕ) (f : ℕ → Option ℕ) → IsHead head weight f → target ≤ head → Covers (from_on target f) f need
+covers_stays target need head weight f h le = λ id.
+    from_cases target f id (f id) need (λ at. covers_itself (f id) need) (λ below. h.below id (omega (arith, le, below)))
+
+light_gone : (a : Option ℕ) (greatest need : ℕ) → unwrap_or a 0 ≤ greatest → greatest < need → CoversAt a None need
+light_gone None greatest need le lt = tt
+light_gone (Some v) greatest need le lt = omega (arith, le, lt)
+
+-- what is too light may go
+pub covers_gone : (target need greatest : ℕ) (f : ℕ → Option ℕ) → AtMost greatest f → greatest < need → Covers (from_on target f) (λ id. None) need
+covers_gone target need greatest f bound lt = λ id.
+    from_cases target f id None need (λ at. light_gone (f id) greatest need (bound id) lt) (λ below. refl)
+
+-- one cover after another
+pub covers_more : (target need : ℕ) (f g h : ℕ → Option ℕ) → Covers f g need → Covers (from_on target g) h need → Covers (from_on target f) h need
+covers_more target need f g h first last = λ id.
+    from_cases target f id (h id) need
+    (λ at. covers_then (f id) (g id) (h id) need need (le_refl need) (first id) (subst (λ a. CoversAt a (h id) need) (from_on-at target g id at) (last id)))
+    (λ below. covers_none None (h id) need refl (subst (λ a. CoversAt a (h id) need) (from_on-below target g id below) (last id)))
+
+-- the end of a node
+pub ended_top : (i : Indexed) → IsTop i (record { head = 2 ^ 32; weight = 0; greatest = 0 }) ended
+ended_top i = record {
+  head = record { within = le_refl (2 ^ 32); below = λ id lt. refl; at = λ lt. absurd (omega (arith, lt)); past = λ id le. refl; ended = λ same. refl };
+  bound = λ id. omega arith;
+  exact = λ lt. absurd (omega (arith, lt));
+  closed = λ same. refl;
+}
+
+pub leaf_top : (i : Indexed) (t : Top) (l : Leaf) → IsLeafTop i t l → IsTop i t (leaf l)
+leaf_top i t l top = record { head = top.head; bound = top.bound; exact = top.exact; closed = top.closed }
+
+-- an ended head: nothing is given
+pub IsHead-none : (weight id : ℕ) (f : ℕ → Option ℕ) → IsHead (2 ^ 32) weight f → f id ≡ None
+IsHead-none weight id f h =
+    elim (cases_lt id (2 ^ 32)) as (λ _. f id ≡ None) [
+      | inl lt ↦ h.below id lt
+      | inr le ↦ h.past id le
+    ]
+
+-- a head's weight is given
+pub weight_le : (i : Indexed) (t : Top) (s : Shape) → IsTop i t s → t.weight ≤ t.greatest
+weight_le i t s top =
+    elim (cases_lt t.head (2 ^ 32)) as (λ _. t.weight ≤ t.greatest) [
+      | inl lt ↦ given (rest i s t.head) (top.head.at lt) (top.bound t.head)
+      | inr le ↦ let none : t.weight ≡ 0 = top.head.ended (omega (arith, le, top.head.within)) in omega (arith, none)
+    ]
+  where
+    given : (a : Option ℕ) → a ≡ Some t.weight → unwrap_or a 0 ≤ t.greatest → t.weight ≤ t.greatest
+    given None e h = cc
+    given (Some v) e h = let same : v ≡ t.weight = cc in omega (arith, same, h)
+
+-- a node as a side, for the rules
+pub IsTop-side : (i : Indexed) (t : Top) (s : Shape) (test : Bool) → (test ≡ true → t.head ≡ 2 ^ 32) → IsTop i t s → (id : ℕ) → IsSide t.greatest test (rest i s id)
+IsTop-side i t s test is top id = record {
+  bound = top.bound id;
+  gone = λ e. IsHead-none t.weight id (rest i s) (subst (λ h. IsHead h t.weight (rest i s)) (is e) top.head);
+}
+
+-- ---- two sides
+
+module _ (form : Form) (from next need ga gb : ℕ) (a b a2 b2 : ℕ → Option ℕ) (head weight : ℕ) (bound_b : AtMost gb b) (bound_a : AtMost ga a2) (h : IsHead head weight a2) (le : from ≤ head)
+    (first : Covers (from_on from a) a2 (first_need form need gb)) where
+  first_at : (id : ℕ) → from ≤ id → CoversAt (a id) (a2 id) (first_need form need gb)
+  first_at id up = subst (λ o. CoversAt o (a2 id) (first_need form need gb)) (from_on-at from a id up) (first id)
+
+  both_gone : (c d : Option ℕ) → c ≡ None → d ≡ None → paired form c d ≡ None
+  both_gone c d e f = ap (λ o. paired form o d) e ∙ ap (paired form None) f ∙ paired-none form
+
+  led_gone : (c d : Option ℕ) → c ≡ None → is_led form ≡ true → paired form c d ≡ None
+  led_gone c d e led = ap (λ o. paired form o d) e ∙ paired-led form d led
+
+  module _ (second : Covers (from_on next b) b2 (second_need form need ga)) where
+    second_at : (id : ℕ) → next ≤ id → CoversAt (b id) (b2 id) (second_need form need ga)
+    second_at id up = subst (λ o. CoversAt o (b2 id) (second_need form need ga)) (from_on-at next b id up) (second id)
+
+    second_gone : (id : ℕ) → id < next → b2 id ≡ None
+    second_gone id lt = covers_none (from_on next b id) (b2 id) (second_need form need ga) (from_on-below next b id lt) (second id)
+
+    below_by : (test : Bool) → is_led form ≡ test → next ≡ (if test then head else from) → (id : ℕ) → id < from → paired form (a2 id) (b2 id) ≡ None
+    below_by true led is id lt = led_gone (a2 id) (b2 id) (h.below id (omega (arith, lt, le))) led
+    below_by false led is id lt = both_gone (a2 id) (b2 id) (h.below id (omega (arith, lt, le))) (second_gone id (omega (arith, lt, is)))
+
+    at_both : (id : ℕ) → from ≤ id → next ≤ id → CoversAt (paired form (a id) (b id)) (paired form (a2 id) (b2 id)) need
+    at_both id up further = paired-covers form (a id) (b id) (a2 id) (b2 id) ga gb need (bound_b id) (bound_a id) (first_at id up) (second_at id further)
+
+    at_first : (id : ℕ) → from ≤ id → id < head → is_led form ≡ true → CoversAt (paired form (a id) (b id)) (paired form (a2 id) (b2 id)) need
+    at_first id up lt led =
+        subst (λ o. CoversAt (paired form (a id) (b id)) o need)
+        (led_gone (a2 id) (b id) (h.below id lt) led ∙ sym (led_gone (a2 id) (b2 id) (h.below id lt) led))
+        (paired-covers form (a id) (b id) (a2 id) (b id) ga gb need (bound_b id) (bound_a id) (first_at id up) (covers_itself (b id) (second_need form need ga)))
+
+    at_by : (test : Bool) → is_led form ≡ test → next ≡ (if test then head else from) → (id : ℕ) → from ≤ id → CoversAt (paired form (a id) (b id)) (paired form (a2 id) (b2 id)) need
+    at_by true led is id up =
+        elim (cases_lt id head) as (λ _. CoversAt (paired form (a id) (b id)) (paired form (a2 id) (b2 id)) need) [
+          | inl lt ↦ at_first id up lt led
+          | inr further ↦ at_both id up (omega (arith, further, is))
+        ]
+    at_by false led is id up = at_both id up (omega (arith, up, is))
+
+    -- both sides moved on, the second from where the form says
+    pub pair_covers : next ≡ second_target form from head → Covers (from_on from (λ id. paired form (a id) (b id))) (λ id. paired form (a2 id) (b2 id)) need
+    pair_covers is = λ id.
+        from_cases from (λ id. paired form (a id) (b id)) id (paired form (a2 id) (b2 id)) need (at_by (is_led form) refl is id) (below_by (is_led form) refl is id)
+
+  -- the first side of a form that is led has ended
+  pub pair_covers_ended : 2 ^ 32 ≤ head → is_led form ≡ true → Covers (from_on from (λ id. paired form (a id) (b id))) (λ id. paired form (a2 id) (b id)) need
+  pair_covers_ended end led = λ id.
+      from_cases from (λ id. paired form (a id) (b id)) id (paired form (a2 id) (b id)) need
+      (λ up. paired-covers form (a id) (b id) (a2 id) (b id) ga gb need (bound_b id) (bound_a id) (first_at id up) (covers_itself (b id) (second_need form need ga)))
+      (λ lt. led_gone (a2 id) (b id) (h.below id (omega (arith, lt, le))) led)
+
+-- an ended target: the form is led, and its first side has ended
+pub target_ended : (form : Form) (from head : ℕ) → from < 2 ^ 32 → 2 ^ 32 ≤ second_target form from head → (is_led form ≡ true) × (2 ^ 32 ≤ head)
+target_ended form from head lt = by (is_led form) refl
+  where
+    by : (test : Bool) → is_led form ≡ test → 2 ^ 32 ≤ (if test then head else from) → (is_led form ≡ true) × (2 ^ 32 ≤ head)
+    by true e up = (e, up)
+    by false e up = absurd (omega (arith, lt, up))
+
+-- the second side of a form that is led is sought from the first one's head
+pub target_led : (form : Form) (from head next : ℕ) → next ≡ second_target form from head → is_led form ≡ true → next ≡ head
+target_led form from head next is led = is ∙ by (is_led form) led
+  where
+    by : (test : Bool) → test ≡ true → (if test then head else from) ≡ head
+    by true e = refl
+    by false e = cc
+
+pub target_further : (form : Form) (from head : ℕ) → from ≤ head → from ≤ second_target form from head
+target_further form from head le = by (is_led form)
+  where
+    by : (test : Bool) → from ≤ (if test then head else from)
+    by true = le
+    by false = le_refl from
+
+-- what is left begins at the target or behind it
+pub head_reached : (target need head weight : ℕ) (f g : ℕ → Option ℕ) → Covers (from_on target f) g need → IsHead head weight g → target < 2 ^ 32 → target ≤ head
+head_reached target need head weight f g covers h lt =
+    elim (cases_lt head target) as (λ _. target ≤ head) [
+      | inl before ↦ absurd (there (g head) (covers_none (from_on target f head) (g head) need (from_on-below target f head before) (covers head)) (h.at (omega (arith, before, lt))))
+      | inr le ↦ le
+    ]
+  where
+    there : (o : Option ℕ) → o ≡ None → o ≡ Some weight → ⊥
+    there o e g = cc
+
+-- the top of two sides where they meet
+pub pair_top : (i : Indexed) (form : Form) (ta : Top) (a : Shape) (tb : Top) (b : Shape) (t : Top) → IsTop i ta a → IsTop i tb b
+    → IsHead t.head t.weight (λ id. paired form (rest i a id) (rest i b id))
+    → (t.head < 2 ^ 32 → t.greatest ≡ greatest_under form ta.greatest tb.greatest) → (t.head ≡ 2 ^ 32 → t.greatest ≡ 0) → IsTop i t (pair form ta a tb b)
+pair_top i form ta a tb b t first second h exact closed = record {
+  head = h;
+  bound = λ id. elim (cases_lt t.head (2 ^ 32)) as (λ _. unwrap_or (paired form (rest i a id) (rest i b id)) 0 ≤ t.greatest) [
+    | inl lt ↦ subst (λ g. unwrap_or (paired form (rest i a id) (rest i b id)) 0 ≤ g) (sym (exact lt)) (paired-bound form (rest i a id) (rest i b id) ta.greatest tb.greatest (first.bound id) (second.bound id))
+    | inr le ↦ none_bound (paired form (rest i a id) (rest i b id)) t.greatest
+        (IsHead-none t.weight id (λ id. paired form (rest i a id) (rest i b id)) (subst (λ n. IsHead n t.weight (λ id. paired form (rest i a id) (rest i b id))) (at_end le h.within) h))
+  ];
+  exact = exact;
+  closed = closed;
+}
+  where
+    none_bound : (o : Option ℕ) (g : ℕ) → o ≡ None → unwrap_or o 0 ≤ g
+    none_bound None g e = omega arith
+    none_bound (Some v) g e = cc
+
+    at_end : 2 ^ 32 ≤ t.head → t.head ≤ 2 ^ 32 → t.head ≡ 2 ^ 32
+    at_end p q = omega (arith, p, q)
+
+-- two sides of which the first, which leads, has ended
+pub pair_top_ended : (i : Indexed) (form : Form) (ta : Top) (a : Shape) (tb : Top) (b : Shape) → IsTop i ta a → is_led form ≡ true → 2 ^ 32 ≤ ta.head
+    → IsTop i (record { head = 2 ^ 32; weight = 0; greatest = 0 }) (pair form ta a tb b)
+pair_top_ended i form ta a tb b first led end = record {
+  head = record { within = le_refl (2 ^ 32); below = λ id lt. gone id; at = λ lt. absurd (omega (arith, lt)); past = λ id le. gone id; ended = λ same. refl };
+  bound = λ id. none_bound (paired form (rest i a id) (rest i b id)) (gone id);
+  exact = λ lt. absurd (omega (arith, lt));
+  closed = λ same. refl;
+}
+  where
+    none_bound : (o : Option ℕ) → o ≡ None → unwrap_or o 0 ≤ 0
+    none_bound None e = omega arith
+    none_bound (Some v) e = cc
+
+    at_end : 2 ^ 32 ≤ ta.head → ta.head ≤ 2 ^ 32 → ta.head ≡ 2 ^ 32
+    at_end p q = omega (arith, p, q)
+
+    gone : (id : ℕ) → paired form (rest i a id) (rest i b id) ≡ None
+    gone id =
+        ap (λ o. paired form o (rest i b id)) (IsHead-none ta.weight id (rest i a) (subst (λ n. IsHead n ta.weight (rest i a)) (at_end end first.head.within) first.head))
+        ∙ paired-led form (rest i b id) led
+
+-- ---- how far two sides have come
+
+pub record SidesSoFar (i : Indexed) (form : Form) (target need from : ℕ) (ta0 : Top) (a0 : Shape) (tb0 : Top) (b0 : Shape) (ta : Top) (a : Shape) (tb : Top) (b : Shape) : Type 0 where
+  pub pair : IsPair i ta a tb b (Sound i a) (Sound i b)
+  pub covers : Covers (from_on target (λ id. paired form (rest i a0 id) (rest i b0 id))) (from_on from (λ id. paired form (rest i a id) (rest i b id))) need
+  pub within : from < 2 ^ 32
+  pub first_falls : ta.greatest ≤ ta0.greatest
+  pub second_falls : tb.greatest ≤ tb0.greatest
+  pub first_smaller : size_of a ≤ size_of a0
+  pub second_smaller : size_of b ≤ size_of b0
+
+pub sides_begin : (i : Indexed) (form : Form) (target need : ℕ) (ta : Top) (a : Shape) (tb : Top) (b : Shape) → IsPair i ta a tb b (Sound i a) (Sound i b) → target < 2 ^ 32
+    → SidesSoFar i form target need target ta a tb b ta a tb b
+sides_begin i form target need ta a tb b kept lt = record {
+  pair = kept;
+  covers = λ id. covers_itself (from_on target (λ id. paired form (rest i a id) (rest i b id)) id) need;
+  within = lt;
+  first_falls = le_refl ta.greatest;
+  second_falls = le_refl tb.greatest;
+  first_smaller = le_refl (size_of a);
+  second_smaller = le_refl (size_of b);
+}
+
+-- both sides moved on once more
+pub sides_covers : (i : Indexed) (form : Form) (target need from next : ℕ) (ta0 : Top) (a0 : Shape) (tb0 : Top) (b0 : Shape) (ta : Top) (a : Shape) (tb : Top) (b : Shape) (ua : Top) (c : Shape) (d : Shape)
+    → SidesSoFar i form target need from ta0 a0 tb0 b0 ta a tb b → IsTop i ua c → from ≤ ua.head
+    → Covers (from_on from (rest i a)) (rest i c) (first_need form need tb.greatest) → Covers (from_on next (rest i b)) (rest i d) (second_need form need ua.greatest)
+    → next ≡ second_target form from ua.head
+    → Covers (from_on target (λ id. paired form (rest i a0 id) (rest i b0 id))) (λ id. paired form (rest i c id) (rest i d id)) need
+sides_covers i form target need from next ta0 a0 tb0 b0 ta a tb b ua c d far top le first second is = λ id.
+    covers_then (from_on target (λ id. paired form (rest i a0 id) (rest i b0 id)) id) (from_on from (λ id. paired form (rest i a id) (rest i b id)) id) (paired form (rest i c id) (rest i d id)) need need (le_refl need)
+    (far.covers id)
+    (pair_covers form from next need ua.greatest tb.greatest (rest i a) (rest i b) (rest i c) (rest i d) ua.head ua.weight far.pair.second.bound top.bound top.head le first second is id)
+
+pub sides_covers_ended : (i : Indexed) (form : Form) (target need from : ℕ) (ta0 : Top) (a0 : Shape) (tb0 : Top) (b0 : Shape) (ta : Top) (a : Shape) (tb : Top) (b : Shape) (ua : Top) (c : Shape)
+    → SidesSoFar i form target need from ta0 a0 tb0 b0 ta a tb b → IsTop i ua c → from ≤ ua.head
+    → Covers (from_on from (rest i a)) (rest i c) (first_need form need tb.greatest)
+    → is_led form ≡ true → 2 ^ 32 ≤ ua.head
+    → Covers (from_on target (λ id. paired form (rest i a0 id) (rest i b0 id))) (λ id. paired form (rest i c id) (rest i b id)) need
+sides_covers_ended i form target need from ta0 a0 tb0 b0 ta a tb b ua c far top le first led end = λ id.
+    covers_then (from_on target (λ id. paired form (rest i a0 id) (rest i b0 id)) id) (from_on from (λ id. paired form (rest i a id) (rest i b id)) id) (paired form (rest i c id) (rest i b id)) need need (le_refl need)
+    (far.covers id)
+    (pair_covers_ended form from from need ua.greatest tb.greatest (rest i a) (rest i b) (rest i c) (rest i b) ua.head ua.weight far.pair.second.bound top.bound top.head le first end led id)
+
+-- they go on
+pub goes_on_covers : (target need next : ℕ) (f g : ℕ → Option ℕ) → Covers (from_on target f) g need → NoneBelow next g → Covers (from_on target f) (from_on next g) need
+goes_on_covers target need next f g covers below = λ id.
+    elim (cases_lt id next) as (λ _. CoversAt (from_on target f id) (from_on next g id) need) [
+      | inl lt ↦ subst (λ o. CoversAt (from_on target f id) o need) (below id lt ∙ sym (from_on-below next g id lt)) (covers id)
+      | inr le ↦ subst (λ o. CoversAt (from_on target f id) o need) (sym (from_on-at next g id le)) (covers id)
+    ]
+
+-- ---- what is put in a node's place
+
+pub decays_itself : (i : Indexed) (need : ℕ) (s : Shape) → Sound i s → Decays i need s s
+decays_itself i need s sound = record {
+  sound = sound;
+  covers = λ id. covers_itself (rest i s id) need;
+  falls = le_refl (greatest_in s);
+  smaller = le_refl (size_of s);
+  unread = le_refl (unread_of i s);
+}
+
+-- nothing, where the rule says so
+pub decays_ended : (i : Indexed) (need : ℕ) (form : Form) (ta : Top) (a : Shape) (tb : Top) (b : Shape) (a_ended b_ended : Bool) → (a_ended ≡ true → ta.head ≡ 2 ^ 32) → (b_ended ≡ true → tb.head ≡ 2 ^ 32)
+    → Sound i (pair form ta a tb b) → ((v w : Option ℕ) → IsSide ta.greatest a_ended v → IsSide tb.greatest b_ended w → CoversAt (paired form v w) None need)
+    → Decays i need (pair form ta a tb b) ended
+decays_ended i need form ta a tb b a_ended b_ended first second sound covers = record {
+  sound = tt;
+  covers = λ id. covers (rest i a id) (rest i b id) (IsTop-side i ta a a_ended first sound.first id) (IsTop-side i tb b b_ended second sound.second id);
+  falls = omega arith;
+  smaller = omega arith;
+  unread = omega arith;
+}
+
+-- ---- nodes of two sides, by their shapes
+
+pub pair_shape : (node : Node) (form : Form) (ta tb : Top) (a b : Box Node Global) (x y : Node) → node ≡ Node.Pair form ta a tb b → x ≡ a.value → y ≡ b.value → shape_of node ≡ pair form ta (shape_of x) tb (shape_of y)
+pair_shape node form ta tb a b x y e f g = ap shape_of e ∙ shape_of-Pair form ta tb a b ∙ (λ i. pair form ta (shape_of (sym f i)) tb (shape_of (sym g i)))
+
+pub covers_along : (i : Indexed) (target need : ℕ) (old new s t : Shape) → old ≡ s → new ≡ t → Covers (from_on target (rest i s)) (rest i t) need → Covers (from_on target (rest i old)) (rest i new) need
+covers_along i target need old new s t e f covers =
+    subst (λ o. Covers (from_on target (rest i o)) (rest i new) need) (sym e) (subst (λ n. Covers (from_on target (rest i s)) (rest i n) need) (sym f) covers)
+
+pub size_along : (old new s t : Shape) → old ≡ s → new ≡ t → size_of t ≤ size_of s → size_of new ≤ size_of old
+size_along old new s t e f le = omega (arith, ap size_of e, ap size_of f, le)
+
+pub paid_along : (i : Indexed) (old new s t : Shape) (before after : ℕ) → old ≡ s → new ≡ t → after + unread_of i t ≤ before + unread_of i s → after + unread_of i new ≤ before + unread_of i old
+paid_along i old new s t before after e f le = omega (arith, ap (unread_of i) e, ap (unread_of i) f, le)
+
+-- two sides that have gone on
+pub sides_more : (i : Indexed) (form : Form) (target need from further : ℕ) (ta0 : Top) (a0 : Shape) (tb0 : Top) (b0 : Shape) (ta : Top) (a : Shape) (tb : Top) (b : Shape) (ua : Top) (c : Shape) (ub : Top) (d : Shape)
+    → SidesSoFar i form target need from ta0 a0 tb0 b0 ta a tb b → IsTop i ua c → IsTop i ub d → Sound i c → Sound i d
+    → ua.greatest ≤ ta.greatest → ub.greatest ≤ tb.greatest → size_of c ≤ size_of a → size_of d ≤ size_of b
+    → Covers (from_on target (λ id. paired form (rest i a0 id) (rest i b0 id))) (λ id. paired form (rest i c id) (rest i d id)) need
+    → further < 2 ^ 32 → NoneBelow further (λ id. paired form (rest i c id) (rest i d id))
+    → SidesSoFar i form target need further ta0 a0 tb0 b0 ua c ub d
+sides_more i form target need from further ta0 a0 tb0 b0 ta a tb b ua c ub d far first second first_sound second_sound fa fb sa sb covers within below = record {
+  pair = record { first = first; second = second; first_sound = first_sound; second_sound = second_sound; fits = omega (arith, fa, fb, far.pair.fits) };
+  covers = goes_on_covers target need further (λ id. paired form (rest i a0 id) (rest i b0 id)) (λ id. paired form (rest i c id) (rest i d id)) covers below;
+  within = within;
+  first_falls = omega (arith, fa, far.first_falls);
+  second_falls = omega (arith, fb, far.second_falls);
+  first_smaller = omega (arith, sa, far.first_smaller);
+  second_smaller = omega (arith, sb, far.second_smaller);
+}
+
+pub decays_along : (i : Indexed) (need : ℕ) (old new s t : Shape) → old ≡ s → new ≡ t → Decays i need s t → Decays i need old new
+decays_along i need old new s t e f h = subst (λ (o : Shape). Decays i need o new) (sym e) (subst (λ (n : Shape). Decays i need s n) (sym f) h)

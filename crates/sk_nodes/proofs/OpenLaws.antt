@@ -1,0 +1,355 @@
+-- What a nest of two-sided nodes makes of the scores of parts.
+use Rattle.std.proofs.Common.{◌≡◌, ◌≤◌, ◌<◌, ◌+◌, ◌^◌, ◌&&◌, ℕ, max, nat_le, Bool, true, false, List, [], ◌∷◌, ◌++◌, length, take, drop, slice_get, Option, None, Some, All, is_some, is_none, unwrap_or, refl, sym, subst, ap, ◌∙◌, arith}
+use Rattle.std.proofs.lemmas.Bool.Decides.{nat_tests}
+use Rattle.std.proofs.lemmas.List.{take-append-drop}
+use Rattle.sk_base.specs.declared.find.Scheme.{Scheme}
+use Rattle.sk_base.specs.Loads.{IsLight}
+use Rattle.sk_base.specs.Numbers.{Docs}
+use Rattle.sk_query.specs.declared.form.Form.{Form}
+use Rattle.sk_query.specs.declared.query.Query.{Query}
+use Rattle.sk_query.specs.Trees as Trees
+use Rattle.sk_query.specs.Trees.{query_view, queries_view, form_of, parts, no_trees, tree}
+use Rattle.sk_query.specs.Fits.{is_sound, are_sound, has_parts, leaves_of, leaves_in, depth_of, fits_tree}
+use Rattle.sk_model.specs.Documents.{Document}
+use Rattle.sk_model.specs.Combining.{both, either, sum_of_all, sum_of_any, where_so, with_more, combined}
+use Rattle.sk_model.specs.Scores.{score, scores}
+use Rattle.sk_model.specs.Bounds.{sum_in, greatest_in, first_in, ceil_of, ceil, ceils}
+use Rattle.sk_model.specs.Allowance.{leaves_readings}
+use Rattle.sk_model.proofs.CombiningLaws.{both-end, either-end, greater-end, sum_of_all-append, sum_of_any-append, greatest_score-append, not_others}
+use Rattle.sk_model.proofs.CoverLaws.{two_xor}
+use Rattle.sk_model.proofs.WeightLaws.{ceil_small}
+use Rattle.sk_decay.specs.Sides.{paired, greatest_under}
+use Rattle.sk_decay.proofs.SideLaws.{paired-none}
+use Rattle.sk_nodes.specs.Walked.{count_in, is_walked, are_walked, is_form_walked}
+use Rattle.sk_nodes.specs.Opened.{score_of, joint_score_of, others_of, query_size, parts_size, AreParts}
+
+-- ---- parts, one behind the other
+
+abbrev pub joined : Trees.Trees → Trees.Trees → Trees.Trees
+joined no_trees us = us
+joined (tree t ts) us = tree t (joined ts us)
+
+pub queries_view-append : (xs ys : List Query) → queries_view (xs ++ ys) ≡ joined (queries_view xs) (queries_view ys)
+queries_view-append [] ys = refl
+queries_view-append (x ∷ xs) ys = ap (tree (query_view x)) (queries_view-append xs ys)
+
+pub scores-joined : (ts us : Trees.Trees) (scheme : Scheme) (factor : ℕ) (d : Document) → scores (joined ts us) scheme factor d ≡ scores ts scheme factor d ++ scores us scheme factor d
+scores-joined no_trees us scheme factor d = refl
+scores-joined (tree t ts) us scheme factor d = ap (λ (ss : List (Option ℕ)). score t scheme factor d ∷ ss) (scores-joined ts us scheme factor d)
+
+pub ceils-joined : (ts us : Trees.Trees) (scheme : Scheme) (factor : ℕ) (docs : Docs) → ceils (joined ts us) scheme factor docs ≡ ceils ts scheme factor docs ++ ceils us scheme factor docs
+ceils-joined no_trees us scheme factor docs = refl
+ceils-joined (tree t ts) us scheme factor docs = ap (λ (bs : List ℕ). ceil t scheme factor docs ∷ bs) (ceils-joined ts us scheme factor docs)
+
+pub leaves_in-joined : (ts us : Trees.Trees) → leaves_in (joined ts us) ≡ leaves_in ts + leaves_in us
+leaves_in-joined no_trees us = omega arith
+leaves_in-joined (tree t ts) us = let rest = leaves_in-joined ts us in omega (arith, rest)
+
+pub readings-joined : (ts us : Trees.Trees) (docs : Docs) → leaves_readings (joined ts us) docs ≡ leaves_readings ts docs + leaves_readings us docs
+readings-joined no_trees us docs = omega arith
+readings-joined (tree t ts) us docs = let rest = readings-joined ts us docs in omega (arith, rest)
+
+both_true : (a b : Bool) → (a && b) ≡ true → (a ≡ true) × (b ≡ true)
+both_true true b e = (refl, e)
+both_true false b e = cc
+
+true_both : (a b : Bool) → a ≡ true → b ≡ true → (a && b) ≡ true
+true_both true b e f = f
+true_both false b e f = cc
+
+pub are_sound-joined : (ts us : Trees.Trees) (factor : ℕ) → are_sound factor (joined ts us) ≡ true → (are_sound factor ts ≡ true) × (are_sound factor us ≡ true)
+are_sound-joined no_trees us factor e = (refl, e)
+are_sound-joined (tree t ts) us factor e =
+    let here = both_true (is_sound factor t) (are_sound factor (joined ts us)) e in
+    let rest = are_sound-joined ts us factor here.1 in
+    (true_both (is_sound factor t) (are_sound factor ts) here.0 rest.0, rest.1)
+
+pub are_walked-joined : (ts us : Trees.Trees) → are_walked (joined ts us) ≡ true → (are_walked ts ≡ true) × (are_walked us ≡ true)
+are_walked-joined no_trees us e = (refl, e)
+are_walked-joined (tree t ts) us e =
+    let here = both_true (is_walked t) (are_walked (joined ts us)) e in
+    let rest = are_walked-joined ts us here.1 in
+    (true_both (is_walked t) (are_walked ts) here.0 rest.0, rest.1)
+
+few : (m n : ℕ) → m ≤ n → nat_le n 2 ≡ true → nat_le m 2 ≡ true
+few m n le e = grind (arith, nat_tests)
+
+pub form_walked-fewer : (form : Form) (m n : ℕ) → m ≤ n → is_form_walked form n ≡ true → is_form_walked form m ≡ true
+form_walked-fewer Form.And m n le e = refl
+form_walked-fewer Form.Or m n le e = refl
+form_walked-fewer Form.Xor m n le e = few m n le e
+form_walked-fewer Form.Max m n le e = refl
+form_walked-fewer Form.AndNot m n le e = refl
+form_walked-fewer Form.AndMaybe m n le e = refl
+form_walked-fewer Form.Filter m n le e = refl
+
+pub form_walked-others : (form : Form) (m n : ℕ) → m ≤ n → is_form_walked form n ≡ true → is_form_walked (others_of form) m ≡ true
+form_walked-others Form.And m n le e = refl
+form_walked-others Form.Or m n le e = refl
+form_walked-others Form.Xor m n le e = few m n le e
+form_walked-others Form.Max m n le e = refl
+form_walked-others Form.AndNot m n le e = refl
+form_walked-others Form.AndMaybe m n le e = refl
+form_walked-others Form.Filter m n le e = refl
+
+-- ---- scores put together in two pieces
+
+-- an xor is of two alone
+abbrev pub IsTwo : Form → ℕ → ℕ → Type 0
+IsTwo Form.And m n = Unit {0}
+IsTwo Form.Or m n = Unit {0}
+IsTwo Form.Xor m n = (m ≡ 1) × (n ≡ 1)
+IsTwo Form.Max m n = Unit {0}
+IsTwo Form.AndNot m n = Unit {0}
+IsTwo Form.AndMaybe m n = Unit {0}
+IsTwo Form.Filter m n = Unit {0}
+
+pub combined-one : (form : Form) (s : Option ℕ) → combined form (s ∷ []) ≡ s
+combined-one Form.And s = both-end s
+combined-one Form.Or s = either-end s
+combined-one Form.Xor None = refl
+combined-one Form.Xor (Some v) = refl
+combined-one Form.Max s = greater-end s
+combined-one Form.AndNot s = refl
+combined-one Form.AndMaybe None = refl
+combined-one Form.AndMaybe (Some v) = let e : v + 0 ≡ v = omega arith in ap Some e
+combined-one Form.Filter s = refl
+
+not_split : (x y s : Option ℕ) → where_so (is_none (either x y)) s ≡ where_so (is_none y) (where_so (is_none x) s)
+not_split None None s = refl
+not_split None (Some w) s = refl
+not_split (Some v) None s = refl
+not_split (Some v) (Some w) s = refl
+
+maybe_split : (x y s : Option ℕ) → with_more s (either x y) ≡ with_more (with_more s x) y
+maybe_split x y None = refl
+maybe_split None y (Some u) = let e : u + unwrap_or y 0 ≡ (u + 0) + unwrap_or y 0 = omega arith in ap Some e
+maybe_split (Some v) None (Some u) = let e : u + v ≡ (u + v) + 0 = omega arith in ap Some e
+maybe_split (Some v) (Some w) (Some u) = let e : u + (v + w) ≡ (u + v) + w = omega arith in ap Some e
+
+filter_split : (x y s : Option ℕ) → where_so (is_some (both x y)) s ≡ where_so (is_some y) (where_so (is_some x) s)
+filter_split None None s = refl
+filter_split None (Some w) s = refl
+filter_split (Some v) None s = refl
+filter_split (Some v) (Some w) s = refl
+
+pub combined-split : (form : Form) (xs ys : List (Option ℕ)) → 0 < length xs → IsTwo form (length xs) (length ys)
+    → combined form (xs ++ ys) ≡ paired form (combined form xs) (combined (others_of form) ys)
+combined-split Form.And xs ys some two = sum_of_all-append xs ys
+combined-split Form.Or xs ys some two = sum_of_any-append xs ys
+combined-split Form.Xor [] ys some two = absurd (omega (arith, some))
+combined-split Form.Xor (x ∷ []) [] some two = absurd (omega (arith, two.1))
+combined-split Form.Xor (x ∷ []) (y ∷ []) some two = two_xor x y ∙ (λ i. paired Form.Xor (sym (combined-one Form.Xor x) i) (sym (combined-one Form.Xor y) i))
+combined-split Form.Xor (x ∷ []) (y ∷ z ∷ ys) some two = absurd (omega (arith, two.1))
+combined-split Form.Xor (x ∷ z ∷ xs) ys some two = absurd (omega (arith, two.0))
+combined-split Form.Max xs ys some two = greatest_score-append xs ys
+combined-split Form.AndNot [] ys some two = absurd (omega (arith, some))
+combined-split Form.AndNot (s ∷ xs) ys some two =
+    not_others s (xs ++ ys) ∙ ap (λ o. where_so (is_none o) s) (sum_of_any-append xs ys) ∙ not_split (sum_of_any xs) (sum_of_any ys) s
+    ∙ ap (where_so (is_none (sum_of_any ys))) (sym (not_others s xs))
+combined-split Form.AndMaybe [] ys some two = absurd (omega (arith, some))
+combined-split Form.AndMaybe (s ∷ xs) ys some two = ap (with_more s) (sum_of_any-append xs ys) ∙ maybe_split (sum_of_any xs) (sum_of_any ys) s
+combined-split Form.Filter [] ys some two = absurd (omega (arith, some))
+combined-split Form.Filter (s ∷ xs) ys some two = ap (λ o. where_so (is_some o) s) (sum_of_all-append xs ys) ∙ filter_split (sum_of_all xs) (sum_of_all ys) s
+
+-- ---- bounds put together
+
+sum_in-append : (bs cs : List ℕ) → sum_in (bs ++ cs) ≡ sum_in bs + sum_in cs
+sum_in-append [] cs = omega arith
+sum_in-append (b ∷ bs) cs = let rest = sum_in-append bs cs in omega (arith, rest)
+
+greatest_in-append : (bs cs : List ℕ) → greatest_in (bs ++ cs) ≡ max (greatest_in bs) (greatest_in cs)
+greatest_in-append [] cs = omega arith
+greatest_in-append (b ∷ bs) cs = let rest = greatest_in-append bs cs in omega (arith, rest)
+
+first_in-append : (bs cs : List ℕ) → 0 < length bs → first_in (bs ++ cs) ≡ first_in bs
+first_in-append [] cs some = absurd (omega (arith, some))
+first_in-append (b ∷ bs) cs some = refl
+
+pub ceil_of-split : (form : Form) (bs cs : List ℕ) → 0 < length bs → greatest_under form (ceil_of form bs) (ceil_of (others_of form) cs) ≤ ceil_of form (bs ++ cs)
+ceil_of-split Form.And bs cs some = omega (arith, sum_in-append bs cs)
+ceil_of-split Form.Or bs cs some = omega (arith, sum_in-append bs cs)
+ceil_of-split Form.Xor bs cs some = omega (arith, sum_in-append bs cs)
+ceil_of-split Form.Max bs cs some = omega (arith, greatest_in-append bs cs)
+ceil_of-split Form.AndNot bs cs some = omega (arith, first_in-append bs cs some)
+ceil_of-split Form.AndMaybe bs cs some = omega (arith, sum_in-append bs cs)
+ceil_of-split Form.Filter bs cs some = omega (arith, first_in-append bs cs some)
+
+pub ceil_of-one : (form : Form) (b : ℕ) → ceil_of form (b ∷ []) ≡ b
+ceil_of-one Form.And b = omega arith
+ceil_of-one Form.Or b = omega arith
+ceil_of-one Form.Xor b = omega arith
+ceil_of-one Form.Max b = omega arith
+ceil_of-one Form.AndNot b = refl
+ceil_of-one Form.AndMaybe b = omega arith
+ceil_of-one Form.Filter b = refl
+
+-- ---- parts, and the parts that are put together first
+
+length-scores : (ts : Trees.Trees) (scheme : Scheme) (factor : ℕ) (d : Document) → length (scores ts scheme factor d) ≡ count_in ts
+length-scores no_trees scheme factor d = refl
+length-scores (tree t ts) scheme factor d = let rest = length-scores ts scheme factor d in omega (arith, rest)
+
+length-ceils : (ts : Trees.Trees) (scheme : Scheme) (factor : ℕ) (docs : Docs) → length (ceils ts scheme factor docs) ≡ count_in ts
+length-ceils no_trees scheme factor docs = refl
+length-ceils (tree t ts) scheme factor docs = let rest = length-ceils ts scheme factor docs in omega (arith, rest)
+
+count_in-joined : (ts us : Trees.Trees) → count_in (joined ts us) ≡ count_in ts + count_in us
+count_in-joined no_trees us = omega arith
+count_in-joined (tree t ts) us = let rest = count_in-joined ts us in omega (arith, rest)
+
+query_size-some : (t : Trees.Tree) → 1 ≤ query_size t
+query_size-some Trees.nothing = omega arith
+query_size-some Trees.all = omega arith
+query_size-some (Trees.term t) = omega arith
+query_size-some (Trees.wildcard prefix) = omega arith
+query_size-some (parts form ts) = omega arith
+query_size-some (Trees.near window ts) = omega arith
+query_size-some (Trees.phrase window ts) = omega arith
+query_size-some (Trees.synonym ts) = omega arith
+query_size-some (Trees.scale f t) = omega arith
+query_size-some (Trees.range slot lo hi) = omega arith
+
+parts_size-some : (ts : Trees.Trees) → count_in ts ≤ parts_size ts
+parts_size-some no_trees = omega arith
+parts_size-some (tree t ts) = let rest = parts_size-some ts in omega (arith, rest, query_size-some t)
+
+parts_size-joined : (ts us : Trees.Trees) → parts_size (joined ts us) ≡ parts_size ts + parts_size us
+parts_size-joined no_trees us = omega arith
+parts_size-joined (tree t ts) us = let rest = parts_size-joined ts us in omega (arith, rest)
+
+has_parts-some : (ts : Trees.Trees) → 0 < count_in ts → has_parts ts ≡ true
+has_parts-some no_trees some = absurd (omega (arith, some))
+has_parts-some (tree t ts) some = refl
+
+is_two : (form : Form) (m n : ℕ) → 0 < m → 0 < n → is_form_walked form (m + n) ≡ true → IsTwo form m n
+is_two Form.And m n p q e = tt
+is_two Form.Or m n p q e = tt
+is_two Form.Xor m n p q e = let le : m + n ≤ 2 = at_most e in (omega (arith, p, q, le), omega (arith, p, q, le))
+  where
+    at_most : nat_le (m + n) 2 ≡ true → m + n ≤ 2
+    at_most e = grind (arith, nat_tests)
+is_two Form.Max m n p q e = tt
+is_two Form.AndNot m n p q e = tt
+is_two Form.AndMaybe m n p q e = tt
+is_two Form.Filter m n p q e = tt
+
+pub parts_joined : (ps fs bs : List Query) (n : ℕ) → fs ≡ take n ps → bs ≡ drop n ps → queries_view ps ≡ joined (queries_view fs) (queries_view bs)
+parts_joined ps fs bs n e f =
+    ap queries_view (sym (take-append-drop n ps)) ∙ (λ i. queries_view (sym e i ++ sym f i)) ∙ queries_view-append fs bs
+
+module _ (form : Form) (factor : ℕ) (ts fs bs : Trees.Trees) (e : ts ≡ joined fs bs) (are : AreParts form factor ts) (front_some : 0 < count_in fs) (back_some : 0 < count_in bs) where
+  counts : count_in ts ≡ count_in fs + count_in bs
+  counts = ap count_in e ∙ count_in-joined fs bs
+
+  leaves : leaves_in ts ≡ leaves_in fs + leaves_in bs
+  leaves = ap leaves_in e ∙ leaves_in-joined fs bs
+
+  sounds : (are_sound factor fs ≡ true) × (are_sound factor bs ≡ true)
+  sounds = are_sound-joined fs bs factor (ap (are_sound factor) (sym e) ∙ are.sound)
+
+  walks : (are_walked fs ≡ true) × (are_walked bs ≡ true)
+  walks = are_walked-joined fs bs (ap are_walked (sym e) ∙ are.walked)
+
+  pub split_front : AreParts form factor fs
+  split_front = record {
+    some = front_some;
+    sound = sounds.0;
+    leaves = omega (arith, leaves, are.leaves);
+    joins = form_walked-fewer form (count_in fs) (count_in ts) (omega (arith, counts)) are.joins;
+    walked = walks.0;
+  }
+
+  pub split_back : AreParts (others_of form) factor bs
+  split_back = record {
+    some = back_some;
+    sound = sounds.1;
+    leaves = omega (arith, leaves, are.leaves);
+    joins = form_walked-others form (count_in bs) (count_in ts) (omega (arith, counts)) are.joins;
+    walked = walks.1;
+  }
+
+  pub split_front_size : parts_size fs < parts_size ts
+  split_front_size = omega (arith, ap parts_size e, parts_size-joined fs bs, parts_size-some bs, back_some)
+
+  pub split_back_size : parts_size bs < parts_size ts
+  split_back_size = omega (arith, ap parts_size e, parts_size-joined fs bs, parts_size-some fs, front_some)
+
+  pub split_scores : (scheme : Scheme) (o : Option Document) → joint_score_of form ts scheme factor o ≡ paired form (joint_score_of form fs scheme factor o) (joint_score_of (others_of form) bs scheme factor o)
+  split_scores scheme None = sym (paired-none form)
+  split_scores scheme (Some d) =
+      ap (λ us. combined form (scores us scheme factor d)) e ∙ ap (combined form) (scores-joined fs bs scheme factor d)
+      ∙ combined-split form (scores fs scheme factor d) (scores bs scheme factor d) (omega (arith, length-scores fs scheme factor d, front_some))
+      (subst (λ m. IsTwo form m (length (scores bs scheme factor d))) (sym (length-scores fs scheme factor d))
+      (subst (λ n. IsTwo form (count_in fs) n) (sym (length-scores bs scheme factor d))
+      (is_two form (count_in fs) (count_in bs) front_some back_some (ap (is_form_walked form) (sym counts) ∙ are.joins))))
+
+  pub split_ceiling : (scheme : Scheme) (docs : Docs) → greatest_under form (ceil_of form (ceils fs scheme factor docs)) (ceil_of (others_of form) (ceils bs scheme factor docs)) ≤ ceil_of form (ceils ts scheme factor docs)
+  split_ceiling scheme docs =
+      subst (λ (cs : List ℕ). greatest_under form (ceil_of form (ceils fs scheme factor docs)) (ceil_of (others_of form) (ceils bs scheme factor docs)) ≤ ceil_of form cs)
+      (sym (ap (λ us. ceils us scheme factor docs) e ∙ ceils-joined fs bs scheme factor docs))
+      (ceil_of-split form (ceils fs scheme factor docs) (ceils bs scheme factor docs) (omega (arith, length-ceils fs scheme factor docs, front_some)))
+
+  pub split_readings : (docs : Docs) → leaves_readings ts docs ≡ leaves_readings fs docs + leaves_readings bs docs
+  split_readings docs = ap (λ us. leaves_readings us docs) e ∙ readings-joined fs bs docs
+
+  pub split_fits : factor ≤ 65536 → (scheme : Scheme) (docs : Docs) → All IsLight docs → ceil_of form (ceils fs scheme factor docs) + ceil_of (others_of form) (ceils bs scheme factor docs) < 2 ^ 63
+  split_fits small scheme docs light =
+      let first = ceil_small scheme docs light (parts form fs) factor (true_both (has_parts fs) (are_sound factor fs) (has_parts-some fs front_some) sounds.0) small split_front.leaves in
+      let second = ceil_small scheme docs light (parts (others_of form) bs) factor (true_both (has_parts bs) (are_sound factor bs) (has_parts-some bs back_some) sounds.1) small split_back.leaves in
+      omega (arith, first, second)
+
+-- ---- a query of several
+
+pub form_of-parts : (t : Trees.Tree) (form : Form) (ts : Trees.Trees) → Some (form, ts) ≡ form_of t → t ≡ parts form ts
+form_of-parts Trees.nothing form ts e = cc
+form_of-parts Trees.all form ts e = cc
+form_of-parts (Trees.term t) form ts e = cc
+form_of-parts (Trees.wildcard prefix) form ts e = cc
+form_of-parts (parts f us) form ts e = let same : (form, ts) ≡ (f, us) = cc in sym (ap (λ (p : Form × Trees.Trees). parts p.0 p.1) same)
+form_of-parts (Trees.near window ws) form ts e = cc
+form_of-parts (Trees.phrase window ws) form ts e = cc
+form_of-parts (Trees.synonym ws) form ts e = cc
+form_of-parts (Trees.scale f t) form ts e = cc
+form_of-parts (Trees.range slot lo hi) form ts e = cc
+
+counts_some : (ts : Trees.Trees) → has_parts ts ≡ true → 0 < count_in ts
+counts_some no_trees e = cc
+counts_some (tree t ts) e = omega arith
+
+pub query_parts : (t : Trees.Tree) (form : Form) (factor : ℕ) (ts : Trees.Trees) → t ≡ parts form ts → is_sound factor t ≡ true → leaves_of t ≤ 1024 → is_walked t ≡ true → AreParts form factor ts
+query_parts t form factor ts e sound few walked =
+    let sounds = both_true (has_parts ts) (are_sound factor ts) (ap (is_sound factor) (sym e) ∙ sound) in
+    let walks = both_true (is_form_walked form (count_in ts)) (are_walked ts) (ap is_walked (sym e) ∙ walked) in
+    record {
+      some = counts_some ts sounds.0;
+      sound = sounds.1;
+      leaves = omega (arith, ap leaves_of e, few);
+      joins = walks.0;
+      walked = walks.1;
+    }
+
+same_score : (form : Form) (ts : Trees.Trees) (scheme : Scheme) (factor : ℕ) (o : Option Document) → score_of (parts form ts) scheme factor o ≡ joint_score_of form ts scheme factor o
+same_score form ts scheme factor None = refl
+same_score form ts scheme factor (Some d) = refl
+
+pub query_scores : (t : Trees.Tree) (form : Form) (factor : ℕ) (ts : Trees.Trees) → t ≡ parts form ts → (scheme : Scheme) (o : Option Document) → score_of t scheme factor o ≡ joint_score_of form ts scheme factor o
+query_scores t form factor ts e scheme o = ap (λ u. score_of u scheme factor o) e ∙ same_score form ts scheme factor o
+
+-- ---- one part alone
+
+one_view : (ps : List Query) → length ps ≡ 1 → (q : Query) → slice_get ps 0 ≡ Some q → queries_view ps ≡ tree (query_view q) no_trees
+one_view [] e q f = absurd (omega (arith, e))
+one_view (p ∷ []) e q f = let same : p ≡ q = cc in ap (λ r. tree (query_view r) no_trees) same
+one_view (p ∷ r ∷ ps) e q f = absurd (omega (arith, e))
+
+-- ---- the whole query
+
+pub fits_ceil : (t : Trees.Tree) (scheme : Scheme) (docs : Docs) → fits_tree t ≡ true → All IsLight docs → ceil t scheme 1 docs ≤ 2 ^ 55
+fits_ceil t scheme docs fits light =
+    let front = both_true (is_sound 1 t && nat_le (leaves_of t) 1024) (nat_le (depth_of t) 1000) fits in
+    let sounds = both_true (is_sound 1 t) (nat_le (leaves_of t) 1024) front.0 in
+    ceil_small scheme docs light t 1 sounds.0 (omega arith) (at_most (leaves_of t) 1024 sounds.1)
+  where
+    at_most : (m n : ℕ) → nat_le m n ≡ true → m ≤ n
+    at_most m n e = grind (arith, nat_tests)

@@ -1,0 +1,26 @@
+-- How large the nodes are, and how far two sides have come.
+use Rattle.std.proofs.Common.{◌≡◌, ◌≤◌, ◌+◌, ◌^◌, ◌-◌, ◌*◌}
+use Rattle.sk_nodes.specs.Shapes.{shape_of, size_of}
+use Rattle.sk_nodes.specs.Left.{unread_of}
+use Rattle.sk_nodes.proofs.NodeLaws.{SidesSoFar}
+use Rattle.sk_nodes.proofs.moves.+seek.Given as goal
+
+abbrev pub decreases-reach : goal.decreases-reach
+decreases-reach g l = 3 * size_of (shape_of l.node.now) + 2
+
+abbrev pub decreases-seek : goal.decreases-seek
+decreases-seek g l = 3 * size_of (shape_of l.node.now) + 1
+
+abbrev pub decreases-seek_pair : goal.decreases-seek_pair
+decreases-seek_pair g l = 3 * (size_of (shape_of l.a.now) + size_of (shape_of l.b.now)) + 3
+
+abbrev pub invariant-seek_pair-sides : goal.invariant-seek_pair-sides
+invariant-seek_pair-sides g l = record {
+  far : SidesSoFar l.index l.form l.target l.need l.from l.fn.ta (shape_of l.fn.a) l.fn.tb (shape_of l.fn.b) l.ta (shape_of l.a) l.tb (shape_of l.b);
+  paid : l.spent + (unread_of l.index (shape_of l.a) + unread_of l.index (shape_of l.b)) ≤ l.fn.spent + (unread_of l.index (shape_of l.fn.a) + unread_of l.index (shape_of l.fn.b));
+  counted : l.steps + l.fn.spent ≡ l.fn.steps + l.spent;
+  later : l.fn.spent ≤ l.spent;
+}
+
+abbrev pub decreases-seek_pair-sides : goal.decreases-seek_pair-sides
+decreases-seek_pair-sides g l = 2 ^ 32 - l.from

@@ -1,0 +1,11 @@
+-- How large what is opened is.
+use Rattle.std.proofs.Common.{◌+◌, ◌*◌}
+use Rattle.sk_query.specs.Trees.{query_view, queries_view}
+use Rattle.sk_nodes.specs.Opened.{query_size, parts_size}
+use Rattle.sk_nodes.proofs.opening.+open_node.Given as goal
+
+abbrev pub decreases-open_node : goal.decreases-open_node
+decreases-open_node g l = 2 * query_size (query_view l.query.now)
+
+abbrev pub decreases-open_parts : goal.decreases-open_parts
+decreases-open_parts g l = 2 * parts_size (queries_view l.parts.now) + 1

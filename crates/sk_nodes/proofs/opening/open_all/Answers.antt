@@ -1,0 +1,15 @@
+-- All documents weigh nothing.
+use Rattle.std.proofs.Common.{◌≤◌, subst, ◌∙◌}
+use Rattle.sk_index.specs.Indexed.{all_postings}
+use Rattle.sk_nodes.proofs.ListLaws.{weighed-all, greatest-all}
+use Rattle.sk_nodes.proofs.opening.open_all.Goals as goal
+
+pub returns-clause-opens : goal.returns-clause-opens
+returns-clause-opens g c =
+    let docs = c.args.index.now.live.documents in
+    record {
+      top = c.in_ok-top.ensures.top;
+      sound = c.in_ok-top.ensures.sound;
+      gives = λ id. c.in_ok-top.ensures.gives id ∙ weighed-all c.args._factor c.args.scheme docs id;
+      ceiling = subst (λ n. c.in_ok-top.top.greatest ≤ n) (greatest-all c.args.scheme (all_postings docs)) c.in_ok-top.ensures.ceiling;
+    }

@@ -1,0 +1,24 @@
+-- Nothing is left where the need exceeds the ceiling; without a need just what lies below the target goes.
+use Rattle.std.proofs.Common.{sym, ap, subst, refl}
+use Rattle.sk_model.specs.Covers.{Covers}
+use Rattle.sk_nodes.specs.Shapes.{Shape, shape_of}
+use Rattle.sk_nodes.specs.Left.{rest, from_on}
+use Rattle.sk_nodes.proofs.NodeLaws.{shape_of-Nothing, covers_gone}
+use Rattle.sk_nodes.proofs.TreeLaws.{weighed_ids-none, left_exact}
+use Rattle.sk_nodes.proofs.tree.Tree.seek.Goals as goal
+
+pub returns-then-self-need-clause-covers : goal.returns-then-self-need-clause-covers
+returns-then-self-need-clause-covers g c =
+    let i = c.args.index.now in
+    subst (λ (s : Shape). Covers (from_on c.args.target (rest i (shape_of c.args.self.now.node))) (rest i s) c.args.need) (sym shape_of-Nothing)
+    (covers_gone c.args.target c.args.need c.args.self.now.top.greatest (rest i (shape_of c.args.self.now.node)) c.requires.tree.top.bound c.if-self-need.true)
+
+pub returns-then-self-need-clause-closed : goal.returns-then-self-need-clause-closed
+returns-then-self-need-clause-closed g c lt = (refl, weighed_ids-none _ c.args.index.now.live.documents (λ id. ap (λ s. rest c.args.index.now s id) shape_of-Nothing))
+
+pub returns-clause-exact : goal.returns-clause-exact
+returns-clause-exact g c none =
+    let i = c.args.index.now in
+    left_exact i c.args.target (shape_of c.args.self.now.node) (shape_of c.reach.new.node) c.requires.tree.documents
+    (subst (λ n. Covers (from_on c.args.target (rest i (shape_of c.args.self.now.node))) (rest i (shape_of c.reach.new.node)) n) none
+    (subst (λ n. Covers (from_on n (rest i (shape_of c.args.self.now.node))) (rest i (shape_of c.reach.new.node)) c.args.need) c.from.ensures c.reach.ensures.covers))

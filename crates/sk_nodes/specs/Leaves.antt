@@ -1,0 +1,74 @@
+-- What a leaf still gives.
+use Rattle.std.specs.Prelude.{◌≡◌, ◌≤◌, ◌<◌, ◌^◌, ℕ, List, [], ◌∷◌, length, nat_lt, Option, None, Some, unwrap_or, if◌then◌else◌}
+use Rattle.std.specs.Option.{option_map}
+use Rattle.sk_base.specs.declared.find.Scheme.{Scheme}
+use Rattle.sk_sorted.specs.Entries.{AreSorted, found}
+use Rattle.sk_lists.specs.Postings.{Postings, greatest_wdf}
+use Rattle.sk_lists.specs.Cursor.{unread, left, IsOn}
+use Rattle.sk_dict.specs.Terms.{term_at}
+use Rattle.sk_model.specs.Edits.{document_at}
+use Rattle.sk_model.specs.Weights.{weigh_by}
+use Rattle.sk_index.specs.Indexed.{Indexed, postings, all_postings}
+use Rattle.sk_decay.specs.Heads.{IsHead}
+use Rattle.sk_nodes.specs.declared.top.Top.{Top}
+use Rattle.sk_nodes.specs.declared.leaf.Leaf.{Leaf}
+
+-- The list of a term by its number, and of all documents.
+abbrev pub list_in : Indexed → Option ℕ → Postings
+list_in i None = all_postings i.live.documents
+list_in i (Some n) = postings (term_at i.terms n) i.live.documents
+
+-- The number was given for a term.
+abbrev pub IsThere : Option ℕ → List (List ℕ) → Type 0
+IsThere None terms = Unit {0}
+IsThere (Some n) terms = n < length terms
+
+-- The entries that are left to a leaf.
+abbrev pub entries_of : Indexed → Leaf → Postings
+entries_of i l = left l.cursor (list_in i l.number)
+
+-- The first id of entries, and 2 ^ 32 where there is none.
+abbrev pub head_of : Postings → ℕ
+head_of [] = 2 ^ 32
+head_of (p ∷ ps) = p.0
+
+-- What entries weigh at an id.
+abbrev pub weighed : ℕ → Scheme → Postings → ℕ → Option ℕ
+weighed factor scheme entries id = option_map (weigh_by factor scheme) (found id entries)
+
+-- The weight that a leaf still gives at an id.
+abbrev pub leaf_rest : Indexed → Leaf → ℕ → Option ℕ
+leaf_rest i l id = weighed l.factor l.scheme (entries_of i l) id
+
+-- How many entries a leaf has not read.
+abbrev pub leaf_unread : Indexed → Leaf → ℕ
+leaf_unread i l = length (unread l.cursor (list_in i l.number))
+
+-- What the entries of a list can weigh: the greatest wdf, and nothing where there is no entry.
+abbrev pub leaf_greatest : ℕ → Scheme → Postings → ℕ
+leaf_greatest factor scheme list = if nat_lt 0 (length list) then weigh_by factor scheme (greatest_wdf list) else 0
+
+-- Each wdf below this one weighs less than the need.
+abbrev pub AreLight : ℕ → Scheme → ℕ → ℕ → Type 0
+AreLight factor scheme need_wdf need = (w : ℕ) → w < need_wdf → weigh_by factor scheme w < need
+
+-- No weight is above this one.
+abbrev pub AtMost : ℕ → (ℕ → Option ℕ) → Type 0
+AtMost greatest f = (id : ℕ) → unwrap_or (f id) 0 ≤ greatest
+
+-- A leaf stands on its list.
+pub record IsLeafOn (i : Indexed) (l : Leaf) : Type 0 where
+  pub there : IsThere l.number i.terms
+  pub factor : l.factor ≤ 65536
+  pub on : IsOn l.cursor (list_in i l.number)
+  pub sorted : AreSorted (list_in i l.number)
+  pub light : AreLight l.factor l.scheme l.need_wdf l.need
+  pub bound : AtMost l.greatest (leaf_rest i l)
+  pub live : (id : ℕ) → document_at id i.live.documents ≡ None → leaf_rest i l id ≡ None
+
+-- What is kept of a leaf beside it.
+pub record IsLeafTop (i : Indexed) (t : Top) (l : Leaf) : Type 0 where
+  pub head : IsHead t.head t.weight (leaf_rest i l)
+  pub bound : AtMost t.greatest (leaf_rest i l)
+  pub exact : t.head < 2 ^ 32 → t.greatest ≡ l.greatest
+  pub closed : t.head ≡ 2 ^ 32 → t.greatest ≡ 0

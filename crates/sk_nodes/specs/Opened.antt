@@ -1,0 +1,69 @@
+-- What a node is opened for.
+use Rattle.std.specs.Prelude.{◌≡◌, ◌≤◌, ◌<◌, ◌+◌, ℕ, true, Option, None, Some}
+use Rattle.sk_base.specs.declared.find.Scheme.{Scheme}
+use Rattle.sk_query.specs.declared.form.Form.{Form}
+use Rattle.sk_query.specs.Trees as Query
+use Rattle.sk_query.specs.Fits.{are_sound, leaves_in}
+use Rattle.sk_model.specs.Documents.{Document}
+use Rattle.sk_model.specs.Edits.{document_at}
+use Rattle.sk_model.specs.Combining.{combined}
+use Rattle.sk_model.specs.Scores.{score, scores}
+use Rattle.sk_index.specs.Indexed.{Indexed}
+use Rattle.sk_nodes.specs.declared.top.Top.{Top}
+use Rattle.sk_nodes.specs.Shapes.{Shape}
+use Rattle.sk_nodes.specs.Left.{rest}
+use Rattle.sk_nodes.specs.Sound.{IsTop, Sound}
+use Rattle.sk_nodes.specs.Walked.{count_in, are_walked, is_form_walked}
+
+-- What a document scores, if there is one.
+abbrev pub score_of : Query.Tree → Scheme → ℕ → Option Document → Option ℕ
+score_of query scheme factor None = None
+score_of query scheme factor (Some document) = score query scheme factor document
+
+-- What a document scores under a form of several parts, if there is one.
+abbrev pub joint_score_of : Form → Query.Trees → Scheme → ℕ → Option Document → Option ℕ
+joint_score_of form ts scheme factor None = None
+joint_score_of form ts scheme factor (Some document) = combined form (scores ts scheme factor document)
+
+-- What the second of two nodes is of, where the parts behind some first ones are put together by themselves.
+abbrev pub others_of : Form → Form
+others_of Form.And = Form.And
+others_of Form.Or = Form.Or
+others_of Form.Xor = Form.Xor
+others_of Form.Max = Form.Max
+others_of Form.AndNot = Form.Or
+others_of Form.AndMaybe = Form.Or
+others_of Form.Filter = Form.And
+
+-- A node stands at the first of these scores, and gives them; it weighs no more than this.
+pub record Opens (i : Indexed) (t : Top) (s : Shape) (f : Option Document → Option ℕ) (most : ℕ) : Type 0 where
+  pub top : IsTop i t s
+  pub sound : Sound i s
+  pub gives : (id : ℕ) → rest i s id ≡ f (document_at id i.live.documents)
+  pub ceiling : t.greatest ≤ most
+
+abbrev mutual
+  -- How many queries there are in one, itself counted.
+  pub query_size : Query.Tree → ℕ
+  query_size Query.nothing = 1
+  query_size Query.all = 1
+  query_size (Query.term t) = 1
+  query_size (Query.wildcard prefix) = 1
+  query_size (Query.parts form ts) = 1 + parts_size ts
+  query_size (Query.near window ts) = 1
+  query_size (Query.phrase window ts) = 1
+  query_size (Query.synonym ts) = 1
+  query_size (Query.scale f t) = 1 + query_size t
+  query_size (Query.range slot lo hi) = 1
+
+  pub parts_size : Query.Trees → ℕ
+  parts_size Query.no_trees = 0
+  parts_size (Query.tree t ts) = query_size t + parts_size ts
+
+-- Parts of which a node can be opened under a form and a factor.
+pub record AreParts (form : Form) (factor : ℕ) (ts : Query.Trees) : Type 0 where
+  pub some : 0 < count_in ts
+  pub sound : are_sound factor ts ≡ true
+  pub leaves : leaves_in ts ≤ 1024
+  pub joins : is_form_walked form (count_in ts) ≡ true
+  pub walked : are_walked ts ≡ true

@@ -1,0 +1,38 @@
+-- That what nodes keep of their sides is so, and what a change of a node keeps.
+use Rattle.std.specs.Prelude.{◌≡◌, ◌≤◌, ◌<◌, ◌+◌, ◌^◌, ℕ}
+use Rattle.sk_index.specs.Indexed.{Indexed}
+use Rattle.sk_model.specs.Covers.{Covers}
+use Rattle.sk_decay.specs.Heads.{IsHead}
+use Rattle.sk_nodes.specs.declared.top.Top.{Top}
+use Rattle.sk_nodes.specs.Leaves.{AtMost, IsLeafOn}
+use Rattle.sk_nodes.specs.Shapes.{Shape, ended, leaf, pair, size_of}
+use Rattle.sk_nodes.specs.Left.{rest, unread_of, greatest_in}
+
+-- A node's head, and how much it can weigh, are those of what it still gives.
+pub record IsTop (i : Indexed) (t : Top) (s : Shape) : Type 0 where
+  pub head : IsHead t.head t.weight (rest i s)
+  pub bound : AtMost t.greatest (rest i s)
+  pub exact : t.head < 2 ^ 32 → t.greatest ≡ greatest_in s
+  pub closed : t.head ≡ 2 ^ 32 → t.greatest ≡ 0
+
+-- Two sides with their tops, by what holds of each.
+pub record IsPair (i : Indexed) (ta : Top) (a : Shape) (tb : Top) (b : Shape) (A B : Type 0) : Type 0 where
+  pub first : IsTop i ta a
+  pub second : IsTop i tb b
+  pub first_sound : A
+  pub second_sound : B
+  pub fits : ta.greatest + tb.greatest < 2 ^ 63
+
+-- All that is kept in a node is so.
+abbrev pub Sound : Indexed → Shape → Type 0
+Sound i ended = Unit {0}
+Sound i (leaf l) = IsLeafOn i l
+Sound i (pair form ta a tb b) = IsPair i ta a tb b (Sound i a) (Sound i b)
+
+-- A node was put in the place of another, and covers what that gave.
+pub record Decays (i : Indexed) (need : ℕ) (old new : Shape) : Type 0 where
+  pub sound : Sound i new
+  pub covers : Covers (rest i old) (rest i new) need
+  pub falls : greatest_in new ≤ greatest_in old
+  pub smaller : size_of new ≤ size_of old
+  pub unread : unread_of i new ≤ unread_of i old

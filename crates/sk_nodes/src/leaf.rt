@@ -1,0 +1,166 @@
+//! The entries of one list, with what they weigh.
+ghost use Rattle.std.specs.Prelude.{◌≡◌, ◌≤◌, ◌<◌, ◌+◌, ◌^◌, ℕ, length};
+ghost use Rattle.sk_sorted.specs.Entries.{AreSorted};
+ghost use Rattle.sk_model.specs.Covers.{Covers};
+ghost use Rattle.sk_index.specs.Indexed.{Indexed};
+ghost use Rattle.sk_nodes.specs.Leaves.{list_in, weighed, leaf_rest, leaf_unread, leaf_greatest, IsThere, entries_of, head_of, IsLeafOn, AreLight, IsLeafTop};
+ghost use Rattle.sk_nodes.specs.Left.{from_on};
+
+use crate::top::{END, Top};
+use sk_base::Scheme;
+use sk_index::Index;
+use sk_lists::{Cursor, List};
+use sk_steps::Steps;
+use sk_weight::{need_wdf, weigh_by};
+use std::sync::ledger::Ledger;
+
+// Each wdf is less.
+const WDFS: u32 = 536_870_912;
+
+/// The list of a term by its number, or of all documents. The need and what wdf it comes to are those of the last seek.
+#[derive(Drop)]
+pub(crate) struct Leaf {
+    number: Option<usize>,
+    scheme: Scheme,
+    factor: u64,
+    need: u64,
+    need_wdf: u32,
+    greatest: u64,
+    cursor: Cursor,
+}
+
+impl Leaf {
+    /// A leaf on the first entry of its list, with its top.
+    pub fn open<L: Ledger>(
+        top: &mut Top,
+        index: &Index,
+        number: Option<usize>,
+        scheme: Scheme,
+        factor: u64,
+        spent: &mut u128,
+        steps: &mut Steps<L>,
+    ) -> Leaf
+        requires there { IsThere number index.now.terms }
+        requires factor { factor ≤ 65536 }
+        requires documents { AreSorted index.now.live.documents }
+        requires room { spent.old + length (list_in index.now number) < 2 ^ 128 }
+        ensures sound { IsLeafOn index.now result }
+        ensures top { IsLeafTop index.now top.new result }
+        ensures gives { (id : ℕ) → leaf_rest index.now result id ≡ weighed factor scheme (list_in index.now number) id }
+        ensures ceiling { top.new.greatest ≤ leaf_greatest factor scheme (list_in index.now number) }
+        ensures paid { spent.new + leaf_unread index.now result ≤ spent.old + length (list_in index.now number) }
+        ensures counted { steps.new + spent.old ≡ steps.old + spent.new }
+        ensures later { spent.old ≤ spent.new }
+    {
+        let list = list_of(index, number);
+        let length = list.length();
+        let leaf = Leaf {
+            number,
+            scheme,
+            factor,
+            need: 0,
+            need_wdf: 0,
+            greatest: greatest_of(list, scheme, factor),
+            cursor: Cursor::open(list, steps),
+        };
+        *spent += u128::from(length.min(1));
+        leaf.show(top);
+        leaf
+    }
+
+    /// Moves on to the first entry from the target on; it may pass over what weighs less than the need.
+    pub fn seek<L: Ledger>(
+        &mut self,
+        top: &mut Top,
+        index: &Index,
+        target: u64,
+        need: u64,
+        spent: &mut u128,
+        steps: &mut Steps<L>,
+    )
+        requires sound { IsLeafOn index.now self.old }
+        requires target { target < 2 ^ 32 }
+        requires room { spent.old + leaf_unread index.now self.old < 2 ^ 128 }
+        ensures sound { IsLeafOn index.now self.new }
+        ensures top { IsLeafTop index.now top.new self.new }
+        ensures covers { Covers (from_on target (leaf_rest index.now self.old)) (leaf_rest index.now self.new) need }
+        ensures reached { target ≤ top.new.head }
+        ensures falls { top.new.greatest ≤ self.old.greatest }
+        ensures paid { spent.new + leaf_unread index.now self.new ≤ spent.old + leaf_unread index.now self.old }
+        ensures counted { steps.new + spent.old ≡ steps.old + spent.new }
+        ensures later { spent.old ≤ spent.new }
+    {
+        let list = list_of(index, self.number);
+        self.need_wdf = self.wdf_for(need);
+        self.need = need;
+        let read = self.cursor.seek(list, target as u32, self.need_wdf, steps);
+        *spent += u128::from(read);
+        self.show(top);
+    }
+
+    // The least wdf that weighs what is needed, worked out anew for a new need.
+    fn wdf_for(&self, need: u64) -> u32
+        requires factor { self.now.factor ≤ 65536 }
+        requires light { AreLight self.now.factor self.now.scheme self.now.need_wdf self.now.need }
+        ensures { AreLight self.now.factor self.now.scheme result need }
+    {
+        if need == self.need {
+            return self.need_wdf;
+        }
+        match need_wdf(self.scheme, self.factor, need) {
+            Some(least) => least,
+            None => WDFS,
+        }
+    }
+
+    // Writes where it stands.
+    fn show(&self, top: &mut Top)
+        requires { self.now.factor ≤ 65536 }
+        ensures top { (i : Indexed) → IsLeafOn i self.now → IsLeafTop i top.new self.now }
+        ensures at { (i : Indexed) → IsLeafOn i self.now → top.new.head ≡ head_of (entries_of i self.now) }
+        ensures falls { top.new.greatest ≤ self.now.greatest }
+    {
+        match self.cursor.head() {
+            Some(id) => {
+                top.head = u64::from(id);
+                top.weight = weigh_by(self.factor, self.scheme, u64::from(self.cursor.wdf()));
+                top.greatest = self.greatest;
+            }
+            None => {
+                top.head = END;
+                top.weight = 0;
+                top.greatest = 0;
+            }
+        }
+    }
+}
+
+// What the entries of a list can weigh.
+fn greatest_of(list: &List, scheme: Scheme, factor: u64) -> u64
+    requires { factor ≤ 65536 }
+    ensures { result ≡ leaf_greatest factor scheme list.now }
+{
+    if list.length() == 0 {
+        return 0;
+    }
+    weigh_by(factor, scheme, u64::from(list.greatest()))
+}
+
+/// How long the list is.
+pub(crate) fn list_length(index: &Index, number: Option<usize>) -> u32
+    requires { IsThere number index.now.terms }
+    ensures { result ≡ length (list_in index.now number) }
+{
+    list_of(index, number).length()
+}
+
+// The list.
+fn list_of(index: &Index, number: Option<usize>) -> &List
+    requires { IsThere number index.now.terms }
+    ensures { result.now ≡ list_in index.now number }
+{
+    match number {
+        Some(number) => index.list(number),
+        None => index.all(),
+    }
+}

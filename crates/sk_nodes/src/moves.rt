@@ -1,0 +1,163 @@
+//! How nodes move on.
+ghost use Rattle.std.specs.Prelude.{◌≡◌, ◌≤◌, ◌<◌, ◌+◌, ◌^◌, ℕ};
+ghost use Rattle.sk_model.specs.Covers.{Covers};
+ghost use Rattle.sk_decay.specs.Sides.{paired, greatest_under};
+ghost use Rattle.sk_nodes.specs.Shapes.{pair, shape_of, size_of};
+ghost use Rattle.sk_nodes.specs.Left.{rest, from_on, unread_of, greatest_in};
+ghost use Rattle.sk_nodes.specs.Sound.{IsTop, IsPair, Sound};
+
+use crate::node::{Node, decay};
+use crate::top::{END, Top};
+use sk_decay::{Meeting, first_need, greatest_under, meeting_of, second_need, second_target};
+use sk_index::Index;
+use sk_query::Form;
+use sk_steps::Steps;
+use std::sync::ledger::Ledger;
+
+/// Moves a node on that stands before the target.
+#[cycle(seek)]
+pub(crate) fn reach<L: Ledger>(
+    top: &mut Top,
+    node: &mut Node,
+    index: &Index,
+    target: u64,
+    need: u64,
+    spent: &mut u128,
+    steps: &mut Steps<L>,
+)
+    requires top { IsTop index.now top.old (shape_of node.old) }
+    requires sound { Sound index.now (shape_of node.old) }
+    requires target { target < 2 ^ 32 }
+    requires room { spent.old + unread_of index.now (shape_of node.old) < 2 ^ 128 }
+    ensures top { IsTop index.now top.new (shape_of node.new) }
+    ensures sound { Sound index.now (shape_of node.new) }
+    ensures covers { Covers (from_on target (rest index.now (shape_of node.old))) (rest index.now (shape_of node.new)) need }
+    ensures reached { target ≤ top.new.head }
+    ensures falls { top.new.greatest ≤ top.old.greatest }
+    ensures smaller { size_of (shape_of node.new) ≤ size_of (shape_of node.old) }
+    ensures paid { spent.new + unread_of index.now (shape_of node.new) ≤ spent.old + unread_of index.now (shape_of node.old) }
+    ensures counted { steps.new + spent.old ≡ steps.old + spent.new }
+    ensures later { spent.old ≤ spent.new }
+{
+    if target <= top.head {
+        return;
+    }
+    if top.greatest < need {
+        *node = Node::Nothing;
+        *top = Top::ended();
+        return;
+    }
+    decay(node, index, need);
+    seek(top, node, index, target, need, spent, steps);
+}
+
+/// Moves a node on to its first match from the target on.
+#[cycle(seek)]
+fn seek<L: Ledger>(
+    top: &mut Top,
+    node: &mut Node,
+    index: &Index,
+    target: u64,
+    need: u64,
+    spent: &mut u128,
+    steps: &mut Steps<L>,
+)
+    requires sound { Sound index.now (shape_of node.old) }
+    requires target { target < 2 ^ 32 }
+    requires room { spent.old + unread_of index.now (shape_of node.old) < 2 ^ 128 }
+    ensures top { IsTop index.now top.new (shape_of node.new) }
+    ensures sound { Sound index.now (shape_of node.new) }
+    ensures covers { Covers (from_on target (rest index.now (shape_of node.old))) (rest index.now (shape_of node.new)) need }
+    ensures reached { target ≤ top.new.head }
+    ensures falls { top.new.greatest ≤ greatest_in (shape_of node.old) }
+    ensures smaller { size_of (shape_of node.new) ≤ size_of (shape_of node.old) }
+    ensures paid { spent.new + unread_of index.now (shape_of node.new) ≤ spent.old + unread_of index.now (shape_of node.old) }
+    ensures counted { steps.new + spent.old ≡ steps.old + spent.new }
+    ensures later { spent.old ≤ spent.new }
+{
+    match node {
+        Node::Nothing => *top = Top::ended(),
+        Node::Leaf(leaf) => leaf.seek(top, index, target, need, spent, steps),
+        Node::Pair(form, ta, a, tb, b) => seek_pair(
+            top, *form, ta, a, tb, b, index, target, need, spent, steps,
+        ),
+    }
+}
+
+/// Moves two sides on to their first match from the target on.
+#[cycle(seek)]
+pub(crate) fn seek_pair<L: Ledger>(
+    top: &mut Top,
+    form: Form,
+    ta: &mut Top,
+    a: &mut Node,
+    tb: &mut Top,
+    b: &mut Node,
+    index: &Index,
+    target: u64,
+    need: u64,
+    spent: &mut u128,
+    steps: &mut Steps<L>,
+)
+    requires pair { IsPair index.now ta.old (shape_of a.old) tb.old (shape_of b.old) (Sound index.now (shape_of a.old)) (Sound index.now (shape_of b.old)) }
+    requires target { target < 2 ^ 32 }
+    requires room { spent.old + (unread_of index.now (shape_of a.old) + unread_of index.now (shape_of b.old)) < 2 ^ 128 }
+    ensures top { IsTop index.now top.new (pair form ta.new (shape_of a.new) tb.new (shape_of b.new)) }
+    ensures sound { IsPair index.now ta.new (shape_of a.new) tb.new (shape_of b.new) (Sound index.now (shape_of a.new)) (Sound index.now (shape_of b.new)) }
+    ensures covers { Covers (from_on target (λ id. paired form (rest index.now (shape_of a.old) id) (rest index.now (shape_of b.old) id))) (λ id. paired form (rest index.now (shape_of a.new) id) (rest index.now (shape_of b.new) id)) need }
+    ensures reached { target ≤ top.new.head }
+    ensures falls { top.new.greatest ≤ greatest_under form ta.old.greatest tb.old.greatest }
+    ensures smaller { size_of (shape_of a.new) + size_of (shape_of b.new) ≤ size_of (shape_of a.old) + size_of (shape_of b.old) }
+    ensures paid { spent.new + (unread_of index.now (shape_of a.new) + unread_of index.now (shape_of b.new)) ≤ spent.old + (unread_of index.now (shape_of a.old) + unread_of index.now (shape_of b.old)) }
+    ensures counted { steps.new + spent.old ≡ steps.old + spent.new }
+    ensures later { spent.old ≤ spent.new }
+{
+    let mut from = target;
+    'sides: loop {
+        reach(
+            ta,
+            a,
+            index,
+            from,
+            first_need(form, need, tb.greatest),
+            spent,
+            steps,
+        );
+        let next = second_target(form, from, ta.head);
+        if next >= END {
+            *top = Top::ended();
+            return;
+        }
+        reach(
+            tb,
+            b,
+            index,
+            next,
+            second_need(form, need, ta.greatest),
+            spent,
+            steps,
+        );
+        match meeting_of(form, ta.head, ta.weight, tb.head, tb.weight) {
+            Meeting::At(head, weight) => {
+                top.head = head;
+                top.weight = weight;
+                top.greatest = greatest_at(form, head, ta.greatest, tb.greatest);
+                return;
+            }
+            Meeting::Behind(further) => from = further,
+        }
+    }
+}
+
+// What a node of two sides can weigh: nothing at the end.
+fn greatest_at(form: Form, head: u64, a: u64, b: u64) -> u64
+    requires { a + b < 2 ^ 63 }
+    ensures there { head < 2 ^ 32 → result ≡ greatest_under form a b }
+    ensures ended { head ≡ 2 ^ 32 → result ≡ 0 }
+    ensures bound { result ≤ greatest_under form a b }
+{
+    if head >= END {
+        return 0;
+    }
+    greatest_under(form, a, b)
+}

@@ -1,0 +1,66 @@
+//! The nodes of a tree, and what may stand for one under a need.
+ghost use Rattle.std.specs.Prelude.{◌≡◌};
+ghost use Rattle.sk_nodes.specs.Shapes.{shape_of};
+ghost use Rattle.sk_nodes.specs.Sound.{Sound, Decays};
+
+use crate::leaf::Leaf;
+use crate::top::{END, Top};
+use sk_decay::{Change, rule};
+use sk_index::Index;
+use sk_query::Form;
+use std::mem;
+
+/// A node. One of two sides keeps the tops of its sides, so that their heads are read without following a box.
+#[derive(Drop)]
+pub(crate) enum Node {
+    Nothing,
+    Leaf(Leaf),
+    Pair(Form, Top, Box<Node>, Top, Box<Node>),
+}
+
+/// Puts what is enough under the need in the node's place.
+#[inline(never)]
+pub(crate) fn decay(node: &mut Node, _index: &Index, need: u64)
+    requires { Sound _index.now (shape_of node.old) }
+    ensures { Decays _index.now need (shape_of node.old) (shape_of node.new) }
+{
+    match node {
+        Node::Nothing => {}
+        Node::Leaf(_) => {}
+        Node::Pair(form, ta, a, tb, b) => {
+            let change = rule(
+                *form,
+                ta.greatest,
+                tb.greatest,
+                ta.head == END,
+                tb.head == END,
+                need,
+            );
+            match change {
+                Change::Keep => {}
+                Change::Nothing => *node = Node::Nothing,
+                Change::First => {
+                    let side = mem::replace(&mut **a, Node::Nothing);
+                    *node = side;
+                }
+                Change::Second => {
+                    let side = mem::replace(&mut **b, Node::Nothing);
+                    *node = side;
+                }
+                Change::Maybe => *form = Form::AndMaybe,
+                Change::MaybeSwap => {
+                    *form = Form::AndMaybe;
+                    mem::swap(ta, tb);
+                    mem::swap(a, b);
+                }
+                Change::Both => *form = Form::And,
+                Change::Not => *form = Form::AndNot,
+                Change::NotSwap => {
+                    *form = Form::AndNot;
+                    mem::swap(ta, tb);
+                    mem::swap(a, b);
+                }
+            }
+        }
+    }
+}

@@ -1,0 +1,342 @@
+//! How the node of a query is opened.
+ghost use Rattle.std.specs.Prelude.{◌≡◌, ◌≤◌, ◌<◌, ◌+◌, ◌^◌, ℕ, true, All, IfOk, IfSome, IfNone, length, Option};
+ghost use Rattle.sk_base.specs.declared.find.Scheme.{Scheme};
+ghost use Rattle.sk_base.specs.Loads.{IsLight};
+ghost use Rattle.sk_base.specs.Numbers.{Docs, length_of};
+ghost use Rattle.sk_sorted.specs.Entries.{AreSorted};
+ghost use Rattle.sk_query.specs.Trees as QueryTree;
+ghost use Rattle.sk_query.specs.Trees.{query_view, queries_view};
+ghost use Rattle.sk_query.specs.Fits.{is_sound, leaves_of};
+ghost use Rattle.sk_model.specs.Documents.{Document};
+ghost use Rattle.sk_model.specs.Bounds.{ceil, ceils, ceil_of, term_ceil};
+ghost use Rattle.sk_model.specs.Allowance.{leaf_readings, leaves_readings};
+ghost use Rattle.sk_decay.specs.Sides.{paired, greatest_under};
+ghost use Rattle.sk_nodes.specs.Leaves.{IsThere, list_in, weighed, leaf_greatest};
+ghost use Rattle.sk_nodes.specs.Shapes.{shape_of};
+ghost use Rattle.sk_nodes.specs.Left.{rest, unread_of};
+ghost use Rattle.sk_nodes.specs.Sound.{IsTop, Sound};
+ghost use Rattle.sk_nodes.specs.Walked.{is_walked};
+ghost use Rattle.sk_nodes.specs.Opened.{score_of, joint_score_of, others_of, query_size, parts_size, AreParts, Opens};
+
+use crate::leaf::{Leaf, list_length};
+use crate::moves::seek_pair;
+use crate::node::Node;
+use crate::top::Top;
+use sk_base::{Scheme, Term};
+use sk_index::Index;
+use sk_query::{Form, Query};
+use sk_steps::Steps;
+use std::alloc::{AllocError, Global};
+use std::sync::ledger::Ledger;
+
+// So many parts stand one inside another at most, where the first of them leads.
+const MOST_NESTED: usize = 1024;
+
+/// The node of a query, and its top. `most` is how long the lists of all leaves are that were opened.
+#[cycle(open_node)]
+pub(crate) fn open_node<L: Ledger>(
+    alloc: Global,
+    index: &Index,
+    query: &Query,
+    scheme: Scheme,
+    factor: u64,
+    most: &mut u128,
+    spent: &mut u128,
+    steps: &mut Steps<L>,
+) -> Result<(Top, Node), AllocError>
+    requires factor { factor ≤ 65536 }
+    requires sound { is_sound factor (query_view query.now) ≡ true }
+    requires leaves { leaves_of (query_view query.now) ≤ 1024 }
+    requires walked { is_walked (query_view query.now) ≡ true }
+    requires documents { AreSorted index.now.live.documents }
+    requires light { All IsLight index.now.live.documents }
+    requires room { spent.old ≤ most.old }
+    requires small { most.old < 2 ^ 128 }
+    ensures opens { IfOk result (λ p. Opens index.now p.0 (shape_of p.1) (score_of (query_view query.now) scheme factor) (ceil (query_view query.now) scheme factor index.now.live.documents)) }
+    ensures paid { IfOk result (λ p. spent.new + unread_of index.now (shape_of p.1) + most.old ≤ spent.old + most.new) }
+    ensures within { IfOk result (λ p. most.new ≤ most.old + leaf_readings (query_view query.now) index.now.live.documents) }
+    ensures counted { steps.new + spent.old ≡ steps.old + spent.new }
+    ensures later { spent.old ≤ spent.new }
+    ensures room { IfOk result (λ p. spent.new ≤ most.new) }
+    ensures small { most.new < 2 ^ 128 }
+{
+    if let Some((form, parts)) = parts_of(query, factor) {
+        return open_parts(
+            alloc, index, form, parts, scheme, factor, most, spent, steps,
+        );
+    }
+    match query {
+        Query::Nothing => Ok((Top::ended(), Node::Nothing)),
+        Query::All => open_all(index, scheme, factor, most, spent, steps),
+        Query::Term(word) => open_term(index, word, scheme, factor, most, spent, steps),
+        Query::Scale(more, part) => open_node(
+            alloc,
+            index,
+            part,
+            scheme,
+            factor * u64::from(*more),
+            most,
+            spent,
+            steps,
+        ),
+        _ => Err(AllocError),
+    }
+}
+
+/// The node of a form of several parts: two nodes, of the first parts and of the others.
+#[cycle(open_node)]
+fn open_parts<L: Ledger>(
+    alloc: Global,
+    index: &Index,
+    form: Form,
+    parts: &[Query],
+    scheme: Scheme,
+    factor: u64,
+    most: &mut u128,
+    spent: &mut u128,
+    steps: &mut Steps<L>,
+) -> Result<(Top, Node), AllocError>
+    requires factor { factor ≤ 65536 }
+    requires parts { AreParts form factor (queries_view parts.now) }
+    requires documents { AreSorted index.now.live.documents }
+    requires light { All IsLight index.now.live.documents }
+    requires room { spent.old ≤ most.old }
+    requires small { most.old < 2 ^ 128 }
+    ensures opens { IfOk result (λ p. Opens index.now p.0 (shape_of p.1) (joint_score_of form (queries_view parts.now) scheme factor) (ceil_of form (ceils (queries_view parts.now) scheme factor index.now.live.documents))) }
+    ensures paid { IfOk result (λ p. spent.new + unread_of index.now (shape_of p.1) + most.old ≤ spent.old + most.new) }
+    ensures within { IfOk result (λ p. most.new ≤ most.old + leaves_readings (queries_view parts.now) index.now.live.documents) }
+    ensures counted { steps.new + spent.old ≡ steps.old + spent.new }
+    ensures later { spent.old ≤ spent.new }
+    ensures room { IfOk result (λ p. spent.new ≤ most.new) }
+    ensures small { most.new < 2 ^ 128 }
+{
+    if let Some(part) = only_part(form, parts, factor) {
+        return open_node(alloc, index, part, scheme, factor, most, spent, steps);
+    }
+    let (front, back) = split_parts(form, parts, factor);
+    let (ta, a) = open_parts(
+        alloc, index, form, front, scheme, factor, most, spent, steps,
+    )?;
+    let (tb, b) = open_parts(
+        alloc,
+        index,
+        others_of(form),
+        back,
+        scheme,
+        factor,
+        most,
+        spent,
+        steps,
+    )?;
+    pair_of(alloc, index, form, ta, a, tb, b, spent, steps)
+}
+
+/// The form and the parts of a query of several.
+fn parts_of(query: &Query, _factor: u64) -> Option<(Form, &[Query])>
+    requires sound { is_sound _factor (query_view query.now) ≡ true }
+    requires leaves { leaves_of (query_view query.now) ≤ 1024 }
+    requires walked { is_walked (query_view query.now) ≡ true }
+    ensures parts { IfSome result (λ p. AreParts p.0 _factor (queries_view p.1.now)) }
+    ensures size { IfSome result (λ p. query_size (query_view query.now) ≡ 1 + parts_size (queries_view p.1.now)) }
+    ensures scores { IfSome result (λ p. (scheme : Scheme) (o : Option Document) → score_of (query_view query.now) scheme _factor o ≡ joint_score_of p.0 (queries_view p.1.now) scheme _factor o) }
+    ensures ceiling { IfSome result (λ p. (scheme : Scheme) (docs : Docs) → ceil (query_view query.now) scheme _factor docs ≡ ceil_of p.0 (ceils (queries_view p.1.now) scheme _factor docs)) }
+    ensures readings { IfSome result (λ p. (docs : Docs) → leaf_readings (query_view query.now) docs ≡ leaves_readings (queries_view p.1.now) docs) }
+{
+    match query.parts() {
+        Some((form, parts)) => Some((form, parts)),
+        None => None,
+    }
+}
+
+/// The part, where there is one alone.
+fn only_part(form: Form, parts: &[Query], _factor: u64) -> Option<&Query>
+    requires { AreParts form _factor (queries_view parts.now) }
+    ensures many { IfNone result (2 ≤ length parts.now) }
+    ensures sound { IfSome result (λ part. is_sound _factor (query_view part.now) ≡ true) }
+    ensures leaves { IfSome result (λ part. leaves_of (query_view part.now) ≤ 1024) }
+    ensures walked { IfSome result (λ part. is_walked (query_view part.now) ≡ true) }
+    ensures size { IfSome result (λ part. query_size (query_view part.now) ≡ parts_size (queries_view parts.now)) }
+    ensures scores { IfSome result (λ part. (scheme : Scheme) (o : Option Document) → joint_score_of form (queries_view parts.now) scheme _factor o ≡ score_of (query_view part.now) scheme _factor o) }
+    ensures ceiling { IfSome result (λ part. (scheme : Scheme) (docs : Docs) → ceil_of form (ceils (queries_view parts.now) scheme _factor docs) ≡ ceil (query_view part.now) scheme _factor docs) }
+    ensures readings { IfSome result (λ part. (docs : Docs) → leaves_readings (queries_view parts.now) docs ≡ leaf_readings (query_view part.now) docs) }
+{
+    if parts.len() == 1 {
+        Some(&parts[0])
+    } else {
+        None
+    }
+}
+
+/// The parts that are put together first, and the others.
+fn split_parts(form: Form, parts: &[Query], _factor: u64) -> (&[Query], &[Query])
+    requires factor { _factor ≤ 65536 }
+    requires parts { AreParts form _factor (queries_view parts.now) }
+    requires many { 2 ≤ length parts.now }
+    ensures front { AreParts form _factor (queries_view result.0.now) }
+    ensures back { AreParts (others_of form) _factor (queries_view result.1.now) }
+    ensures front_size { parts_size (queries_view result.0.now) < parts_size (queries_view parts.now) }
+    ensures back_size { parts_size (queries_view result.1.now) < parts_size (queries_view parts.now) }
+    ensures scores { (scheme : Scheme) (o : Option Document) → joint_score_of form (queries_view parts.now) scheme _factor o ≡ paired form (joint_score_of form (queries_view result.0.now) scheme _factor o) (joint_score_of (others_of form) (queries_view result.1.now) scheme _factor o) }
+    ensures ceiling { (scheme : Scheme) (docs : Docs) → greatest_under form (ceil_of form (ceils (queries_view result.0.now) scheme _factor docs)) (ceil_of (others_of form) (ceils (queries_view result.1.now) scheme _factor docs)) ≤ ceil_of form (ceils (queries_view parts.now) scheme _factor docs) }
+    ensures fits { (scheme : Scheme) (docs : Docs) → All IsLight docs → ceil_of form (ceils (queries_view result.0.now) scheme _factor docs) + ceil_of (others_of form) (ceils (queries_view result.1.now) scheme _factor docs) < 2 ^ 63 }
+    ensures readings { (docs : Docs) → leaves_readings (queries_view parts.now) docs ≡ leaves_readings (queries_view result.0.now) docs + leaves_readings (queries_view result.1.now) docs }
+{
+    let count = parts.len();
+    parts.split_at(split_of(form, count))
+}
+
+/// How many parts the first of two nodes has: those that lead, and otherwise half of them.
+fn split_of(form: Form, count: usize) -> usize
+    requires some { 2 ≤ count }
+    ensures begun { 1 ≤ result }
+    ensures within { result < count }
+{
+    match form {
+        Form::Or | Form::Xor | Form::Max => count / 2,
+        Form::AndNot | Form::AndMaybe => 1,
+        Form::And => if count <= MOST_NESTED {
+            count - 1
+        } else {
+            count / 2
+        },
+        Form::Filter => if count <= MOST_NESTED { count - 1 } else { 1 },
+    }
+}
+
+/// The form of the second of two nodes.
+fn others_of(form: Form) -> Form
+    ensures { result ≡ others_of form }
+{
+    match form {
+        Form::And | Form::Filter => Form::And,
+        Form::Or | Form::AndNot | Form::AndMaybe => Form::Or,
+        Form::Xor => Form::Xor,
+        Form::Max => Form::Max,
+    }
+}
+
+/// The leaf of all documents.
+fn open_all<L: Ledger>(
+    index: &Index,
+    scheme: Scheme,
+    _factor: u64,
+    most: &mut u128,
+    spent: &mut u128,
+    steps: &mut Steps<L>,
+) -> Result<(Top, Node), AllocError>
+    requires documents { AreSorted index.now.live.documents }
+    requires room { spent.old ≤ most.old }
+    requires small { most.old < 2 ^ 128 }
+    ensures opens { IfOk result (λ p. Opens index.now p.0 (shape_of p.1) (score_of QueryTree.all scheme _factor) 0) }
+    ensures paid { IfOk result (λ p. spent.new + unread_of index.now (shape_of p.1) + most.old ≤ spent.old + most.new) }
+    ensures within { IfOk result (λ p. most.new ≤ most.old + leaf_readings QueryTree.all index.now.live.documents) }
+    ensures counted { steps.new + spent.old ≡ steps.old + spent.new }
+    ensures later { spent.old ≤ spent.new }
+    ensures room { IfOk result (λ p. spent.new ≤ most.new) }
+    ensures small { most.new < 2 ^ 128 }
+{
+    let (top, node) = open_leaf(index, None, scheme, 0, most, spent, steps)?;
+    Ok((top, node))
+}
+
+/// The leaf of a term, and nothing where no document has the term.
+fn open_term<L: Ledger>(
+    index: &Index,
+    word: &Term,
+    scheme: Scheme,
+    factor: u64,
+    most: &mut u128,
+    spent: &mut u128,
+    steps: &mut Steps<L>,
+) -> Result<(Top, Node), AllocError>
+    requires factor { factor ≤ 65536 }
+    requires documents { AreSorted index.now.live.documents }
+    requires room { spent.old ≤ most.old }
+    requires small { most.old < 2 ^ 128 }
+    ensures opens { IfOk result (λ p. Opens index.now p.0 (shape_of p.1) (score_of (QueryTree.term word.now) scheme factor) (term_ceil scheme factor word.now index.now.live.documents)) }
+    ensures paid { IfOk result (λ p. spent.new + unread_of index.now (shape_of p.1) + most.old ≤ spent.old + most.new) }
+    ensures within { IfOk result (λ p. most.new ≤ most.old + length_of word.now index.now.live.documents) }
+    ensures counted { steps.new + spent.old ≡ steps.old + spent.new }
+    ensures later { spent.old ≤ spent.new }
+    ensures room { IfOk result (λ p. spent.new ≤ most.new) }
+    ensures small { most.new < 2 ^ 128 }
+{
+    match index.number_of(word.as_str().as_bytes()) {
+        None => Ok((Top::ended(), Node::Nothing)),
+        Some(number) => {
+            let (top, node) = open_leaf(index, Some(number), scheme, factor, most, spent, steps)?;
+            Ok((top, node))
+        }
+    }
+}
+
+/// A leaf, and its top.
+fn open_leaf<L: Ledger>(
+    index: &Index,
+    number: Option<usize>,
+    scheme: Scheme,
+    factor: u64,
+    most: &mut u128,
+    spent: &mut u128,
+    steps: &mut Steps<L>,
+) -> Result<(Top, Node), AllocError>
+    requires there { IsThere number index.now.terms }
+    requires factor { factor ≤ 65536 }
+    requires documents { AreSorted index.now.live.documents }
+    requires room { spent.old ≤ most.old }
+    requires small { most.old < 2 ^ 128 }
+    ensures top { IfOk result (λ p. IsTop index.now p.0 (shape_of p.1)) }
+    ensures sound { IfOk result (λ p. Sound index.now (shape_of p.1)) }
+    ensures gives { IfOk result (λ p. (id : ℕ) → rest index.now (shape_of p.1) id ≡ weighed factor scheme (list_in index.now number) id) }
+    ensures ceiling { IfOk result (λ p. p.0.greatest ≤ leaf_greatest factor scheme (list_in index.now number)) }
+    ensures paid { IfOk result (λ p. spent.new + unread_of index.now (shape_of p.1) + most.old ≤ spent.old + most.new) }
+    ensures within { IfOk result (λ p. most.new ≡ most.old + length (list_in index.now number)) }
+    ensures counted { steps.new + spent.old ≡ steps.old + spent.new }
+    ensures later { spent.old ≤ spent.new }
+    ensures room { IfOk result (λ p. spent.new ≤ most.new) }
+    ensures small { most.new < 2 ^ 128 }
+{
+    // As many entries as 128 bits cannot count are in no memory.
+    let all = most
+        .checked_add(u128::from(list_length(index, number)))
+        .ok_or(AllocError)?;
+    *most = all;
+    let mut top = Top::ended();
+    let leaf = Leaf::open(&mut top, index, number, scheme, factor, spent, steps);
+    Ok((top, Node::Leaf(leaf)))
+}
+
+/// A node of two sides, moved on to where they first meet, and its top.
+fn pair_of<L: Ledger>(
+    alloc: Global,
+    index: &Index,
+    form: Form,
+    mut ta: Top,
+    mut a: Node,
+    mut tb: Top,
+    mut b: Node,
+    spent: &mut u128,
+    steps: &mut Steps<L>,
+) -> Result<(Top, Node), AllocError>
+    requires first { IsTop index.now ta (shape_of a) }
+    requires second { IsTop index.now tb (shape_of b) }
+    requires first_sound { Sound index.now (shape_of a) }
+    requires second_sound { Sound index.now (shape_of b) }
+    requires fits { ta.greatest + tb.greatest < 2 ^ 63 }
+    requires room { spent.old + (unread_of index.now (shape_of a) + unread_of index.now (shape_of b)) < 2 ^ 128 }
+    ensures top { IfOk result (λ p. IsTop index.now p.0 (shape_of p.1)) }
+    ensures sound { IfOk result (λ p. Sound index.now (shape_of p.1)) }
+    ensures gives { IfOk result (λ p. (id : ℕ) → rest index.now (shape_of p.1) id ≡ paired form (rest index.now (shape_of a) id) (rest index.now (shape_of b) id)) }
+    ensures ceiling { IfOk result (λ p. p.0.greatest ≤ greatest_under form ta.greatest tb.greatest) }
+    ensures paid { IfOk result (λ p. spent.new + unread_of index.now (shape_of p.1) ≤ spent.old + (unread_of index.now (shape_of a) + unread_of index.now (shape_of b))) }
+    ensures counted { steps.new + spent.old ≡ steps.old + spent.new }
+    ensures later { spent.old ≤ spent.new }
+{
+    let mut top = Top::ended();
+    seek_pair(
+        &mut top, form, &mut ta, &mut a, &mut tb, &mut b, index, 0, 0, spent, steps,
+    );
+    let a = Box::new(alloc, a)?;
+    let b = Box::new(alloc, b)?;
+    Ok((top, Node::Pair(form, ta, a, tb, b)))
+}
