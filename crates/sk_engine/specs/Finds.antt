@@ -3,19 +3,22 @@ use Rattle.std.specs.Prelude.{◌≡◌, Bool, true, false, List}
 use Rattle.sk_base.specs.declared.find.Find.{Find}
 use Rattle.sk_base.specs.declared.schema.Field.{Field}
 use Rattle.sk_base.specs.declared.report.Report.{Report}
+use Rattle.sk_query.specs.Trees.{Tree}
+use Rattle.sk_asked.specs.Asked.{asked}
 use Rattle.sk_model.specs.Edits.{Live}
-use Rattle.sk_model.specs.Reports.{Reports}
+use Rattle.sk_model.specs.Reports.{ReportsFor}
+use Rattle.sk_match.specs.Asking.{is_built}
 use Rattle.sk_run.specs.declared.refusal.Refusal.TheVariants as Refusal
 use Rattle.sk_run.specs.declared.find_answer.FindAnswer.{FindAnswer}
 use Rattle.sk_run.specs.declared.find_answer.FindAnswer.TheVariants as FindAnswer
 use Rattle.sk_run.specs.declared.response.Response.{Response}
-use Rattle.sk_engine.specs.Asked.{is_built}
+use Rattle.sk_run.specs.FindAnswers.{AnswersAsk}
 
--- What a find is answered by whether its form is built: a report that it may have under these fields and over these live documents, or else a refusal as a line of a bad shape.
-abbrev pub ShowsFor : Bool → List Field → Find → Live → Response FindAnswer → Type 0
-ShowsFor true fields find live answer = (report : Report) × Reports fields find live report × (answer ≡ Response.Own (FindAnswer.Found find.options.first report))
-ShowsFor false fields find live answer = answer ≡ Response.Refused Refusal.BadShape
+-- What a query is answered by whether its form is built: a report that the find may have over these live documents, or else a refusal as a line of a bad shape.
+abbrev pub FoundFor : Bool → Tree → Find → Live → Response FindAnswer → Type 0
+FoundFor true query find live answer = (report : Report) × ReportsFor query find live.documents report × (answer ≡ Response.Own (FindAnswer.Found find.options.first report))
+FoundFor false query find live answer = answer ≡ Response.Refused Refusal.BadShape
 
--- What a find is answered under these fields and over these live documents: a report that it may have, where its form is built, and else it is refused as a line of a bad shape.
+-- What a find is answered under these fields and over these live documents: a report that it may have, where its text or its tree is a query of a form that is built, and else a refusal.
 abbrev pub Shows : List Field → Find → Live → Response FindAnswer → Type 0
-Shows fields find live answer = ShowsFor (is_built find) fields find live answer
+Shows fields find live answer = AnswersAsk (λ query found. FoundFor (is_built query find) query find live found) (asked fields find.ask) answer

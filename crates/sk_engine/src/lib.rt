@@ -1,10 +1,8 @@
 //! The session, and the run over lines.
 #![tactic(auto)]
 
-mod asked;
 mod program;
 mod runs;
-mod search;
 mod session;
 mod store;
 

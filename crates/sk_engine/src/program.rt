@@ -1,6 +1,7 @@
 //! A program: from its arguments to the number that it ends with.
 ghost use Rattle.std.specs.Prelude.{◌≡◌};
-ghost use Rattle.sk_engine.specs.Started.{Around, RanFrom, Started};
+ghost use Rattle.sk_run.specs.Started.{Around, RanFrom, Started};
+ghost use Rattle.sk_engine.specs.SessionRan.{SessionRan};
 
 use crate::{Status, run};
 use sk_io::{Sink, Source};
@@ -24,7 +25,7 @@ pub fn start<S: Source, R: Source, K: Sink, E: Sink, L: Ledger>(
     requires name { blank.name ≡ L.name }
     requires parts { blank.parts ≡ L.parts }
     requires one { blank.parts ≡ 1 }
-    ensures started { Started usage.now arguments result
+    ensures started { Started SessionRan usage.now arguments result
         (record { left = S.left input.old; read_faults = S.faults input.old; held = K.held output.old; write_faults = K.faults output.old; settled = K.settled output.old; finishes = K.finishes output.old })
         (record { left = S.left input.new; read_faults = S.faults input.new; held = K.held output.new; write_faults = K.faults output.new; settled = K.settled output.new; finishes = K.finishes output.new })
         (E.held errors.old) (E.faults errors.old) (E.held errors.new) (E.faults errors.new) }
@@ -45,7 +46,7 @@ fn status_of<S: Source, R: Source, K: Sink, L: Ledger>(
     steps: &mut Steps<L>,
 ) -> Status
     requires { steps.old ≡ 0 }
-    ensures ran { RanFrom arguments result
+    ensures ran { RanFrom SessionRan arguments result
         (record { left = S.left input.old; read_faults = S.faults input.old; held = K.held output.old; write_faults = K.faults output.old; settled = K.settled output.old; finishes = K.finishes output.old })
         (record { left = S.left input.new; read_faults = S.faults input.new; held = K.held output.new; write_faults = K.faults output.new; settled = K.settled output.new; finishes = K.finishes output.new }) }
     ensures records { records.new ≡ records.old }

@@ -1,13 +1,8 @@
 //! The run over the lines of a source.
 ghost use Rattle.std.specs.Prelude.{◌≡◌, map, string_bytes};
-ghost use Rattle.sk_model.specs.Edits.{nothing_live};
 ghost use Rattle.sk_run.specs.declared.status.Status.TheVariants as Status;
-ghost use Rattle.sk_run.specs.Responses.{text_of, is_refusal, steps_of};
-ghost use Rattle.sk_run.specs.FindAnswers.{answer_text, is_refused, steps_in};
-ghost use Rattle.sk_run.specs.Output.{Answers, Closes, Begins, DoesOnLive, ClosesSilently};
 ghost use Rattle.sk_run.specs.Ended.{Outside};
-ghost use Rattle.sk_run.specs.Ran.{Ran};
-ghost use Rattle.sk_engine.specs.Finds.{Shows};
+ghost use Rattle.sk_engine.specs.SessionRan.{SessionRan};
 
 use crate::{Session, Status};
 use sk_io::{Sink, Source};
@@ -25,8 +20,8 @@ pub fn run<S: Source, R: Source, K: Sink, L: Ledger>(
     output: &mut K,
     steps: &mut Steps<L>,
 ) -> Status
-    // The main theorem: `Ran` says what each status means, and what was read, put, settled and counted by then.
-    ensures ran { Ran (text_of answer_text) (is_refusal is_refused) (steps_of steps_in) (Answers nothing_live (DoesOnLive Shows)) (Closes ClosesSilently) Begins (map string_bytes words.now) result
+    // The main theorem: `Ran` of `sk_run`, over what a session may answer (`SessionRan`), says what each status means, and what was read, put, settled and counted by then.
+    ensures ran { SessionRan (map string_bytes words.now) result
         (record { left = S.left input.old; read_faults = S.faults input.old; held = K.held output.old; write_faults = K.faults output.old; settled = K.settled output.old; finishes = K.finishes output.old; steps = steps.old })
         (record { left = S.left input.new; read_faults = S.faults input.new; held = K.held output.new; write_faults = K.faults output.new; settled = K.settled output.new; finishes = K.finishes output.new; steps = steps.new }) }
 

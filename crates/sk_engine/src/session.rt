@@ -1,13 +1,19 @@
 //! A session: the documents under one schema.
-ghost use Rattle.std.specs.Prelude.{◌≡◌, ◌≤◌, ◌+◌, IfOk};
-ghost use Rattle.sk_base.specs.Records.{FitsEdit};
+ghost use Rattle.std.specs.Prelude.{◌≡◌, ◌≤◌, ◌+◌, true, IfOk};
+ghost use Rattle.sk_base.specs.Records.{FitsEdit, FitsFind};
+ghost use Rattle.sk_query.specs.Trees.{query_view};
+ghost use Rattle.sk_query.specs.Fits.{fits_tree};
 ghost use Rattle.sk_model.specs.Edits.{Live, nothing_live, edited, reply_to};
-ghost use Rattle.sk_engine.specs.Asked.{IsAsked};
-ghost use Rattle.sk_engine.specs.Sessions.{SessionHolds, fields_of, IsAnswer, steps_in};
+ghost use Rattle.sk_match.specs.Asking.{is_built};
+ghost use Rattle.sk_engine.specs.Sessions.{SessionHolds, fields_of, steps_in, response_of};
+ghost use Rattle.sk_engine.specs.Finds.{FoundFor, Shows};
 
-use crate::search::search;
+use sk_asked::{AskError, query_of};
 use sk_base::{Edit, Find, Reply, Report, Schema};
+use sk_grammar::FaultKind;
 use sk_index::Index;
+use sk_match::{is_built, search};
+use sk_query::Query;
 use sk_steps::Steps;
 use std::alloc::{AllocError, Global};
 use std::sync::ledger::Ledger;
@@ -22,6 +28,12 @@ pub struct Session {
 #[derive(Debug, Drop)]
 pub enum Answer {
     Found(Report),
+    /// The text has this first fault, at this byte.
+    BadQuery(FaultKind, usize),
+    /// The tree is no query.
+    BadTree,
+    /// A form of query, or an option, that is not answered as yet.
+    NotBuilt,
 }
 
 impl Session {
@@ -51,14 +63,36 @@ impl Session {
         Ok((Session { index }, reply))
     }
 
-    /// The asked page of the documents that the query matches.
+    /// The asked page of the documents that the query matches, or why there is none. What is refused takes no step.
     pub fn find<L: Ledger>(&self, find: &Find, steps: &mut Steps<L>) -> Result<Answer, AllocError>
-        requires { IsAsked find.now }
-        ensures answer { IfOk result (λ answer. (live : Live) → SessionHolds self.now live → IsAnswer (fields_of self.now) find.now live answer) }
+        requires { FitsFind find.now }
+        ensures answer { IfOk result (λ answer. (live : Live) → SessionHolds self.now live → Shows (fields_of self.now) find.now live (response_of find.now.options.first answer)) }
         ensures cost { IfOk result (λ answer. steps.new ≡ steps.old + steps_in answer) }
         ensures later { steps.old ≤ steps.new }
     {
-        let report = search(self.index.allocator(), &self.index, find, steps)?;
+        match query_of(self.index.allocator(), self.schema(), &find.ask) {
+            Ok(query) => self.found(&query, find, steps),
+            Err(AskError::BadQuery(kind, place)) => Ok(Answer::BadQuery(kind, place)),
+            Err(AskError::BadTree) => Ok(Answer::BadTree),
+            Err(AskError::NoMemory) => Err(AllocError),
+        }
+    }
+
+    fn found<L: Ledger>(
+        &self,
+        query: &Query,
+        find: &Find,
+        steps: &mut Steps<L>,
+    ) -> Result<Answer, AllocError>
+        requires { fits_tree (query_view query.now) ≡ true }
+        ensures answer { IfOk result (λ answer. (live : Live) → SessionHolds self.now live → FoundFor (is_built (query_view query.now) find.now) (query_view query.now) find.now live (response_of find.now.options.first answer)) }
+        ensures cost { IfOk result (λ answer. steps.new ≡ steps.old + steps_in answer) }
+        ensures later { steps.old ≤ steps.new }
+    {
+        if !is_built(query, find) {
+            return Ok(Answer::NotBuilt);
+        }
+        let report = search(self.index.allocator(), &self.index, find, query, steps)?;
         Ok(Answer::Found(report))
     }
 }

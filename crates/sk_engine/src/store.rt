@@ -1,20 +1,18 @@
 //! A session as the store of a run.
-ghost use Rattle.std.specs.Prelude.{◌≡◌, ◌≤◌, ◌+◌, IfOk, true};
+ghost use Rattle.std.specs.Prelude.{◌≡◌, ◌≤◌, ◌+◌, IfOk};
 ghost use Rattle.sk_base.specs.Records.{FitsEdit, FitsFind};
 ghost use Rattle.sk_base.specs.declared.command.Command.TheVariants as Command;
 ghost use Rattle.sk_model.specs.Edits.{Live};
 ghost use Rattle.sk_run.specs.Responses.{steps_of};
-ghost use Rattle.sk_run.specs.FindAnswers.{steps_in as steps_told};
+ghost use Rattle.sk_run.specs.FindAnswers.{steps_in as steps_told, Shown};
 ghost use Rattle.sk_run.specs.Machines.{Did};
 ghost use Rattle.sk_run.specs.Output.{DoesOnLive};
-ghost use Rattle.sk_engine.specs.Asked.{is_built};
 ghost use Rattle.sk_engine.specs.Sessions.{SessionHolds, fields_of, steps_in, response_of};
 ghost use Rattle.sk_engine.specs.Finds.{Shows};
 
-use crate::asked::is_built;
 use crate::{Answer, Session};
 use sk_base::{Command, Edit, Find, Schema};
-use sk_run::{FindAnswer, Refusal, Response, Store, response_to};
+use sk_run::{FindAnswer, Refusal, Response, Store, response_to, shown};
 use sk_steps::Steps;
 use std::alloc::{AllocError, Global};
 use std::sync::ledger::Ledger;
@@ -24,6 +22,7 @@ impl Store for Session {
 
     ghost use Rattle.sk_model.specs.Edits.{Live, nothing_live};
     ghost use Rattle.sk_run.specs.Output.{DoesOnLive, ClosesSilently};
+    ghost use Rattle.sk_run.specs.FindAnswers.{Shown};
     ghost use Rattle.sk_engine.specs.Sessions.{SessionHolds, fields_of};
     ghost use Rattle.sk_engine.specs.Finds.{Shows};
 
@@ -35,7 +34,7 @@ impl Store for Session {
 
     ghost begun = { nothing_live };
 
-    ghost does = { DoesOnLive Shows };
+    ghost does = { DoesOnLive Shows Shown };
 
     ghost closes = { ClosesSilently };
 
@@ -59,7 +58,10 @@ impl Store for Session {
                 let response = answer(&self, &find, steps)?;
                 Ok((self, response))
             }
-            Command::Show(_, _) => Ok((self, Response::Refused(Refusal::BadShape))),
+            Command::Show(text, join) => {
+                let response = shown(self.index.allocator(), self.schema(), join, text.as_str())?;
+                Ok((self, response))
+            }
         }
     }
 
@@ -70,7 +72,7 @@ impl Store for Session {
 
 fn apply(session: Session, edit: Edit) -> Result<(Session, Response<FindAnswer>), AllocError>
     requires { FitsEdit (fields_of session) edit }
-    ensures did { IfOk result (λ p. Did fields_of SessionHolds (DoesOnLive Shows) session (Command.Edit edit) p.1 p.0) }
+    ensures did { IfOk result (λ p. Did fields_of SessionHolds (DoesOnLive Shows Shown) session (Command.Edit edit) p.1 p.0) }
     ensures schema { IfOk result (λ p. fields_of p.0 ≡ fields_of session) }
     ensures cost { IfOk result (λ p. steps_of steps_told p.1 ≡ 0) }
 {
@@ -89,32 +91,18 @@ fn answer<L: Ledger>(
     ensures cost { IfOk result (λ answer. steps.new ≡ steps.old + steps_of steps_told answer) }
     ensures later { steps.old ≤ steps.new }
 {
-    if is_built(find) {
-        show(session, find, steps)
-    } else {
-        Ok(Response::Refused(Refusal::BadShape))
-    }
-}
-
-fn show<L: Ledger>(
-    session: &Session,
-    find: &Find,
-    steps: &mut Steps<L>,
-) -> Result<Response<FindAnswer>, AllocError>
-    requires { is_built find.now ≡ true }
-    ensures answer { IfOk result (λ answer. (live : Live) → SessionHolds session.now live → Shows (fields_of session.now) find.now live answer) }
-    ensures cost { IfOk result (λ answer. steps.new ≡ steps.old + steps_of steps_told answer) }
-    ensures later { steps.old ≤ steps.new }
-{
     let answer = session.find(find, steps)?;
-    Ok(found_response(find.options.first, answer))
+    Ok(response_of(find.options.first, answer))
 }
 
-fn found_response(first: u32, answer: Answer) -> Response<FindAnswer>
+fn response_of(first: u32, answer: Answer) -> Response<FindAnswer>
     ensures response { result ≡ response_of first answer }
     ensures cost { steps_of steps_told result ≡ steps_in answer }
 {
     match answer {
         Answer::Found(report) => Response::Own(FindAnswer::Found(first, report)),
+        Answer::BadQuery(kind, place) => Response::Own(FindAnswer::BadQuery(kind, place)),
+        Answer::BadTree => Response::Own(FindAnswer::BadTree),
+        Answer::NotBuilt => Response::Refused(Refusal::BadShape),
     }
 }

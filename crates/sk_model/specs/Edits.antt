@@ -1,9 +1,7 @@
 -- The live documents after any list of edits.
 -- Source: Xapian's API documentation (`WritableDatabase`: `add_document`, `replace_document` and `delete_document` by id and by term). The replies and the last id are own.
 use Rattle.std.specs.Prelude.{ℕ, ◌+◌, ◌≤◌, ◌<◌, max, not, nat_lt, is_some, List, [], ◌∷◌, filter, find, AllPairs, All, Option, Some, None, option_map, if◌then◌else◌}
-use Rattle.std.specs.Ordering.{nat_cmp}
-use Rattle.std.specs.BTreeMap.{insert_entry, is_at}
-use Rattle.std.specs.Map.{remove_entry, lookup}
+use Rattle.sk_sorted.specs.Entries.{put, without, found}
 use Rattle.sk_base.specs.declared.record.Edit.{Edit}
 use Rattle.sk_base.specs.declared.record.Reply.{Reply}
 use Rattle.sk_base.specs.declared.schema.Field.{Field}
@@ -26,15 +24,15 @@ last_id = 4294967295
 
 -- The document with this id, if it is live.
 abbrev pub document_at : ℕ → Docs → Option Document
-document_at id docs = lookup (is_at (nat_cmp id)) docs
+document_at id docs = found id docs
 
 -- The documents with this one under this id, in the place of the one that is there, or as a new one in its place.
 abbrev pub put_document : ℕ → Document → Docs → Docs
-put_document id document docs = insert_entry nat_cmp docs id document
+put_document id document docs = put id document docs
 
 -- The documents without the one of this id.
 abbrev pub without_id : ℕ → Docs → Docs
-without_id id docs = remove_entry (is_at (nat_cmp id)) docs
+without_id id docs = without id docs
 
 -- The documents without those that have the term.
 abbrev pub without_term : List ℕ → Docs → Docs

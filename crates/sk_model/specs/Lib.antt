@@ -1,6 +1,5 @@
 pub mod Documents
 pub mod Edits
-pub mod Queries
 pub mod Weights
 pub mod Positions
 pub mod Ranges

@@ -4,14 +4,12 @@ use Rattle.std.specs.Prelude.{◌≡◌, ◌≤◌, ◌+◌, ◌/◌, ℕ, List,
 use Rattle.std.specs.List.{AllZip}
 use Rattle.sk_base.specs.declared.find.Find.{Find}
 use Rattle.sk_base.specs.declared.rank.Rank.{Rank}
-use Rattle.sk_base.specs.declared.schema.Field.{Field}
 use Rattle.sk_base.specs.declared.report.Ranked.{Ranked}
 use Rattle.sk_base.specs.declared.report.Report.{Report}
 use Rattle.sk_base.specs.Numbers.{Docs}
 use Rattle.sk_query.specs.Trees.{Tree}
 use Rattle.sk_model.specs.Documents.{Document}
-use Rattle.sk_model.specs.Edits.{Live, document_at}
-use Rattle.sk_model.specs.Queries.{query_of}
+use Rattle.sk_model.specs.Edits.{document_at}
 use Rattle.sk_model.specs.Matches.{matches, key_of}
 use Rattle.sk_model.specs.Page.{slice}
 use Rattle.sk_model.specs.Bounds.{ceil, static_count}
@@ -46,12 +44,3 @@ pub record ReportsFor (query : Tree) (find : Find) (docs : Docs) (report : Repor
   pub greatest : report.greatest ≡ ceil query find.options.scheme 1 docs
   pub least_steps : length report.hits ≤ report.steps
   pub most_steps : report.steps ≤ allowance query find docs (length (found_by query find docs)) (length report.hits)
-
--- The report is one that the find may have: one of its query.
-abbrev pub ReportsOn : Option Tree → Find → Docs → Report → Type 0
-ReportsOn None find docs report = ⊥
-ReportsOn (Some query) find docs report = ReportsFor query find docs report
-
--- The same under the fields of a schema, over the live documents.
-abbrev pub Reports : List Field → Find → Live → Report → Type 0
-Reports fields find live report = ReportsOn (query_of fields find.ask) find live.documents report

@@ -6,7 +6,6 @@ mod combining;
 mod counts;
 mod covers;
 mod documents;
-mod one_word;
 mod order;
 mod page;
 mod positions;
@@ -20,7 +19,6 @@ pub use combining::{
 pub use counts::{counts_are_there, counts_in_order};
 pub use covers::{covers_follow, sides_cover, two_sides};
 pub use documents::{slots_of_schema, terms_of_mentions};
-pub use one_word::is_one_word;
 pub use order::{one_order, place_never_worse, sort_best_first};
 pub use page::{kept_by_keys, kept_of_front, kept_of_key, slice};
 pub use positions::near_is_a_window;

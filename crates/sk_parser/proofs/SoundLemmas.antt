@@ -1,15 +1,12 @@
 -- What tokens without a fault give.
-use Rattle.std.proofs.Common.{◌≡◌, ℕ, Bool, true, false, if◌then◌else◌, List, [], ◌∷◌, length, map, reverse, drop, Option, Some, None, refl, sym, ap, ◌∙◌}
-use Rattle.std.proofs.lemmas.List.{reverse-reverse}
+use Rattle.std.proofs.Common.{◌≡◌, ℕ, Bool, true, false, if◌then◌else◌, List, [], ◌∷◌, Option, Some, None, refl}
 use Rattle.sk_base.specs.declared.schema.Field.{Field}
 use Rattle.sk_base.specs.declared.find.Join.{Join}
 use Rattle.sk_grammar.specs.declared.fault.FaultKind.{FaultKind}
-use Rattle.sk_grammar.specs.declared.fault.FaultKind.TheVariants as FaultKind
 use Rattle.sk_grammar.specs.declared.token.Kind.{Kind}
 use Rattle.sk_grammar.specs.declared.token.Token.{Token}
-use Rattle.sk_grammar.specs.Brackets.{Nests, no_nests}
-use Rattle.sk_grammar.specs.Faults.{is_stray, is_unclosed, lacks_operand, is_bad_near, is_bad_range, is_too_deep, is_too_many, fault_at, fault_or, fault_behind, kinds_of}
-use Rattle.sk_grammar.specs.Parts.{Part}
+use Rattle.sk_grammar.specs.Brackets.{no_nests}
+use Rattle.sk_grammar.specs.Faults.{is_stray, is_unclosed, lacks_operand, is_bad_near, is_bad_range, fault_at, fault_or, fault_behind, kinds_of}
 use Rattle.sk_parser.specs.Sound.{AreSound}
 use Rattle.sk_parser.specs.Stack.{Inside, finished}
 

@@ -1,14 +1,12 @@
 -- Parts that are split from left to right.
-use Rattle.std.proofs.Common.{◌≡◌, ℕ, Bool, true, false, if◌then◌else◌, List, [], ◌∷◌, ◌++◌, refl, sym, ap, ◌∙◌, append_assoc, append-nil}
+use Rattle.std.proofs.Common.{◌≡◌, Bool, true, false, if◌then◌else◌, List, [], ◌∷◌, ◌++◌, refl, sym, ap, ◌∙◌, append_assoc, append-nil}
 use Rattle.sk_grammar.specs.declared.token.Kind.{Kind}
-use Rattle.sk_grammar.specs.declared.token.Kind.TheVariants as Kind
 use Rattle.sk_grammar.specs.Parts.{Part, operator}
 use Rattle.sk_grammar.specs.Faults.{is_not}
 use Rattle.sk_grammar.specs.Runs.{Unit, unit_of, mark_behind, units}
 use Rattle.sk_grammar.specs.Meaning.{is_and, at, in_front, split, Run, in_run, runs, runs_in}
 use Rattle.sk_parser.specs.Views.{run_of}
 use Rattle.sk_grammar.specs.declared.token.Mark.{Mark}
-use Rattle.sk_grammar.specs.declared.token.Mark.TheVariants as Mark
 
 -- Parts put before the first of these lists.
 abbrev pub put_front : List Part → List (List Part) → List (List Part)

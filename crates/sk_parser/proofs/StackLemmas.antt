@@ -1,15 +1,14 @@
 -- The brackets that are open, token by token.
-use Rattle.std.proofs.Common.{◌≡◌, ℕ, List, [], ◌∷◌, ◌++◌, map, reverse, Option, Some, None, refl, sym, ap, ◌∙◌}
+use Rattle.std.proofs.Common.{◌≡◌, ℕ, List, [], ◌∷◌, ◌++◌, map, reverse, Option, Some, None, refl, ap, ◌∙◌}
 use Rattle.std.proofs.lemmas.List.{map-append, reverse-append}
 use Rattle.sk_base.specs.declared.schema.Field.{Field}
 use Rattle.sk_base.specs.declared.find.Join.{Join}
 use Rattle.sk_grammar.specs.Brackets.{Nest, single, bracket, Nests, no_nests, nest, Levels, opened, with_token}
 use Rattle.sk_grammar.specs.declared.token.Kind.{Kind}
-use Rattle.sk_grammar.specs.declared.token.Kind.TheVariants as Kind
-use Rattle.sk_grammar.specs.Parts.{Part, prefix_in, part_of, with_part, chained}
+use Rattle.sk_grammar.specs.Parts.{prefix_in, part_of, with_part, chained}
 use Rattle.sk_grammar.specs.Meaning.{closed_part, nest_part, nest_parts}
 use Rattle.sk_parser.specs.declared.stack.Level.{Level}
-use Rattle.sk_parser.specs.Stack.{Inside, inside_with, filled, finished, level_view, below_view, field_or}
+use Rattle.sk_parser.specs.Stack.{Inside, inside_with, finished, level_view, below_view, field_or}
 
 -- A token or a bracket that was read is one part more.
 pub one_nest : (fields : List Field) (join : Join) (top : Inside) (below : List Inside) (n : Nest) (here : Nests) (outside : List Nests)

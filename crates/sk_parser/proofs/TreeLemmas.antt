@@ -1,9 +1,8 @@
 -- Units, runs and segments that are taken one by one.
-use Rattle.std.proofs.Common.{◌≡◌, ℕ, Bool, true, false, cond, ◌==◌, List, [], ◌∷◌, ◌++◌, length, map, reverse, filter, refl, sym, ap, ◌∙◌, append_assoc, append-nil, arith}
+use Rattle.std.proofs.Common.{◌≡◌, Bool, true, false, cond, ◌==◌, List, [], ◌∷◌, ◌++◌, length, map, reverse, filter, refl, sym, ap, ◌∙◌, append_assoc, arith}
 use Rattle.std.proofs.lemmas.Bool.Decides.{nat_tests}
 use Rattle.std.proofs.lemmas.List.{length-reverse, reverse-reverse}
 use Rattle.sk_base.specs.declared.find.Join.{Join}
-use Rattle.sk_base.specs.declared.find.Join.TheVariants as Join
 use Rattle.sk_query.specs.Trees.{Tree}
 use Rattle.sk_grammar.specs.Parts.{Part, unit}
 use Rattle.sk_grammar.specs.Runs.{Unit, is_hated, queries_of, base_of, groups_after, filtered, without, units_tree, run_tree}

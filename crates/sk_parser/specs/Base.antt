@@ -1,7 +1,6 @@
 -- How the code sorts the units of a run.
-use Rattle.std.specs.Prelude.{ℕ, Bool, false, List, Option}
+use Rattle.std.specs.Prelude.{Bool, false, List}
 use Rattle.sk_base.specs.declared.find.Join.{Join}
-use Rattle.sk_base.specs.declared.find.Join.TheVariants as Join
 use Rattle.sk_query.specs.Trees.{Tree}
 use Rattle.sk_grammar.specs.declared.token.Mark.{Mark}
 use Rattle.sk_grammar.specs.Runs.{Unit, loves, is_loved, is_plain, is_wanted, loved_and_plain, all_of}

@@ -1,7 +1,6 @@
 -- What the finder of faults keeps of the tokens before a place.
-use Rattle.std.specs.Prelude.{◌≡◌, ℕ, zero, suc, pred, ◌==◌, ◌&&◌, Bool, false, List, [], ◌∷◌, if◌then◌else◌, Option, Some, None}
+use Rattle.std.specs.Prelude.{◌≡◌, ℕ, suc, pred, ◌==◌, ◌&&◌, Bool, false, List, [], ◌∷◌, if◌then◌else◌, Option, Some, None}
 use Rattle.sk_grammar.specs.declared.token.Kind.{Kind}
-use Rattle.sk_grammar.specs.declared.token.Kind.TheVariants as Kind
 use Rattle.sk_grammar.specs.Faults.{ends_unit, is_word, is_near, is_adj, is_open, first_is, second_is, depth_of, leaves_in}
 use Rattle.sk_parser.specs.declared.before.Before.{Before}
 

@@ -1,10 +1,10 @@
 -- What the code asks of tokens before it makes their query.
-use Rattle.std.specs.Prelude.{◌≡◌, ℕ, false, List, [], ◌∷◌, Option}
+use Rattle.std.specs.Prelude.{◌≡◌, false, List, [], ◌∷◌}
 use Rattle.sk_base.specs.declared.schema.Field.{Field}
 use Rattle.sk_base.specs.declared.find.Join.{Join}
 use Rattle.sk_grammar.specs.declared.token.Kind.{Kind}
 use Rattle.sk_grammar.specs.declared.token.Token.{Token}
-use Rattle.sk_grammar.specs.Brackets.{Nests, no_nests, Levels, levels_of}
+use Rattle.sk_grammar.specs.Brackets.{no_nests, Levels, levels_of}
 use Rattle.sk_grammar.specs.Faults.{is_bad_range}
 use Rattle.sk_grammar.specs.Meaning.{nest_parts}
 use Rattle.sk_grammar.specs.Parts.{Part, chained}

@@ -1,24 +1,19 @@
 -- What the parts, units, groups and runs of the code stand for.
-use Rattle.std.specs.Prelude.{ℕ, ◌&&◌, not, Bool, true, false, List, [], ◌∷◌, ◌++◌, map, reverse, Option, Some, None, Vec}
+use Rattle.std.specs.Prelude.{ℕ, Bool, List, map, reverse, Option, Some, None, Vec}
 use Rattle.std.specs.declared.alloc.Global.{Global}
 use Rattle.sk_base.specs.declared.schema.FieldKind.{FieldKind}
-use Rattle.sk_base.specs.declared.find.Join.{Join}
-use Rattle.sk_base.specs.declared.find.Join.TheVariants as Join
-use Rattle.sk_query.specs.declared.query.Query.{Query}
 use Rattle.sk_query.specs.Trees.{Tree, range, query_view}
 use Rattle.sk_grammar.specs.declared.token.Kind.{Kind}
 use Rattle.sk_grammar.specs.Parts.{chain, unit, chosen, empty, link, operator}
 use Rattle.sk_grammar.specs.Bounds.{halves}
 use Rattle.sk_grammar.specs.Parts.{Part as PartMeant, limit_in, slot_of}
-use Rattle.sk_grammar.specs.Runs.{Unit as UnitMeant, Group as GroupMeant, is_loved, is_plain, is_wanted, added}
+use Rattle.sk_grammar.specs.Runs.{Unit as UnitMeant, Group as GroupMeant, added}
 use Rattle.sk_grammar.specs.Meaning.{Run as RunMeant, is_or, is_xor}
 use Rattle.sk_parser.specs.declared.part.Part.{Part}
-use Rattle.sk_parser.specs.declared.part.Part.TheVariants as Part
 use Rattle.sk_parser.specs.declared.unit.Unit.{Unit}
 use Rattle.sk_parser.specs.declared.group.Group.{Group}
 use Rattle.sk_parser.specs.declared.split.Run.{Run}
 use Rattle.sk_parser.specs.declared.split.Border.{Border}
-use Rattle.sk_parser.specs.declared.split.Border.TheVariants as Border
 
 -- A part.
 abbrev pub part_view : Part → PartMeant

@@ -1,3 +1,2 @@
 pub mod Shelved
-pub mod Wanting
 pub mod Answers

@@ -7,18 +7,18 @@ ghost use Rattle.sk_query.specs.Trees.{query_view};
 ghost use Rattle.sk_query.specs.Fits.{fits_tree};
 ghost use Rattle.sk_model.specs.Edits.{Live};
 ghost use Rattle.sk_run.specs.Responses.{steps_of};
-ghost use Rattle.sk_run.specs.FindAnswers.{steps_in};
+ghost use Rattle.sk_run.specs.FindAnswers.{steps_in, Shown};
 ghost use Rattle.sk_run.specs.Machines.{Did};
 ghost use Rattle.sk_run.specs.Output.{DoesOnLive};
 ghost use Rattle.sk_reference.specs.Answers.{found_for, PlainAnswers};
 ghost use Rattle.sk_reference.specs.Shelved.{holds, fields_of};
 
-use crate::asked::Wanted;
 use crate::shelf::Shelf;
+use sk_asked::query_of;
 use sk_base::{Command, Doc, DocId, Edit, Find, Ranked, Schema};
 use sk_plain::report_of;
 use sk_query::Query;
-use sk_run::{FindAnswer, Refusal, Response, Store, response_to};
+use sk_run::{FindAnswer, Response, Store, refused, response_to, shown};
 use sk_steps::Steps;
 use std::alloc::{AllocError, Global};
 use std::collections::BTreeMap;
@@ -29,6 +29,7 @@ impl Store for Shelf {
 
     ghost use Rattle.sk_model.specs.Edits.{Live, nothing_live};
     ghost use Rattle.sk_run.specs.Output.{DoesOnLive, ClosesSilently};
+    ghost use Rattle.sk_run.specs.FindAnswers.{Shown};
     ghost use Rattle.sk_reference.specs.Answers.{PlainAnswers};
     ghost use Rattle.sk_reference.specs.Shelved.{holds, fields_of};
 
@@ -40,7 +41,7 @@ impl Store for Shelf {
 
     ghost begun = { nothing_live };
 
-    ghost does = { DoesOnLive PlainAnswers };
+    ghost does = { DoesOnLive PlainAnswers Shown };
 
     ghost closes = { ClosesSilently };
 
@@ -64,7 +65,10 @@ impl Store for Shelf {
                 let response = answer(&self, &find, steps)?;
                 Ok((self, response))
             }
-            Command::Show(_, _) => Ok((self, Response::Refused(Refusal::BadShape))),
+            Command::Show(text, join) => {
+                let response = shown(self.allocator(), self.schema(), join, text.as_str())?;
+                Ok((self, response))
+            }
         }
     }
 
@@ -75,7 +79,7 @@ impl Store for Shelf {
 
 fn apply(shelf: Shelf, edit: Edit) -> Result<(Shelf, Response<FindAnswer>), AllocError>
     requires { FitsEdit (fields_of shelf) edit }
-    ensures did { IfOk result (λ p. Did fields_of holds (DoesOnLive PlainAnswers) shelf (Command.Edit edit) p.1 p.0) }
+    ensures did { IfOk result (λ p. Did fields_of holds (DoesOnLive PlainAnswers Shown) shelf (Command.Edit edit) p.1 p.0) }
     ensures schema { IfOk result (λ p. fields_of p.0 ≡ fields_of shelf) }
     ensures cost { IfOk result (λ p. steps_of steps_in p.1 ≡ 0) }
 {
@@ -83,6 +87,7 @@ fn apply(shelf: Shelf, edit: Edit) -> Result<(Shelf, Response<FindAnswer>), Allo
     Ok((shelf, response_to(reply)))
 }
 
+#[tactic(auto, using(sk_run::proofs::AskLemmas::refused_for))]
 fn answer<L: Ledger>(
     shelf: &Shelf,
     find: &Find,
@@ -94,10 +99,9 @@ fn answer<L: Ledger>(
     ensures later { steps.old ≤ steps.new }
 {
     let alloc = shelf.allocator();
-    match Wanted::read(alloc, shelf.schema(), &find.ask)? {
-        Wanted::Query(query) => found_for(alloc, shelf.documents(), &query, find, steps),
-        Wanted::NoQuery => Ok(Response::Own(FindAnswer::BadTree)),
-        Wanted::NotRead => Ok(Response::Refused(Refusal::BadShape)),
+    match query_of(alloc, shelf.schema(), &find.ask) {
+        Ok(query) => found_for(alloc, shelf.documents(), &query, find, steps),
+        Err(why) => refused(why),
     }
 }
 

@@ -3,3 +3,5 @@ mod RunLemmas
 mod EndLemmas
 mod Examples
 mod RanLemmas
+pub mod AskLemmas
+pub mod ProgramLemmas

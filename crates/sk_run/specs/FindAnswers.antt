@@ -1,10 +1,21 @@
--- The text of what a find is answered.
-use Rattle.std.specs.Prelude.{ℕ, ◌+◌, Bool, true, false, List, [], ◌∷◌, ◌++◌, length, codes, decimal}
+-- What a find is answered, and its text.
+use Rattle.std.specs.Prelude.{◌≡◌, ℕ, ◌+◌, Bool, true, false, List, [], ◌∷◌, ◌++◌, length, codes, decimal, Result, Ok, Err}
 use Rattle.json.specs.Print.{quoted}
+use Rattle.sk_base.specs.declared.find.Join.{Join}
 use Rattle.sk_base.specs.declared.report.Ranked.{Ranked}
 use Rattle.sk_base.specs.declared.report.Report.{Report}
+use Rattle.sk_base.specs.declared.schema.Field.{Field}
+use Rattle.sk_query.specs.Trees.{Tree}
+use Rattle.sk_grammar.specs.declared.fault.FaultKind.{FaultKind}
+use Rattle.sk_grammar.specs.declared.fault.FaultKind.TheVariants as FaultKind
+use Rattle.sk_asked.specs.declared.asked.AskError.{AskError}
+use Rattle.sk_asked.specs.declared.asked.AskError.TheVariants as AskError
+use Rattle.sk_asked.specs.Asked.{text_asked}
+use Rattle.sk_run.specs.declared.refusal.Refusal.TheVariants as Refusal
+use Rattle.sk_run.specs.declared.response.Response.{Response}
+use Rattle.sk_run.specs.declared.response.Response.TheVariants as Response
 use Rattle.sk_run.specs.declared.find_answer.FindAnswer.{FindAnswer}
-use Rattle.sk_run.specs.declared.find_answer.FindAnswer.TheVariants.{Found, BadTree}
+use Rattle.sk_run.specs.declared.find_answer.FindAnswer.TheVariants.{Found, BadQuery, BadTree}
 
 -- The second half of a found line, from ` upper=` on.
 abbrev pub found_rest : Report → List ℕ
@@ -31,17 +42,53 @@ hit_lines rank (hit ∷ hits) = hit_line rank hit ++ hit_lines (rank + 1) hits
 abbrev pub found_text : ℕ → Report → List ℕ
 found_text first report = found_line report ++ hit_lines first report.hits
 
+-- The name of a fault of a query text.
+abbrev pub fault_name : FaultKind → List ℕ
+fault_name FaultKind.StrayBracket = codes "StrayBracket"
+fault_name FaultKind.UnclosedBracket = codes "UnclosedBracket"
+fault_name FaultKind.MissingOperand = codes "MissingOperand"
+fault_name FaultKind.BadNear = codes "BadNear"
+fault_name FaultKind.BadRange = codes "BadRange"
+fault_name FaultKind.TooDeep = codes "TooDeep"
+fault_name FaultKind.TooMany = codes "TooMany"
+
+-- The refusal of a text for a fault, with the byte at which it stands.
+abbrev pub fault_line : FaultKind → ℕ → List ℕ
+fault_line kind place = codes "refused 9 BadQuery " ++ (fault_name kind ++ (codes " at " ++ (decimal place ++ codes "\n")))
+
 -- The text of what a find is answered.
 abbrev pub answer_text : FindAnswer → List ℕ
 answer_text (Found first report) = found_text first report
+answer_text (BadQuery kind place) = fault_line kind place
 answer_text BadTree = codes "refused 10 BadTree\n"
 
 -- Whether the find is refused.
 abbrev pub is_refused : FindAnswer → Bool
 is_refused (Found first report) = false
+is_refused (BadQuery kind place) = true
 is_refused BadTree = true
 
 -- The number that is printed after `steps=`.
 abbrev pub steps_in : FindAnswer → ℕ
 steps_in (Found first report) = report.steps
+steps_in (BadQuery kind place) = 0
 steps_in BadTree = 0
+
+-- The refusal where there is no query, with its cause. Want of memory is no answer.
+abbrev pub RefusedFor : AskError → Response FindAnswer → Type 0
+RefusedFor (AskError.BadQuery kind place) answer = answer ≡ Response.Own (BadQuery kind place)
+RefusedFor AskError.BadTree answer = answer ≡ Response.Own BadTree
+RefusedFor AskError.NoMemory answer = ⊥
+
+-- What is answered by what is asked for: to a query as `Finds` says, and where there is none a refusal.
+abbrev pub AnswersAsk : (Tree → Response FindAnswer → Type 0) → Result Tree AskError → Response FindAnswer → Type 0
+AnswersAsk Finds (Ok query) answer = Finds query answer
+AnswersAsk Finds (Err why) answer = RefusedFor why answer
+
+-- A form that is not built as yet.
+abbrev pub IsNotBuilt : Tree → Response FindAnswer → Type 0
+IsNotBuilt query answer = answer ≡ Response.Refused Refusal.BadShape
+
+-- What a line that asks to show the query of a text is answered: a text with a fault is refused for it. (To show a query is a form that is not built as yet.)
+abbrev pub Shown : List Field → Join → List ℕ → Response FindAnswer → Type 0
+Shown fields join text answer = AnswersAsk IsNotBuilt (text_asked fields join text) answer

@@ -12,3 +12,4 @@ pub mod Ends
 pub mod Ended
 pub mod Closing
 pub mod Ran
+pub mod Started

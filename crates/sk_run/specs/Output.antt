@@ -3,6 +3,7 @@ use Rattle.std.specs.Prelude.{◌≡◌, ℕ, List, length, Option, Some, None}
 use Rattle.std.specs.Option.{option_map}
 use Rattle.sk_base.specs.declared.command.Command.{Command}
 use Rattle.sk_base.specs.declared.find.Find.{Find}
+use Rattle.sk_base.specs.declared.find.Join.{Join}
 use Rattle.sk_base.specs.declared.schema.Field.{Field}
 use Rattle.sk_record.specs.Told.{told_by}
 use Rattle.sk_model.specs.Edits.{Live, edited, reply_to}
@@ -43,12 +44,12 @@ abbrev pub Closes : {S A : Type 0} → (List Field → S → Response A → Type
 Closes Ends None answer = answer ≡ Response.Skipped
 Closes Ends (Some s) answer = Ends s.0 s.1 answer
 
--- What a command does to live documents alone, where a find may be answered as `Finds` says: an edit is answered its reply, and leaves the documents that it makes; a find leaves them as they were. (To show a query is a form that is not built as yet.)
-abbrev pub DoesOnLive : {A : Type 0} → (List Field → Find → Live → Response A → Type 0) → List Field → Live → Command → Response A → Live → Type 0
-DoesOnLive Finds fields live (Command.Schema given) answer next = ⊥
-DoesOnLive Finds fields live (Command.Edit edit) answer next = (answer ≡ response_to (reply_to live edit)) × (next ≡ edited fields live edit)
-DoesOnLive Finds fields live (Command.Find find) answer next = Finds fields find live answer × (next ≡ live)
-DoesOnLive Finds fields live (Command.Show text join) answer next = (answer ≡ Response.Refused Refusal.BadShape) × (next ≡ live)
+-- What a command does to live documents alone, where a find may be answered as `Finds` says, and a line that asks to show the query of a text as `Shown` says: an edit is answered its reply, and leaves the documents that it makes; the others leave them as they were.
+abbrev pub DoesOnLive : {A : Type 0} → (List Field → Find → Live → Response A → Type 0) → (List Field → Join → List ℕ → Response A → Type 0) → List Field → Live → Command → Response A → Live → Type 0
+DoesOnLive Finds Shown fields live (Command.Schema given) answer next = ⊥
+DoesOnLive Finds Shown fields live (Command.Edit edit) answer next = (answer ≡ response_to (reply_to live edit)) × (next ≡ edited fields live edit)
+DoesOnLive Finds Shown fields live (Command.Find find) answer next = Finds fields find live answer × (next ≡ live)
+DoesOnLive Finds Shown fields live (Command.Show text join) answer next = Shown fields join text answer × (next ≡ live)
 
 -- Nothing is put at the end.
 abbrev pub ClosesSilently : {S A : Type 0} → List Field → S → Response A → Type 0

@@ -5,6 +5,7 @@ ghost use Rattle.json.specs.Print.{quoted};
 use crate::Printed;
 use serde_json::Value;
 use sk_base::{Ranked, Report, Text};
+use sk_grammar::FaultKind;
 use std::alloc::{AllocError, Global};
 
 /// What a find is answered.
@@ -12,6 +13,8 @@ use std::alloc::{AllocError, Global};
 pub enum FindAnswer {
     /// The rank of the first hit, and the report.
     Found(u32, Report),
+    /// The text has this first fault, at this byte.
+    BadQuery(FaultKind, usize),
     /// The tree is no query.
     BadTree,
 }
@@ -28,16 +31,42 @@ impl Printed for FindAnswer {
     fn into_text(self, alloc: Global) -> Result<String, AllocError> {
         match self {
             FindAnswer::Found(first, report) => found_lines(alloc, first, &report),
+            FindAnswer::BadQuery(kind, place) => fault_line(alloc, kind, place),
             FindAnswer::BadTree => String::from_str(alloc, "refused 10 BadTree\n"),
         }
     }
 
     fn refuses(&self) -> bool {
-        matches!(self, FindAnswer::BadTree)
+        match self {
+            FindAnswer::Found(_, _) => false,
+            FindAnswer::BadQuery(_, _) => true,
+            FindAnswer::BadTree => true,
+        }
     }
 }
 
-ghost use Rattle.sk_run.specs.FindAnswers.{found_line, found_rest, hit_line, hit_rest, found_text};
+ghost use Rattle.sk_run.specs.FindAnswers.{found_line, found_rest, hit_line, hit_rest, found_text, fault_name, fault_line};
+
+fn fault_line(alloc: Global, kind: FaultKind, place: usize) -> Result<String, AllocError>
+    ensures { IfOk result (λ s. string_bytes s ≡ fault_line kind place) }
+{
+    let name = fault_name(kind);
+    format!(in alloc; "refused 9 BadQuery {name} at {place}\n")
+}
+
+fn fault_name(kind: FaultKind) -> &'static str
+    ensures { result.now ≡ fault_name kind }
+{
+    match kind {
+        FaultKind::StrayBracket => "StrayBracket",
+        FaultKind::UnclosedBracket => "UnclosedBracket",
+        FaultKind::MissingOperand => "MissingOperand",
+        FaultKind::BadNear => "BadNear",
+        FaultKind::BadRange => "BadRange",
+        FaultKind::TooDeep => "TooDeep",
+        FaultKind::TooMany => "TooMany",
+    }
+}
 
 /// The line of a report, and one line for each hit.
 fn found_lines(alloc: Global, first: u32, report: &Report) -> Result<String, AllocError>

@@ -1,4 +1,4 @@
-use Rattle.std.proofs.Common.{◌≡◌, ◌++◌, [], map, ap, sym, ◌∙◌, subst}
+use Rattle.std.proofs.Common.{◌≡◌, ◌++◌, [], map, ap, ◌∙◌, subst}
 use Rattle.sk_query.specs.Trees.{query_view}
 use Rattle.sk_grammar.specs.Runs.{is_hated, queries_of, groups_after}
 use Rattle.sk_parser.specs.Base.{leads, follows}

@@ -1,5 +1,4 @@
-use Rattle.std.proofs.Common.{◌≡◌, ◌≤◌, ◌+◌, ◌∷◌, sym, ap, ◌∙◌, drop, arith}
-use Rattle.sk_grammar.specs.Faults.{leaves_of}
+use Rattle.std.proofs.Common.{◌∷◌, sym, ap, ◌∙◌, arith}
 use Rattle.sk_parser.proofs.FaultLemmas.{next_dropped, reached_fault, reached_next, depth_step}
 use Rattle.sk_parser.proofs.faults.fault_in.Goals as goal
 

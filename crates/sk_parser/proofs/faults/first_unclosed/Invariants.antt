@@ -1,4 +1,4 @@
-use Rattle.std.proofs.Common.{◌≡◌, ◌≤◌, ℕ, length, drop, ◌+◌}
+use Rattle.std.proofs.Common.{◌≡◌, ◌≤◌, length, drop, ◌+◌}
 use Rattle.sk_grammar.specs.Faults.{kinds_of}
 use Rattle.sk_parser.specs.Before.{closers, unclosed_from}
 use Rattle.sk_parser.proofs.faults.first_unclosed.Given as goal

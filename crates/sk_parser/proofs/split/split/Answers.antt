@@ -1,4 +1,4 @@
-use Rattle.std.proofs.Common.{◌≡◌, ◌∷◌, [], sym, ap, ◌∙◌, subst}
+use Rattle.std.proofs.Common.{◌∷◌, [], sym, ap, ◌∙◌, subst}
 use Rattle.std.proofs.lemmas.List.{map-append}
 use Rattle.sk_parser.specs.Views.{part_view, parts_view, segments_view, border_test}
 use Rattle.sk_parser.proofs.SplitLemmas.{SoFar, split_in}

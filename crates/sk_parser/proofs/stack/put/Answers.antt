@@ -1,4 +1,4 @@
-use Rattle.std.proofs.Common.{◌≡◌, [], ap, ◌∙◌}
+use Rattle.std.proofs.Common.{[], ap, ◌∙◌}
 use Rattle.sk_grammar.specs.Parts.{prefix_in, part_of, with_part}
 use Rattle.sk_parser.specs.Views.{parts_behind}
 use Rattle.sk_parser.specs.Stack.{level_view, below_view}

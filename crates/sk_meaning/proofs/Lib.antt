@@ -1,0 +1,7 @@
+mod TermLemmas
+mod PieceLemmas
+mod TokenLemmas
+mod FitLemmas
+mod LeafLemmas
+mod NestLemmas
+pub mod FitLaws

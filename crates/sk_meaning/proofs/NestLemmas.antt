@@ -1,0 +1,253 @@
+-- The parts of brackets fit, and have no more leaves than their tokens.
+use Rattle.std.proofs.Common.{◌≡◌, ◌≤◌, ◌<◌, ℕ, zero, suc, pred, ◌+◌, ◌*◌, max, true, ◌&&◌, nat_le, nat_lt, List, [], ◌∷◌, length, reverse, Option, Some, None, IfSome, refl, ap, ◌∙◌, arith}
+use Rattle.std.proofs.lemmas.Bool.Decides.{nat_tests}
+use Rattle.std.proofs.lemmas.List.{length-map}
+use Rattle.std.specs.List.{list_all, slice_get}
+use Rattle.sk_base.specs.declared.schema.Field.{Field}
+use Rattle.sk_base.specs.declared.schema.FieldKind.{FieldKind}
+use Rattle.sk_base.specs.declared.find.Join.{Join}
+use Rattle.sk_base.specs.Fields.{is_field, is_kind}
+use Rattle.sk_base.specs.Terms.{prefixed}
+use Rattle.sk_query.specs.Fits.{is_given, is_slot, leaves_of as tree_leaves}
+use Rattle.sk_grammar.specs.declared.token.Kind.{Kind}
+use Rattle.sk_grammar.specs.Brackets.{Nest, single, bracket, Nests, no_nests, nest, Levels, opened, with_token, levels_of}
+use Rattle.sk_grammar.specs.Faults.{is_open, is_distance, depth_behind, leaves_of, leaves_in}
+use Rattle.sk_grammar.specs.Parts.{Part, prefix_of, prefix_in, side_by_side, slot_of, range_in, all_prefixed, part_of, chained}
+use Rattle.sk_grammar.specs.Meaning.{closed_part, nest_part, nest_parts, tree_in}
+use Rattle.sk_meaning.proofs.TermLemmas.{both_hold, first_holds, second_holds, text_prefixed, prefix_prefixed}
+use Rattle.sk_meaning.proofs.PieceLemmas.{is_filled, field_sound, kind_sound}
+use Rattle.sk_meaning.proofs.TokenLemmas.{is_linkable, IsShallow}
+use Rattle.sk_meaning.proofs.FitLemmas.{Fits, PartFits, PartsFit, part_deeper, parts_deeper, chained_fit, closed_fits, reverse_fit, parts_tree_fits}
+use Rattle.sk_meaning.proofs.LeafLemmas.{part_leaves, parts_leaves, chained_leaves, closed_leaves, reverse_leaves, parts_tree_leaves}
+
+-- A token that is as it is in a text without a fault.
+abbrev pub IsGood : List Field → Kind → Type 0
+IsGood fields k = (is_filled fields k ≡ true) × (is_linkable k ≡ true)
+
+abbrev pub AreGood : List Field → List Kind → Type 0
+AreGood fields [] = Unit {0}
+AreGood fields (k ∷ ks) = IsGood fields k × AreGood fields ks
+
+pub are_good : (fields : List Field) (ks : List Kind) → list_all (is_filled fields) ks ≡ true → list_all is_linkable ks ≡ true → AreGood fields ks
+are_good fields [] e f = tt
+are_good fields (k ∷ ks) e f = (
+  (first_holds (is_filled fields k) (list_all (is_filled fields) ks) e, first_holds (is_linkable k) (list_all is_linkable ks) f),
+  are_good fields ks (second_holds (is_filled fields k) (list_all (is_filled fields) ks) e) (second_holds (is_linkable k) (list_all is_linkable ks) f),
+)
+
+-- The terms of a token under a prefix.
+all_given : (prefix : List ℕ) (ts : List (List ℕ)) → list_all is_given ts ≡ true → list_all is_given (all_prefixed prefix ts) ≡ true
+all_given prefix [] e = refl
+all_given prefix (t ∷ ts) e =
+    both_hold (is_given (prefixed prefix t)) (list_all is_given (all_prefixed prefix ts)) (text_prefixed prefix t (first_holds (is_given t) (list_all is_given ts) e))
+    (all_given prefix ts (second_holds (is_given t) (list_all is_given ts) e))
+
+-- Words side by side.
+side_fits : (ts : List (List ℕ)) → list_all is_given ts ≡ true → Fits 1 (side_by_side ts)
+side_fits [] e = record { sound = λ few. refl; deep = omega arith }
+side_fits (t ∷ []) e = record { sound = λ few. first_holds (is_given t) true e; deep = omega arith }
+side_fits (t ∷ u ∷ ts) e = record {
+  sound = λ few. both_hold (nat_le 1 (suc (suc (length ts))) && nat_le (suc (suc (length ts))) 1048576) (nat_lt 0 (suc (suc (length ts))) && list_all is_given (t ∷ u ∷ ts)) (window (length ts) few)
+      (both_hold (nat_lt 0 (suc (suc (length ts)))) (list_all is_given (t ∷ u ∷ ts)) (grind (arith, nat_tests)) e);
+  deep = omega arith;
+}
+  where
+    window : (n : ℕ) → suc (suc n) ≤ 1024 → (nat_le 1 (suc (suc n)) && nat_le (suc (suc n)) 1048576) ≡ true
+    window n h = grind (arith, nat_tests)
+
+side_leaves : (ts : List (List ℕ)) → tree_leaves (side_by_side ts) ≡ length ts
+side_leaves [] = refl
+side_leaves (t ∷ []) = refl
+side_leaves (t ∷ u ∷ ts) = refl
+
+-- A range's slot is one of a field.
+slot_sound : (kind : FieldKind) → is_kind kind ≡ true → is_slot (slot_of kind) ≡ true
+slot_sound (FieldKind.Text prefix step) e = refl
+slot_sound (FieldKind.Filter prefix) e = refl
+slot_sound (FieldKind.Number slot) e = e
+slot_sound (FieldKind.Word slot) e = e
+
+range_fits : (o : Option Field) (text : List ℕ) → IfSome o (λ field. is_field field ≡ true) → Fits 1 (range_in o text)
+range_fits None text e = record { sound = λ few. refl; deep = omega arith }
+range_fits (Some field) text e = record { sound = λ few. slot_sound (Field.kind field) (kind_sound field e); deep = omega arith }
+
+range_leaves : (o : Option Field) (text : List ℕ) → tree_leaves (range_in o text) ≤ 1
+range_leaves None text = omega arith
+range_leaves (Some field) text = omega arith
+
+distance_within : (n : ℕ) → is_distance n ≡ true → n ≤ 10000
+distance_within n e = grind (arith, nat_tests)
+
+-- The part that a token is.
+part_fits : (fields : List Field) (around : List ℕ) (k : Kind) → list_all is_field fields ≡ true → IsGood fields k → PartFits 1 (part_of fields around k)
+part_fits fields around (Kind.Word field t) sound h = (omega arith, both_hold (is_given (prefixed (prefix_in fields around field) t)) true (text_prefixed (prefix_in fields around field) t h.0) refl)
+part_fits fields around (Kind.Wild field t) sound h = record { sound = λ few. text_prefixed (prefix_in fields around field) t h.0; deep = omega arith }
+part_fits fields around (Kind.Joined field ts) sound h = side_fits (all_prefixed (prefix_in fields around field) ts) (all_given (prefix_in fields around field) ts h.0)
+part_fits fields around (Kind.Quote field ts) sound h = side_fits (all_prefixed (prefix_in fields around field) ts) (all_given (prefix_in fields around field) ts h.0)
+part_fits fields around (Kind.Filter f text) sound h = record { sound = λ few. prefix_prefixed (prefix_of (slice_get fields f)) text h.0; deep = omega arith }
+part_fits fields around (Kind.Range f text) sound h = range_fits (slice_get fields f) text (field_sound fields f sound)
+part_fits fields around (Kind.Near n) sound h = distance_within n h.1
+part_fits fields around (Kind.Adj n) sound h = distance_within n h.1
+part_fits fields around k sound h = tt
+
+part_few : (fields : List Field) (around : List ℕ) (k : Kind) → part_leaves (part_of fields around k) ≤ leaves_of k
+part_few fields around (Kind.Word field t) = omega arith
+part_few fields around (Kind.Wild field t) = omega arith
+part_few fields around (Kind.Joined field ts) =
+    let a = side_leaves (all_prefixed (prefix_in fields around field) ts) in let b = length-map ts (prefixed (prefix_in fields around field)) in omega (arith, a, b)
+part_few fields around (Kind.Quote field ts) =
+    let a = side_leaves (all_prefixed (prefix_in fields around field) ts) in let b = length-map ts (prefixed (prefix_in fields around field)) in omega (arith, a, b)
+part_few fields around (Kind.Filter f text) = omega arith
+part_few fields around (Kind.Range f text) = range_leaves (slice_get fields f) text
+part_few fields around k = omega arith
+
+-- What brackets hold.
+abbrev mutual
+  NestGood : List Field → Nest → Type 0
+  NestGood fields (single k) = IsGood fields k
+  NestGood fields (bracket field ns) = NestsGood fields ns
+
+  NestsGood : List Field → Nests → Type 0
+  NestsGood fields no_nests = Unit {0}
+  NestsGood fields (nest n ns) = NestGood fields n × NestsGood fields ns
+
+abbrev mutual
+  nest_leaves : Nest → ℕ
+  nest_leaves (single k) = leaves_of k
+  nest_leaves (bracket field ns) = nests_leaves ns
+
+  nests_leaves : Nests → ℕ
+  nests_leaves no_nests = 0
+  nests_leaves (nest n ns) = nest_leaves n + nests_leaves ns
+
+-- How many brackets stand one inside another.
+abbrev mutual
+  nest_depth : Nest → ℕ
+  nest_depth (single k) = 0
+  nest_depth (bracket field ns) = suc (nests_depth ns)
+
+  nests_depth : Nests → ℕ
+  nests_depth no_nests = 0
+  nests_depth (nest n ns) = max (nest_depth n) (nests_depth ns)
+
+mutual
+  nest_fits : (fields : List Field) (join : Join) (around : List ℕ) (n : Nest) → list_all is_field fields ≡ true → NestGood fields n
+      → PartFits (1 + 8 * nest_depth n) (nest_part fields join around n)
+  nest_fits fields join around (single k) sound h = part_fits fields around k sound h
+  nest_fits fields join around (bracket field ns) sound h =
+      part_deeper (1 + 8 * nests_depth ns + 8) (1 + 8 * suc (nests_depth ns)) (closed_part join (chained [] (nest_parts fields join (prefix_in fields around field) ns))) (omega arith)
+      (closed_fits (1 + 8 * nests_depth ns) join (chained [] (nest_parts fields join (prefix_in fields around field) ns)) (omega arith)
+      (chained_fit (1 + 8 * nests_depth ns) [] (nest_parts fields join (prefix_in fields around field) ns) tt (nests_fit fields join (prefix_in fields around field) ns sound h)))
+
+  nests_fit : (fields : List Field) (join : Join) (around : List ℕ) (ns : Nests) → list_all is_field fields ≡ true → NestsGood fields ns
+      → PartsFit (1 + 8 * nests_depth ns) (nest_parts fields join around ns)
+  nests_fit fields join around no_nests sound h = tt
+  nests_fit fields join around (nest n ns) sound h = (
+    part_deeper (1 + 8 * nest_depth n) (1 + 8 * max (nest_depth n) (nests_depth ns)) (nest_part fields join around n) (omega arith) (nest_fits fields join around n sound h.0),
+    parts_deeper (1 + 8 * nests_depth ns) (1 + 8 * max (nest_depth n) (nests_depth ns)) (nest_parts fields join around ns) (omega arith) (nests_fit fields join around ns sound h.1),
+  )
+
+mutual
+  nest_few : (fields : List Field) (join : Join) (around : List ℕ) (n : Nest) → part_leaves (nest_part fields join around n) ≤ nest_leaves n
+  nest_few fields join around (single k) = part_few fields around k
+  nest_few fields join around (bracket field ns) =
+      let a = closed_leaves join (chained [] (nest_parts fields join (prefix_in fields around field) ns)) in
+      let b = chained_leaves [] (nest_parts fields join (prefix_in fields around field) ns) in
+      let c = nests_few fields join (prefix_in fields around field) ns in
+      omega (arith, a, b, c)
+
+  nests_few : (fields : List Field) (join : Join) (around : List ℕ) (ns : Nests) → parts_leaves (nest_parts fields join around ns) ≤ nests_leaves ns
+  nests_few fields join around no_nests = omega arith
+  nests_few fields join around (nest n ns) = let a = nest_few fields join around n in let b = nests_few fields join around ns in omega (arith, a, b)
+
+-- What stands behind a place: no bracket there stands inside more than 100, where so many are open before it.
+abbrev BehindShallow : ℕ → List Nests → Type 0
+BehindShallow depth [] = Unit {0}
+BehindShallow depth (next ∷ more) = (pred depth + nests_depth next ≤ 100) × BehindShallow (pred depth) more
+
+record LevelsShallow (depth : ℕ) (behind : Levels) : Type 0 where
+  here : depth + nests_depth (Levels.here behind) ≤ 100
+  outside : BehindShallow depth (Levels.outside behind)
+
+opened_shallow : (depth : ℕ) (field : Option ℕ) (here : Nests) (outside : List Nests) → suc depth + nests_depth here ≤ 100 → BehindShallow (suc depth) outside → LevelsShallow depth (opened field here outside)
+opened_shallow depth field here [] h f = record { here = omega arith; outside = tt }
+opened_shallow depth field here (next ∷ more) h f = let first = f.0 in record { here = omega arith; outside = f.1 }
+
+token_shallow : (depth : ℕ) (k : Kind) (behind : Levels) → depth ≤ 100 → LevelsShallow (depth_behind depth k) behind → LevelsShallow depth (with_token k behind)
+token_shallow depth (Kind.Open field) behind h f = opened_shallow depth field (Levels.here behind) (Levels.outside behind) f.here f.outside
+token_shallow depth Kind.Close behind h f = record { here = omega arith; outside = (f.here, f.outside) }
+token_shallow depth k behind h f = record { here = let deep = f.here in omega arith; outside = f.outside }
+
+step_within : (depth : ℕ) (k : Kind) → depth ≤ 100 → (is_open k ≡ true → depth < 100) → depth_behind depth k ≤ 100
+step_within depth (Kind.Open field) h f = let more = f refl in omega arith
+step_within zero Kind.Close h f = h
+step_within (suc depth) Kind.Close h f = omega arith
+step_within depth k h f = h
+
+levels_shallow : (ks : List Kind) (depth : ℕ) → depth ≤ 100 → IsShallow depth ks → LevelsShallow depth (levels_of ks)
+levels_shallow [] depth h f = record { here = omega arith; outside = tt }
+levels_shallow (k ∷ ks) depth h f = token_shallow depth k (levels_of ks) h (levels_shallow ks (depth_behind depth k) (step_within depth k h f.0) f.1)
+
+-- The tokens behind a place, by their brackets.
+abbrev AllNestsGood : List Field → List Nests → Type 0
+AllNestsGood fields [] = Unit {0}
+AllNestsGood fields (ns ∷ more) = NestsGood fields ns × AllNestsGood fields more
+
+record LevelsGood (fields : List Field) (behind : Levels) : Type 0 where
+  here : NestsGood fields (Levels.here behind)
+  outside : AllNestsGood fields (Levels.outside behind)
+
+opened_good : (fields : List Field) (field : Option ℕ) (here : Nests) (outside : List Nests) → NestsGood fields here → AllNestsGood fields outside → LevelsGood fields (opened field here outside)
+opened_good fields field here [] f g = record { here = (f, tt); outside = tt }
+opened_good fields field here (next ∷ more) f g = record { here = (f, g.0); outside = g.1 }
+
+token_good : (fields : List Field) (k : Kind) (behind : Levels) → IsGood fields k → LevelsGood fields behind → LevelsGood fields (with_token k behind)
+token_good fields (Kind.Open field) behind h f = opened_good fields field (Levels.here behind) (Levels.outside behind) f.here f.outside
+token_good fields Kind.Close behind h f = record { here = tt; outside = (f.here, f.outside) }
+token_good fields k behind h f = record { here = (h, f.here); outside = f.outside }
+
+levels_good : (fields : List Field) (ks : List Kind) → AreGood fields ks → LevelsGood fields (levels_of ks)
+levels_good fields [] h = record { here = tt; outside = tt }
+levels_good fields (k ∷ ks) h = token_good fields k (levels_of ks) h.0 (levels_good fields ks h.1)
+
+abbrev outside_leaves : List Nests → ℕ
+outside_leaves [] = 0
+outside_leaves (ns ∷ more) = nests_leaves ns + outside_leaves more
+
+abbrev levels_leaves : Levels → ℕ
+levels_leaves behind = nests_leaves (Levels.here behind) + outside_leaves (Levels.outside behind)
+
+opened_leaves : (field : Option ℕ) (here : Nests) (outside : List Nests) → levels_leaves (opened field here outside) ≡ nests_leaves here + outside_leaves outside
+opened_leaves field here [] = omega arith
+opened_leaves field here (next ∷ more) = omega arith
+
+token_leaves : (k : Kind) (behind : Levels) → levels_leaves (with_token k behind) ≡ leaves_of k + levels_leaves behind
+token_leaves (Kind.Open field) behind = opened_leaves field (Levels.here behind) (Levels.outside behind) ∙ omega arith
+token_leaves Kind.Close behind = omega arith
+token_leaves k behind = omega arith
+
+all_leaves : (ks : List Kind) → levels_leaves (levels_of ks) ≡ leaves_in ks
+all_leaves [] = refl
+all_leaves (k ∷ ks) = token_leaves k (levels_of ks) ∙ ap (λ n. leaves_of k + n) (all_leaves ks)
+
+-- The query of tokens.
+pub tree_in_fits : (fields : List Field) (join : Join) (ks : List Kind) → list_all is_field fields ≡ true → AreGood fields ks → IsShallow 0 ks → Fits 809 (tree_in fields join ks)
+tree_in_fits fields join ks sound good shallow =
+    let here : Nests = Levels.here (levels_of ks) in
+    let deep : 0 + nests_depth here ≤ 100 = (levels_shallow ks 0 (omega arith) shallow).here in
+    let made : PartsFit (1 + 8 * nests_depth here) (nest_parts fields join [] here) = nests_fit fields join [] here sound (levels_good fields ks good).here in
+    let turned : PartsFit 801 (reverse (chained [] (nest_parts fields join [] here))) =
+    reverse_fit 801 (chained [] (nest_parts fields join [] here))
+    (chained_fit 801 [] (nest_parts fields join [] here) tt (parts_deeper (1 + 8 * nests_depth here) 801 (nest_parts fields join [] here) (omega arith) made)) in
+    parts_tree_fits 801 join (reverse (chained [] (nest_parts fields join [] here))) (omega arith) turned
+
+pub tree_in_leaves : (fields : List Field) (join : Join) (ks : List Kind) → tree_leaves (tree_in fields join ks) ≤ leaves_in ks
+tree_in_leaves fields join ks =
+    let here : Nests = Levels.here (levels_of ks) in
+    let parts : List Part = nest_parts fields join [] here in
+    let a = parts_tree_leaves join (reverse (chained [] parts)) in
+    let b = reverse_leaves (chained [] parts) in
+    let c = chained_leaves [] parts in
+    let d = nests_few fields join [] here in
+    let e = all_leaves ks in
+    omega (arith, a, b, c, d, e)

@@ -1,0 +1,6 @@
+//! Laws of what a query text means.
+#![tactic(auto)]
+
+mod fitting;
+
+pub use fitting::meant_fits;

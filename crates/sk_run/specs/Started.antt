@@ -1,0 +1,39 @@
+-- What a program does from its arguments to the number that it ends with.
+use Rattle.std.specs.Prelude.{◌≡◌, ℕ, Bool, List, Option, Result, Ok, Err, map, drop, string_bytes}
+use Rattle.std.proofs.Common.{String, Global, Vec}
+use Rattle.sk_run.specs.declared.status.Status.{Status}
+use Rattle.sk_run.specs.Statuses.{code_of}
+use Rattle.sk_run.specs.Conclusions.{Says}
+use Rattle.sk_run.specs.Ended.{Outside}
+
+-- What a program's run sees of the outside, but for its counter, which begins at 0.
+pub record Around : Type 0 where
+  pub left : Option (List ℕ)
+  pub read_faults : ℕ
+  pub held : Option (List ℕ)
+  pub write_faults : ℕ
+  pub settled : Bool
+  pub finishes : ℕ
+
+-- The same, with the counter.
+abbrev pub outside : Around → ℕ → Outside
+outside a steps = record { left = a.left; read_faults = a.read_faults; held = a.held; write_faults = a.write_faults; settled = a.settled; finishes = a.finishes; steps = steps }
+
+-- For runs that do so, by their words, their status, and the outside before and after.
+module _ (Runs : List (List ℕ) → Status → Outside → Outside → Type 0) where
+  -- What a run did whose arguments were read, or not: behind the first of them stand its words. Where they were not, nothing happened.
+  abbrev pub RanBy : Result (Vec (String Global) Global) Status → Status → Outside → Outside → Type 0
+  RanBy (Ok arguments) status before after = Runs (map string_bytes (drop 1 arguments.items)) status before after
+  RanBy (Err why) status before after = (status ≡ why) × (after ≡ before)
+
+  -- The run did so, from a counter at 0 on.
+  pub record RanFrom (arguments : Result (Vec (String Global) Global) Status) (status : Status) (before after : Around) : Type 0 where
+    pub steps : ℕ
+    pub ran : RanBy arguments status (outside before 0) (outside after steps)
+
+  -- The run ended with a status, whose number is the code, and whose message is what was said.
+  pub record Started (usage : List ℕ) (arguments : Result (Vec (String Global) Global) Status) (code : ℕ) (before after : Around) (said_before : Option (List ℕ)) (faults_before : ℕ) (said_after : Option (List ℕ)) (faults_after : ℕ) : Type 0 where
+    pub status : Status
+    pub number : code ≡ code_of status
+    pub says : Says usage status said_before faults_before said_after faults_after
+    pub ran : RanFrom arguments status before after
