@@ -2,3 +2,4 @@ mod Pieces
 mod LineEnds
 mod Behind
 mod Stream
+mod MemoryExamples

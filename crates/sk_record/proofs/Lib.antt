@@ -5,3 +5,8 @@ mod ByteLemmas
 mod EntryLemmas
 mod ShapeLemmas
 mod CommandLemmas
+mod ExampleLines
+mod SchemaExamples
+mod RecordExamples
+mod FindExamples
+mod LimitExamples

@@ -2,8 +2,8 @@
 #![tactic(auto)]
 
 mod fault;
-mod json;
 mod judge;
+mod line;
 mod options;
 mod reader;
 mod row;

@@ -6,8 +6,8 @@ ghost use Rattle.sk_record.specs.Lines.{line_value};
 ghost use Rattle.sk_record.specs.Outcome.{outcome, value_outcome, ReadsAs, MayCome};
 
 use crate::LineFault;
-use crate::json::line_value;
 use crate::judge::command_of;
+use crate::line::line_value;
 use crate::rows::later_row;
 use crate::schema::schema_row;
 use serde_json::Value;

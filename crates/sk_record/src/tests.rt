@@ -1,19 +1,25 @@
-//! What lines give, shown on one line.
-mod finds;
-mod limits;
-mod records;
-mod schemas;
+//! Each form of line is read where there is memory. What it gives, the values in `proofs/` compute.
+use crate::command;
+use sk_base::{Command, Schema};
+use std::alloc::Global;
+use std::test::Fail;
 
-use crate::{LineFault, command};
-use sk_base::{Ask, Command, Edit, FieldKind, FieldValue, Find, Record, Schema};
-use std::alloc::{AllocError, Global};
-
-/// The schema of most lines.
+/// A field of each kind.
 const SCHEMA: &str = concat!(
     r#"{"schema":[{"name":"body","kind":"text"},{"name":"lang","kind":"filter","prefix":"L"},"#,
-    r#"{"name":"year","kind":"number","slot":0},{"name":"site","kind":"word","slot":1},"#,
-    r#"{"name":"cat","kind":"filter","prefix":"XCAT"}]}"#
+    r#"{"name":"year","kind":"number","slot":0},{"name":"site","kind":"word","slot":1}]}"#
 );
+
+/// A line of each form.
+const LINES: &str =
+    r#"{"add":{"body":"red fox","lang":["en","fr"],"year":1990,"site":"a"},"data":"one"}
+{"replace":1,"with":{"body":"red"},"data":"two"}
+{"replace_by":["lang","en"],"with":{"lang":"fr"}}
+{"delete":1}
+{"delete_by":["lang","fr"]}
+{"find":"red","op":"and","order":"value","by":"year","reverse":true,"collapse":"site","max":2}
+{"tree":{"and":[{"term":"red"},{"term":"Len"}]},"scheme":"bool","first":1,"size":2,"check":3}
+{"show":"red fox"}"#;
 
 fn schema_of(alloc: Global, line: &str) -> Option<Schema> {
     match command(alloc, line.as_bytes(), None) {
@@ -22,127 +28,15 @@ fn schema_of(alloc: Global, line: &str) -> Option<Schema> {
     }
 }
 
-/// What a line gives, on one line.
-fn given(alloc: Global, line: &[u8], schema: Option<&Schema>) -> Result<String, AllocError> {
-    match command(alloc, line, schema) {
-        Ok(Command::Schema(schema)) => shown_schema(alloc, &schema),
-        Ok(Command::Edit(edit)) => shown_edit(alloc, &edit),
-        Ok(Command::Find(find)) => shown_find(alloc, &find),
-        Ok(Command::Show(text, join)) => {
-            let text = text.as_str();
-            format!(in alloc; "show <{text}> {join:?}")
-        }
-        Err(fault) => format!(in alloc; "{fault:?}"),
+#[test]
+fn each_form_is_read(rt: HostRuntime) -> Result<(), Fail> {
+    let alloc = rt.alloc();
+    let schema = schema_of(alloc, SCHEMA).ok_or("no schema")?;
+    for line in LINES.lines() {
+        assert!(rt;
+            command(alloc, line.as_bytes(), Some(&schema)).is_ok(),
+            "of {line}"
+        );
     }
-}
-
-fn shown_schema(alloc: Global, schema: &Schema) -> Result<String, AllocError> {
-    let mut line = String::from_str(alloc, "schema")?;
-    for field in schema.fields() {
-        let name = field.name.as_str();
-        let kind = shown_kind(alloc, &field.kind)?;
-        let kind = kind.as_str();
-        let piece = format!(in alloc; " {name}={kind}")?;
-        line.push_str(piece.as_str())?;
-    }
-    Ok(line)
-}
-
-fn shown_kind(alloc: Global, kind: &FieldKind) -> Result<String, AllocError> {
-    match kind {
-        FieldKind::Text(prefix, step) => {
-            let prefix = prefix.as_str();
-            format!(in alloc; "text({prefix},{step})")
-        }
-        FieldKind::Filter(prefix) => {
-            let prefix = prefix.as_str();
-            format!(in alloc; "filter({prefix})")
-        }
-        FieldKind::Number(slot) => format!(in alloc; "number({slot})"),
-        FieldKind::Word(slot) => format!(in alloc; "word({slot})"),
-    }
-}
-
-fn shown_edit(alloc: Global, edit: &Edit) -> Result<String, AllocError> {
-    match edit {
-        Edit::Add(record) => shown_record(alloc, "add", record),
-        Edit::Replace(id, record) => {
-            let head = format!(in alloc; "replace {id}")?;
-            shown_record(alloc, head.as_str(), record)
-        }
-        Edit::ReplaceBy(term, record) => {
-            let term = term.as_str();
-            let head = format!(in alloc; "replace <{term}>")?;
-            shown_record(alloc, head.as_str(), record)
-        }
-        Edit::Delete(id) => format!(in alloc; "delete {id}"),
-        Edit::DeleteBy(term) => {
-            let term = term.as_str();
-            format!(in alloc; "delete <{term}>")
-        }
-    }
-}
-
-fn shown_record(alloc: Global, head: &str, record: &Record) -> Result<String, AllocError> {
-    let mut line = String::from_str(alloc, head)?;
-    for entry in record.values.as_slice() {
-        let field = entry.field;
-        let value = shown_value(alloc, &entry.value)?;
-        let value = value.as_str();
-        let piece = format!(in alloc; " {field}={value}")?;
-        line.push_str(piece.as_str())?;
-    }
-    let payload = record.payload.as_str();
-    let piece = format!(in alloc; " data({payload})")?;
-    line.push_str(piece.as_str())?;
-    Ok(line)
-}
-
-fn shown_value(alloc: Global, value: &FieldValue) -> Result<String, AllocError> {
-    match value {
-        FieldValue::Text(text) => {
-            let text = text.as_str();
-            format!(in alloc; "text<{text}>")
-        }
-        FieldValue::Filter(texts) => {
-            let mut line = String::from_str(alloc, "filter")?;
-            for text in texts.as_slice() {
-                let text = text.as_str();
-                let piece = format!(in alloc; "<{text}>")?;
-                line.push_str(piece.as_str())?;
-            }
-            Ok(line)
-        }
-        FieldValue::Number(n) => format!(in alloc; "number<{n}>"),
-        FieldValue::Word(text) => {
-            let text = text.as_str();
-            format!(in alloc; "word<{text}>")
-        }
-    }
-}
-
-fn shown_find(alloc: Global, find: &Find) -> Result<String, AllocError> {
-    let ask = shown_ask(alloc, &find.ask)?;
-    let ask = ask.as_str();
-    let scheme = find.options.scheme;
-    let first = find.options.first;
-    let size = find.options.size;
-    let check = find.options.check;
-    let order = find.order;
-    let collapse = find.collapse;
-    format!(in alloc; "find {ask} {scheme:?} {first}+{size} check {check} {order:?} {collapse:?}")
-}
-
-fn shown_ask(alloc: Global, ask: &Ask) -> Result<String, AllocError> {
-    match ask {
-        Ask::Text(text, join) => {
-            let text = text.as_str();
-            format!(in alloc; "<{text}> {join:?}")
-        }
-        Ask::Tree(value) => {
-            let text = value.to_string(alloc)?;
-            let text = text.as_str();
-            format!(in alloc; "tree {text}")
-        }
-    }
+    Ok(())
 }

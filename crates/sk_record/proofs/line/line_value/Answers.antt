@@ -1,6 +1,6 @@
 use Rattle.std.proofs.Common.{sym, ◌∙◌, true≢false}
 use Rattle.sk_record.proofs.LineLemmas.{value_read, no_value}
-use Rattle.sk_record.proofs.json.line_value.Goals as goal
+use Rattle.sk_record.proofs.line.line_value.Goals as goal
 
 pub returns-in-Ok-clause-ok : goal.returns-in-Ok-clause-ok
 returns-in-Ok-clause-ok c = value_read _ _ c.in-Ok.ensures.ok.0 c.in-Ok.ensures.ok.1

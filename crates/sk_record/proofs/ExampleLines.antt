@@ -1,0 +1,129 @@
+-- How examples of lines are written.
+use Rattle.std.proofs.Common.{◌≡◌, ℕ, ◌==◌, cond, Bool, ◌∷◌, [], List, Option, Some, None, Result, Ok, Err, map, codes}
+use Rattle.std.specs.Str.{is_utf8, chars}
+use Rattle.std.specs.Float.{float_is_finite}
+use Rattle.std.specs.Float.Numeral.{scan_numeral}
+use lib.Utf8.{encode}
+use lib.Ieee.{span, climb, size, odd, units, round}
+use Rattle.json.specs.Lex.{lex, punctuate}
+use Rattle.json.specs.Json.{items, members, value}
+use Rattle.json.specs.Text.{content, short_escape, code_unit}
+use Rattle.json.specs.Word.{word, after_number}
+use Rattle.serde_json.specs.Data.{Data, null}
+use Rattle.serde_json.specs.Read.{number_of}
+use Rattle.sk_base.specs.declared.find.Collapse.{Collapse}
+use Rattle.sk_base.specs.declared.find.Options.{Options}
+use Rattle.sk_base.specs.declared.find.Scheme.{Scheme}
+use Rattle.sk_base.specs.declared.find.Join.{Join}
+use Rattle.sk_base.specs.declared.rank.Order.{Order}
+use Rattle.sk_base.specs.declared.rank.SortKey.{SortKey}
+use Rattle.sk_base.specs.declared.record.Edit.{Edit}
+use Rattle.sk_base.specs.declared.record.Entry.{Entry}
+use Rattle.sk_base.specs.declared.record.FieldValue.{FieldValue}
+use Rattle.sk_base.specs.declared.schema.Field.{Field}
+use Rattle.sk_base.specs.declared.schema.FieldKind.{FieldKind}
+use Rattle.sk_record.specs.declared.fault.LineFault.{LineFault}
+use Rattle.sk_record.specs.Lines.{line_value}
+use Rattle.sk_record.specs.Outcome.{outcome}
+use Rattle.sk_record.specs.Shapes.{Asked, tree}
+use Rattle.sk_record.specs.Told.{Told, opens, edits, finds, shows}
+
+-- What is unfolded to read a line.
+unfoldable pub on_lines : Unit {0}
+unfolding is_utf8 chars encode lex punctuate items members value content short_escape code_unit word after_number number_of scan_numeral float_is_finite span climb size odd units round
+on_lines = tt
+
+-- The line, with a " for each '.
+abbrev pub quoted : List ℕ → List ℕ
+quoted text = map (λ x. cond (x == 39) 34 x) text
+
+-- A line, and what it gives.
+pub record Row : Type 0 where
+  pub line : List ℕ
+  pub told : Result Told LineFault
+
+-- The line of this text gives this.
+abbrev pub row : List ℕ → Result Told LineFault → Row
+row text told = record { line = quoted text; told = told }
+
+-- Under these fields, the lines give what stands beside them.
+abbrev pub AreGiven : Option (List Field) → List Row → Type 0
+AreGiven schema rows = map (λ (one : Row). outcome schema (line_value one.line)) rows ≡ map Row.told rows
+
+-- ---- what a line gives
+
+abbrev pub not_json : Result Told LineFault
+not_json = Err LineFault.NotJson
+
+abbrev pub no_schema : Result Told LineFault
+no_schema = Err LineFault.NoSchema
+
+abbrev pub schema_again : Result Told LineFault
+schema_again = Err LineFault.SchemaAgain
+
+abbrev pub bad_shape : Result Told LineFault
+bad_shape = Err LineFault.BadShape
+
+abbrev pub bad_field : Result Told LineFault
+bad_field = Err LineFault.BadField
+
+-- a schema
+abbrev pub field : List ℕ → FieldKind → Field
+field name kind = record { name = name; kind = kind }
+
+abbrev pub opened : List Field → Result Told LineFault
+opened fields = Ok (opens fields)
+
+-- an edit
+abbrev pub entry : ℕ → FieldValue → Entry
+entry place value = record { field = place; value = value }
+
+abbrev pub added : List Entry → List ℕ → Result Told LineFault
+added values payload = Ok (edits (Edit.Add (record { values = values; payload = payload })))
+
+abbrev pub replaced : ℕ → List Entry → List ℕ → Result Told LineFault
+replaced id values payload = Ok (edits (Edit.Replace id (record { values = values; payload = payload })))
+
+abbrev pub replaced_by : List ℕ → List Entry → List ℕ → Result Told LineFault
+replaced_by term values payload = Ok (edits (Edit.ReplaceBy term (record { values = values; payload = payload })))
+
+abbrev pub deleted : ℕ → Result Told LineFault
+deleted id = Ok (edits (Edit.Delete id))
+
+abbrev pub deleted_by : List ℕ → Result Told LineFault
+deleted_by term = Ok (edits (Edit.DeleteBy term))
+
+-- a find
+abbrev pub plain : Options
+plain = record { scheme = Scheme.Nnn; first = 0; size = 10; check = 0 }
+
+abbrev pub key : ℕ → Bool → SortKey
+key slot reverse = record { slot = slot; reverse = reverse }
+
+abbrev pub collapsed_on : ℕ → ℕ → Option Collapse
+collapsed_on slot max = Some (record { slot = slot; max = max })
+
+abbrev tree_from : Option Data → Data
+tree_from None = null
+tree_from (Some d) = d
+
+-- the tree that is read from this text
+abbrev pub tree_of : List ℕ → Asked
+tree_of text = tree (tree_from (line_value (quoted text)))
+
+abbrev pub sought : Asked → Options → Order → Option Collapse → Result Told LineFault
+sought asked options order collapse = Ok (finds (record { asked = asked; options = options; order = order; collapse = collapse }))
+
+-- a find with every option as it is where nothing is said
+abbrev pub found : Asked → Result Told LineFault
+found asked = sought asked plain Order.Relevance None
+
+abbrev pub shown : List ℕ → Join → Result Told LineFault
+shown text join = Ok (shows text join)
+
+-- ---- the schema of most lines
+
+abbrev pub fields : List Field
+fields =
+    field (codes "body") (FieldKind.Text [] 1) ∷ field (codes "lang") (FieldKind.Filter (codes "L")) ∷ field (codes "year") (FieldKind.Number 0)
+    ∷ field (codes "site") (FieldKind.Word 1) ∷ field (codes "cat") (FieldKind.Filter (codes "XCAT")) ∷ []

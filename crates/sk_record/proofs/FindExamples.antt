@@ -1,0 +1,145 @@
+-- Lines that ask, and what they give, worked out by hand from the rules. A ' stands for a ".
+use Rattle.std.proofs.Common.{◌∷◌, [], refl, Some, None, codes, true, false}
+use Rattle.sk_base.specs.declared.find.Join.{Join}
+use Rattle.sk_base.specs.declared.find.Scheme.{Scheme}
+use Rattle.sk_base.specs.declared.rank.Order.{Order}
+use Rattle.sk_record.specs.Shapes.{words}
+use Rattle.sk_record.proofs.ExampleLines.{on_lines, AreGiven, row, fields, plain, key, collapsed_on, tree_of, found, sought, shown, bad_shape, bad_field}
+
+-- A text, and how its words are joined.
+texts : AreGiven (Some fields) (
+    row (codes "{'find':'red'}") (found (words (codes "red") Join.Or)) ∷
+    row (codes "{'find':''}") (found (words [] Join.Or)) ∷
+    row (codes "{'find':7}") bad_shape ∷
+    row (codes "{'find':null}") bad_shape ∷
+    row (codes "{'find':['red']}") bad_shape ∷
+    row (codes "{'find':'a','op':'or'}") (found (words (codes "a") Join.Or)) ∷
+    row (codes "{'find':'a','op':'and'}") (found (words (codes "a") Join.And)) ∷
+    row (codes "{'find':'a','op':'xor'}") bad_shape ∷
+    row (codes "{'find':'a','op':'AND'}") bad_shape ∷
+    row (codes "{'find':'a','op':null}") bad_shape ∷
+    row (codes "{'find':'a','limit':1}") bad_shape ∷
+    row (codes "{'find':'a','data':'x'}") bad_shape ∷
+    row (codes "{'find':'a','show':'a'}") bad_shape ∷
+    [])
+unfolding on_lines
+texts = refl
+
+-- A scheme.
+schemes : AreGiven (Some fields) (
+    row (codes "{'find':'a','scheme':'bool'}") (sought (words (codes "a") Join.Or) (record plain { scheme = Scheme.Bool }) Order.Relevance None) ∷
+    row (codes "{'find':'a','scheme':'coord'}") (sought (words (codes "a") Join.Or) (record plain { scheme = Scheme.Coord }) Order.Relevance None) ∷
+    row (codes "{'find':'a','scheme':'nnn'}") (found (words (codes "a") Join.Or)) ∷
+    row (codes "{'find':'a','scheme':'tfn'}") bad_shape ∷
+    row (codes "{'find':'a','scheme':7}") bad_shape ∷
+    row (codes "{'find':'a','scheme':null}") bad_shape ∷
+    [])
+unfolding on_lines
+schemes = refl
+
+-- A page ends within 100,000.
+pages : AreGiven (Some fields) (
+    row (codes "{'find':'a','first':99990}") (sought (words (codes "a") Join.Or) (record plain { first = 99990 }) Order.Relevance None) ∷
+    row (codes "{'find':'a','first':99991}") bad_shape ∷
+    row (codes "{'find':'a','size':100000}") (sought (words (codes "a") Join.Or) (record plain { size = 100000 }) Order.Relevance None) ∷
+    row (codes "{'find':'a','size':100001}") bad_shape ∷
+    row (codes "{'find':'a','size':0}") (sought (words (codes "a") Join.Or) (record plain { size = 0 }) Order.Relevance None) ∷
+    row (codes "{'find':'a','first':100000,'size':0}") (sought (words (codes "a") Join.Or) (record plain { first = 100000; size = 0 }) Order.Relevance None) ∷
+    row (codes "{'find':'a','first':100000,'size':1}") bad_shape ∷
+    row (codes "{'find':'a','first':100001,'size':0}") bad_shape ∷
+    row (codes "{'find':'a','first':18446744073709551615,'size':1}") bad_shape ∷
+    row (codes "{'find':'a','first':18446744073709551615,'size':18446744073709551615}") bad_shape ∷
+    row (codes "{'find':'a','first':4294967296,'size':0}") bad_shape ∷
+    row (codes "{'find':'a','first':1.0}") bad_shape ∷
+    row (codes "{'find':'a','first':-0}") bad_shape ∷
+    row (codes "{'find':'a','size':1e2}") bad_shape ∷
+    row (codes "{'find':'a','size':-1}") bad_shape ∷
+    row (codes "{'find':'a','first':'0'}") bad_shape ∷
+    row (codes "{'find':'a','first':null}") bad_shape ∷
+    row (codes "{'find':'a','size':18446744073709551616}") bad_shape ∷
+    [])
+unfolding on_lines
+pages = refl
+
+-- How many matches are counted.
+checks : AreGiven (Some fields) (
+    row (codes "{'find':'a','check':4294967295}") (sought (words (codes "a") Join.Or) (record plain { check = 4294967295 }) Order.Relevance None) ∷
+    row (codes "{'find':'a','check':4294967296}") bad_shape ∷
+    row (codes "{'find':'a','check':1e2}") bad_shape ∷
+    row (codes "{'find':'a','check':true}") bad_shape ∷
+    [])
+unfolding on_lines
+checks = refl
+
+-- An order, and the field that it is by.
+orders : AreGiven (Some fields) (
+    row (codes "{'find':'a','order':'relevance'}") (found (words (codes "a") Join.Or)) ∷
+    row (codes "{'find':'a','order':'relevance','by':'year'}") bad_shape ∷
+    row (codes "{'find':'a','order':'relevance','reverse':false}") bad_shape ∷
+    row (codes "{'find':'a','by':'year'}") bad_shape ∷
+    row (codes "{'find':'a','reverse':true}") bad_shape ∷
+    row (codes "{'find':'a','reverse':false}") bad_shape ∷
+    row (codes "{'find':'a','order':'value'}") bad_shape ∷
+    row (codes "{'find':'a','order':'value','reverse':true}") bad_shape ∷
+    row (codes "{'find':'a','order':'year','by':'year'}") bad_shape ∷
+    row (codes "{'find':'a','order':null,'by':'year'}") bad_shape ∷
+    row (codes "{'find':'a','order':'value','by':'year'}") (sought (words (codes "a") Join.Or) plain (Order.Value (key 0 false)) None) ∷
+    row (codes "{'find':'a','order':'value_relevance','by':'site','reverse':true}") (sought (words (codes "a") Join.Or) plain (Order.ValueThenRelevance (key 1 true)) None) ∷
+    row (codes "{'find':'a','order':'relevance_value','by':'site','reverse':false}") (sought (words (codes "a") Join.Or) plain (Order.RelevanceThenValue (key 1 false)) None) ∷
+    row (codes "{'find':'a','order':'value','by':'year','reverse':null}") bad_shape ∷
+    row (codes "{'find':'a','order':'value','by':'year','reverse':1}") bad_shape ∷
+    row (codes "{'find':'a','order':'value','by':null}") bad_shape ∷
+    row (codes "{'find':'a','order':'value','by':0}") bad_shape ∷
+    row (codes "{'find':'a','order':'value','by':'body'}") bad_field ∷
+    row (codes "{'find':'a','order':'value','by':'lang'}") bad_field ∷
+    row (codes "{'find':'a','order':'value','by':'nope'}") bad_field ∷
+    row (codes "{'find':'a','order':'value','by':'nope','first':-1}") bad_shape ∷
+    [])
+unfolding on_lines
+orders = refl
+
+-- A field that is collapsed on, and how many are kept.
+collapses : AreGiven (Some fields) (
+    row (codes "{'find':'a','collapse':'site'}") (sought (words (codes "a") Join.Or) plain Order.Relevance (collapsed_on 1 1)) ∷
+    row (codes "{'find':'a','collapse':'year','max':100000}") (sought (words (codes "a") Join.Or) plain Order.Relevance (collapsed_on 0 100000)) ∷
+    row (codes "{'find':'a','collapse':'site','max':0}") bad_shape ∷
+    row (codes "{'find':'a','collapse':'site','max':100001}") bad_shape ∷
+    row (codes "{'find':'a','collapse':'site','max':1.0}") bad_shape ∷
+    row (codes "{'find':'a','collapse':'site','max':null}") bad_shape ∷
+    row (codes "{'find':'a','max':2}") bad_shape ∷
+    row (codes "{'find':'a','max':1}") bad_shape ∷
+    row (codes "{'find':'a','collapse':null}") bad_shape ∷
+    row (codes "{'find':'a','collapse':7}") bad_shape ∷
+    row (codes "{'find':'a','collapse':'cat'}") bad_field ∷
+    row (codes "{'find':'a','collapse':'nope'}") bad_field ∷
+    row (codes "{'find':'a','collapse':'nope','max':0}") bad_shape ∷
+    [])
+unfolding on_lines
+collapses = refl
+
+-- A tree is any value.
+trees : AreGiven (Some fields) (
+    row (codes "{'tree':null}") (found (tree_of (codes "null"))) ∷
+    row (codes "{'tree':{'b':[1,'x'],'a':-0}}") (found (tree_of (codes "{'a':-0.0,'b':[1,'x']}"))) ∷
+    row (codes "{'tree':7,'scheme':'bool','first':1,'size':2,'check':3}") (sought (tree_of (codes "7")) (record plain { scheme = Scheme.Bool; first = 1; size = 2; check = 3 }) Order.Relevance None) ∷
+    row (codes "{'tree':[],'order':'value','by':'year','collapse':'site','max':2}") (sought (tree_of (codes "[]")) plain (Order.Value (key 0 false)) (collapsed_on 1 2)) ∷
+    row (codes "{'tree':null,'op':'or'}") bad_shape ∷
+    row (codes "{'tree':null,'find':'a'}") bad_shape ∷
+    row (codes "{'tree':null,'by':'year'}") bad_shape ∷
+    row (codes "{'tree':null,'collapse':'body'}") bad_field ∷
+    [])
+unfolding on_lines
+trees = refl
+
+-- A text that is shown.
+texts_to_show : AreGiven (Some fields) (
+    row (codes "{'show':'red'}") (shown (codes "red") Join.Or) ∷
+    row (codes "{'show':'','op':'and'}") (shown [] Join.And) ∷
+    row (codes "{'show':7}") bad_shape ∷
+    row (codes "{'show':null}") bad_shape ∷
+    row (codes "{'show':'a','op':'not'}") bad_shape ∷
+    row (codes "{'show':'a','scheme':'nnn'}") bad_shape ∷
+    row (codes "{'show':'a','size':1}") bad_shape ∷
+    [])
+unfolding on_lines
+texts_to_show = refl
