@@ -1,7 +1,4 @@
 -- Lemmas.
-mod BoundLemmas
-mod UnclosedLemmas
-mod FaultLemmas
 mod SplitLemmas
 mod ChainLemmas
 mod TreeLemmas

@@ -135,3 +135,9 @@ pub runs_moved : (all : List Part) (made more : List Run) (held next : List Part
 runs_moved all made more held next fresh negative rest e f h =
     let moved : more ++ put_run next (runs fresh negative rest) ≡ made ++ put_run held (runs fresh negative rest) = λ i. e i ++ put_run (f i) (runs fresh negative rest) in
     moved ∙ h
+
+pub split_moved : (test : Kind → Bool) (all : List Part) (made more : List (List Part)) (held next : List Part) (rest : List Part) → more ≡ made → next ≡ held
+    → SoFar test all made held rest → SoFar test all more next rest
+split_moved test all made more held next rest e f h =
+    let moved : more ++ put_front next (split test rest) ≡ made ++ put_front held (split test rest) = λ i. e i ++ put_front (f i) (split test rest) in
+    moved ∙ h

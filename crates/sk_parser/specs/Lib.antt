@@ -1,5 +1,4 @@
 -- What the code of the parser keeps, in the words of the definitions.
-pub mod Before
 pub mod Views
 pub mod Base
 pub mod Stack

@@ -2,12 +2,8 @@
 #![tactic(auto)]
 
 mod base;
-mod before;
-mod bounds;
 mod chain;
-mod faults;
 mod group;
-mod kinds;
 mod parsing;
 mod part;
 mod reading;
@@ -16,5 +12,4 @@ mod stack;
 mod tree;
 mod unit;
 
-pub use faults::fault_in;
 pub use parsing::{ParseError, parse};

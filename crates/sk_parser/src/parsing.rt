@@ -7,9 +7,9 @@ ghost use Rattle.sk_grammar.specs.Faults.{fault_of};
 ghost use Rattle.sk_grammar.specs.Meaning.{query_meant};
 ghost use Rattle.sk_parser.specs.declared.parsing.ParseError.TheVariants as ParseError;
 
-use crate::faults::fault_in;
 use crate::reading::tree_in;
 use sk_base::{Join, Schema};
+use sk_faults::fault_in;
 use sk_grammar::FaultKind;
 use sk_lexer::tokens;
 use sk_query::Query;

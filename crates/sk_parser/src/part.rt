@@ -1,7 +1,6 @@
 //! The tokens of a list as parts of a query.
-ghost use Rattle.std.specs.Prelude.{◌≡◌, ◌≢◌, ◌<◌, ◌≤◌, ◌+◌, ◌-◌, ◌^◌, [], ◌∷◌, IfOk, map, true, false, length};
+ghost use Rattle.std.specs.Prelude.{◌≡◌, ◌<◌, ◌≤◌, ◌+◌, ◌-◌, ◌^◌, [], ◌∷◌, IfOk, map, true, false, length};
 ghost use Rattle.std.specs.List.{slice_get};
-ghost use Rattle.std.specs.Str.Parse.{digits_value};
 ghost use Rattle.sk_base.specs.Terms.{prefixed};
 ghost use Rattle.sk_query.specs.Trees.{limit_of, query_view};
 ghost use Rattle.sk_grammar.specs.Bounds.{halves, is_number, is_number_kind, are_numbers};
@@ -9,8 +8,8 @@ ghost use Rattle.sk_grammar.specs.Faults.{is_bad_range, takes_numbers};
 ghost use Rattle.sk_grammar.specs.Parts.{chain, unit, kind_prefix, prefix_of, prefix_in, side_by_side, limit_in, slot_of, range_in, all_prefixed, part_of, chain_tree};
 ghost use Rattle.sk_parser.specs.Views.{part_view, kind_range};
 
-use crate::bounds::halves;
 use sk_base::{Field, FieldKind, Items, Text, prefixed};
+use sk_faults::{halves, number};
 use sk_grammar::Kind;
 use sk_query::{Bound, Query};
 use std::alloc::{AllocError, Global};
@@ -122,18 +121,6 @@ pub(crate) fn chain_tree(
     match words.pop() {
         Some(word) => Ok(Query::Term(word)),
         None => Ok(Query::Nothing),
-    }
-}
-
-/// The number of a bound that is one.
-fn number(text: &str) -> u64
-    requires number { is_number text.now ≡ true }
-    requires some { length text.now ≢ 0 }
-    ensures { result ≡ digits_value 10 text.now }
-{
-    match text.parse::<u64>() {
-        Ok(n) => n,
-        Err(_) => 0,
     }
 }
 

@@ -57,10 +57,11 @@ pub(crate) fn split(
     let mut held = Vec::new(alloc);
     'parts: for part in parts {
         if is_at(border, &part) {
+            drop(part);
             made.push(mem::replace(&mut held, Vec::new(alloc)))?;
-        } else {
-            held.push(part)?;
+            continue;
         }
+        held.push(part)?;
     }
     made.push(held)?;
     Ok(made)
@@ -91,6 +92,7 @@ pub(crate) fn runs_in(alloc: Global, parts: Vec<Part>) -> Result<Vec<Run>, Alloc
     let mut fresh = true;
     'parts: for part in parts {
         if is_and(&part) {
+            drop(part);
             close(alloc, &mut made, &mut held, negative)?;
             negative = false;
             fresh = true;
@@ -98,9 +100,11 @@ pub(crate) fn runs_in(alloc: Global, parts: Vec<Part>) -> Result<Vec<Run>, Alloc
             held.push(part)?;
             fresh = false;
         } else if fresh {
+            drop(part);
             negative = true;
             fresh = false;
         } else {
+            drop(part);
             close(alloc, &mut made, &mut held, negative)?;
             negative = true;
         }

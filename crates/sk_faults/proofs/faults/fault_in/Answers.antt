@@ -1,6 +1,6 @@
 use Rattle.std.proofs.Common.{◌∷◌, sym, ap, ◌∙◌, arith}
-use Rattle.sk_parser.proofs.FaultLemmas.{next_dropped, reached_fault, reached_next, depth_step}
-use Rattle.sk_parser.proofs.faults.fault_in.Goals as goal
+use Rattle.sk_faults.proofs.FaultLemmas.{next_dropped, reached_fault, reached_next, depth_step}
+use Rattle.sk_faults.proofs.faults.fault_in.Goals as goal
 
 pub returns-in-Some : goal.returns-in-Some
 returns-in-Some c =

@@ -1,6 +1,6 @@
 use Rattle.std.proofs.Common.{ap, sym}
-use Rattle.sk_parser.proofs.BoundLemmas.{halves_some, halves_none}
-use Rattle.sk_parser.proofs.bounds.halves.Goals as goal
+use Rattle.sk_faults.proofs.BoundLemmas.{halves_some, halves_none}
+use Rattle.sk_faults.proofs.bounds.halves.Goals as goal
 
 pub returns-in-Some-clause-from : goal.returns-in-Some-clause-from
 returns-in-Some-clause-from c =

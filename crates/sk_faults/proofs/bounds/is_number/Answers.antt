@@ -1,6 +1,6 @@
 use Rattle.std.proofs.Common.{sym, ◌∙◌}
-use Rattle.sk_parser.proofs.BoundLemmas.{number_read}
-use Rattle.sk_parser.proofs.bounds.is_number.Goals as goal
+use Rattle.sk_faults.proofs.BoundLemmas.{number_read}
+use Rattle.sk_faults.proofs.bounds.is_number.Goals as goal
 
 pub returns-then-are_digits : goal.returns-then-are_digits
 returns-then-are_digits c =

@@ -2,7 +2,7 @@
 ghost use Rattle.std.specs.Prelude.{◌≡◌, ◌≤◌, ◌<◌, ◌+◌, ◌^◌, ◌&&◌, not, nat_le, ℕ, List, drop, length, None, Some, false, map};
 ghost use Rattle.sk_grammar.specs.declared.token.Kind.{Kind};
 ghost use Rattle.sk_grammar.specs.Faults.{is_stray, is_unclosed, lacks_operand, is_bad_near, is_distance, is_bad_range, is_too_deep, is_too_many, fault_at, fault_in, kinds_of, leaves_of, leaves_in, is_open, begins_unit, is_mark, is_not, first_is, lacks_side, lacks_excluded, lacks_marked};
-ghost use Rattle.sk_parser.specs.Before.{Is, closers_with, unclosed_from, is_at};
+ghost use Rattle.sk_faults.specs.Before.{Is, closers_with, unclosed_from, is_at};
 
 use crate::before::Before;
 use crate::bounds::{are_numbers, takes_numbers};

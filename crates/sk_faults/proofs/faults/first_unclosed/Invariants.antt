@@ -1,7 +1,7 @@
 use Rattle.std.proofs.Common.{◌≡◌, ◌≤◌, length, drop, ◌+◌}
 use Rattle.sk_grammar.specs.Faults.{kinds_of}
-use Rattle.sk_parser.specs.Before.{closers, unclosed_from}
-use Rattle.sk_parser.proofs.faults.first_unclosed.Given as goal
+use Rattle.sk_faults.specs.Before.{closers, unclosed_from}
+use Rattle.sk_faults.proofs.faults.first_unclosed.Given as goal
 
 abbrev pub invariant-tokens : goal.invariant-tokens
 invariant-tokens l = record {

@@ -5,9 +5,9 @@ use Rattle.sk_grammar.specs.declared.fault.FaultKind.{FaultKind}
 use Rattle.sk_grammar.specs.declared.token.Kind.{Kind}
 use Rattle.sk_grammar.specs.declared.token.Token.{Token}
 use Rattle.sk_grammar.specs.Faults.{is_unclosed, fault_at, fault_behind, fault_in, fault_or, kinds_of, depth_behind}
-use Rattle.sk_parser.specs.declared.before.Before.{Before}
-use Rattle.sk_parser.specs.Before.{Is, unclosed_from, is_at}
-use Rattle.sk_parser.proofs.UnclosedLemmas.{at_unclosed, past_unclosed}
+use Rattle.sk_faults.specs.declared.before.Before.{Before}
+use Rattle.sk_faults.specs.Before.{Is, unclosed_from, is_at}
+use Rattle.sk_faults.proofs.UnclosedLemmas.{at_unclosed, past_unclosed}
 
 -- No token before this place has a fault.
 pub record Reached (fields : List Field) (tokens : List Token) (unclosed : Option ℕ) (i : ℕ) (b : Before) : Type 0 where

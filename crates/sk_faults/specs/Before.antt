@@ -2,7 +2,7 @@
 use Rattle.std.specs.Prelude.{◌≡◌, ℕ, suc, pred, ◌==◌, ◌&&◌, Bool, false, List, [], ◌∷◌, if◌then◌else◌, Option, Some, None}
 use Rattle.sk_grammar.specs.declared.token.Kind.{Kind}
 use Rattle.sk_grammar.specs.Faults.{ends_unit, is_word, is_near, is_adj, is_open, first_is, second_is, depth_of, leaves_in}
-use Rattle.sk_parser.specs.declared.before.Before.{Before}
+use Rattle.sk_faults.specs.declared.before.Before.{Before}
 
 -- What is kept is so of these tokens, the last of which stands first.
 pub record Is (b : Before) (before : List Kind) : Type 0 where

@@ -2,7 +2,7 @@
 ghost use Rattle.std.specs.Prelude.{◌≡◌, ◌<◌, ◌+◌, ◌^◌, [], ◌∷◌, List};
 ghost use Rattle.sk_grammar.specs.declared.token.Kind.{Kind};
 ghost use Rattle.sk_grammar.specs.Faults.{depth_behind, leaves_of};
-ghost use Rattle.sk_parser.specs.Before.{Is};
+ghost use Rattle.sk_faults.specs.Before.{Is};
 
 use crate::kinds::{ends_unit, is_adj, is_near, is_word, leaves_of};
 use sk_grammar::Kind;

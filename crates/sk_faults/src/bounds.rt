@@ -1,5 +1,5 @@
 //! The bounds of a range.
-ghost use Rattle.std.specs.Prelude.{◌≡◌, ◌≤◌, IfSome, Some, None};
+ghost use Rattle.std.specs.Prelude.{◌≡◌, ◌≢◌, ◌≤◌, IfSome, Some, None, length, true};
 ghost use Rattle.std.specs.List.{list_all, slice_get};
 ghost use Rattle.std.specs.Char.{is_ascii_digit};
 ghost use Rattle.std.specs.Str.Parse.{digits_value};
@@ -9,7 +9,7 @@ ghost use Rattle.sk_grammar.specs.Faults.{takes_numbers};
 use sk_base::{Field, FieldKind};
 
 /// The two bounds that a text gives: what stands before its first `..` and behind it, or the text twice.
-pub(crate) fn halves(text: &str) -> (&str, &str)
+pub fn halves(text: &str) -> (&str, &str)
     ensures from { result.0.now ≡ (halves text.now).0 }
     ensures to { result.1.now ≡ (halves text.now).1 }
 {
@@ -30,6 +30,18 @@ pub(crate) fn is_number(text: &str) -> bool
     ensures { result ≡ is_number text.now }
 {
     text.is_empty() || (are_digits(text) && text.parse::<u64>().is_ok())
+}
+
+/// The number of a bound that is one.
+pub fn number(text: &str) -> u64
+    requires number { is_number text.now ≡ true }
+    requires some { length text.now ≢ 0 }
+    ensures { result ≡ digits_value 10 text.now }
+{
+    match text.parse::<u64>() {
+        Ok(n) => n,
+        Err(_) => 0,
+    }
 }
 
 /// Whether the bounds in a text are numbers, or open.

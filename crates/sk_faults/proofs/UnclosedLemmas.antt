@@ -3,7 +3,7 @@ use Rattle.std.proofs.Common.{◌≡◌, ◌≤◌, ℕ, zero, suc, pred, ◌+�
 use Rattle.std.proofs.lemmas.Bool.Decides.{nat_tests}
 use Rattle.sk_grammar.specs.declared.token.Kind.{Kind}
 use Rattle.sk_grammar.specs.Faults.{is_open, depth_of, comes_to, is_unclosed}
-use Rattle.sk_parser.specs.Before.{closers, unclosed_from, is_at}
+use Rattle.sk_faults.specs.Before.{closers, unclosed_from, is_at}
 
 -- A token that leaves the depth as it is.
 same_depth : (d n c : ℕ) (b : Bool) → b ≡ nat_lt n c → ((d + suc n == d) || b) ≡ nat_lt n c

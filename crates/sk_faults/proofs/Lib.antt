@@ -1,0 +1,4 @@
+-- Lemmas.
+mod BoundLemmas
+mod UnclosedLemmas
+mod FaultLemmas

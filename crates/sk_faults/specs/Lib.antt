@@ -1,0 +1,2 @@
+-- What the finder of faults keeps, in the words of the definitions.
+pub mod Before
