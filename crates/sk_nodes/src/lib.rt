@@ -5,6 +5,8 @@ mod leaf;
 mod moves;
 mod node;
 mod opening;
+#[cfg(test)]
+mod tests;
 mod top;
 mod tree;
 mod walked;

@@ -57,8 +57,8 @@ pub(crate) fn decay(node: &mut Node, _index: &Index, need: u64)
                 Change::Not => *form = Form::AndNot,
                 Change::NotSwap => {
                     *form = Form::AndNot;
-                    mem::swap(ta, tb);
-                    mem::swap(a, b);
+                    mem::swap(tb, ta);
+                    mem::swap(b, a);
                 }
             }
         }
