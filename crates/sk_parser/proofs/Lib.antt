@@ -1,4 +1,6 @@
 -- Lemmas.
+mod MapLemmas
+mod GroupLemmas
 mod SplitLemmas
 mod ChainLemmas
 mod TreeLemmas

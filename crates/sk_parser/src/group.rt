@@ -10,7 +10,7 @@ use sk_query::{Form, Queries, Query};
 use std::alloc::{AllocError, Global};
 
 /// The filters of one field.
-#[derive(Debug, Drop)]
+#[derive(Drop)]
 pub(crate) struct Group {
     pub field: usize,
     pub queries: Queries,

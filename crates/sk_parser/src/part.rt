@@ -15,7 +15,7 @@ use sk_query::{Bound, Query};
 use std::alloc::{AllocError, Global};
 
 /// A part of a list of tokens.
-#[derive(Debug, Drop)]
+#[derive(Drop)]
 pub(crate) enum Part {
     /// Words that NEAR or, where the order counts, ADJ holds together, with the greatest distance; or a word alone.
     Chain(bool, u32, Vec<Text>),

@@ -7,10 +7,10 @@ ghost use Rattle.sk_grammar.specs.Meaning.{parts_tree, tree_in};
 ghost use Rattle.sk_parser.specs.Sound.{AreSound, nothing_behind};
 ghost use Rattle.sk_parser.specs.Stack.{ends_as};
 
-use crate::stack::{Level, Stack, close, step};
+use crate::stack::{Level, Stack, close, is_stray, step};
 use crate::tree::parts_tree;
 use sk_base::{Field, Join};
-use sk_grammar::{Kind, Token};
+use sk_grammar::Token;
 use sk_query::Query;
 use std::alloc::{AllocError, Global};
 
@@ -44,7 +44,7 @@ pub(crate) fn tree_in(
     };
     'tokens: for i in 0..tokens.len() {
         let kind = &tokens[i].kind;
-        if matches!(kind, Kind::Close) && stack.below.is_empty() {
+        if is_stray(&stack, kind) {
             return parts_tree(alloc, join, stack.top.parts);
         }
         stack = step(alloc, fields, join, stack, kind)?;

@@ -10,14 +10,14 @@ use std::alloc::{AllocError, Global};
 use std::mem;
 
 /// The operators at which parts are split.
-#[derive(Clone, Copy, Debug)]
+#[derive(Clone, Copy)]
 pub(crate) enum Border {
     Or,
     Xor,
 }
 
 /// What stands between AND and NOT, and whether it stands behind NOT.
-#[derive(Debug, Drop)]
+#[derive(Drop)]
 pub(crate) struct Run {
     pub negative: bool,
     pub inside: Vec<Part>,

@@ -1,5 +1,5 @@
 //! The brackets that are open while tokens are read.
-ghost use Rattle.std.specs.Prelude.{◌≡◌, ◌≤◌, ◌+◌, List, length, IfOk, false};
+ghost use Rattle.std.specs.Prelude.{◌≡◌, ◌≤◌, ◌+◌, List, length, IfOk, true, false};
 ghost use Rattle.sk_base.specs.declared.schema.Field.{Field};
 ghost use Rattle.sk_grammar.specs.declared.token.Kind.TheVariants as Kind;
 ghost use Rattle.sk_grammar.specs.Brackets.{Levels, single, nest, opened, with_token};
@@ -17,14 +17,14 @@ use sk_grammar::Kind;
 use std::alloc::{AllocError, Global};
 
 /// A bracket that is open: the field that holds there, and the parts so far.
-#[derive(Debug, Drop)]
+#[derive(Drop)]
 pub(crate) struct Level {
     pub field: Option<usize>,
     pub parts: Vec<Part>,
 }
 
 /// The innermost bracket, and those around it, the outermost first.
-#[derive(Debug, Drop)]
+#[derive(Drop)]
 pub(crate) struct Stack {
     pub below: Vec<Level>,
     pub top: Level,
@@ -87,6 +87,17 @@ pub(crate) fn close(alloc: Global, join: Join, stack: Stack) -> Result<Stack, Al
             Ok(Stack { below, top })
         }
         None => Ok(Stack { below, top }),
+    }
+}
+
+/// Whether a token closes a bracket, and none is open.
+pub(crate) fn is_stray(stack: &Stack, kind: &Kind) -> bool
+    ensures stray { result ≡ true → (kind.now ≡ Kind.Close) × (length ((stack.now).below).items ≡ 0) }
+    ensures other { result ≡ false → kind.now ≡ Kind.Close → 1 ≤ length ((stack.now).below).items }
+{
+    match kind {
+        Kind::Close => stack.below.is_empty(),
+        _ => false,
     }
 }
 

@@ -10,7 +10,7 @@ use sk_query::Query;
 use std::alloc::{AllocError, Global};
 
 /// A unit of a run: its mark, its field where it is a filter or a range, and its query.
-#[derive(Debug, Drop)]
+#[derive(Drop)]
 pub(crate) struct Unit {
     pub mark: Mark,
     pub field: Option<usize>,
