@@ -14,7 +14,7 @@ use Rattle.sk_nodes.specs.declared.node.Node.{Node, the_lemmas}
 use Rattle.sk_nodes.specs.declared.node.Node.TheVariants as Node
 use Rattle.sk_nodes.specs.Leaves.{AtMost, IsLeafTop}
 use Rattle.sk_nodes.specs.Shapes.{Shape, ended, leaf, pair, shape_of, size_of}
-use Rattle.sk_nodes.specs.Left.{rest, from_on, unread_of, greatest_in}
+use Rattle.sk_nodes.specs.Left.{rest, from_on, unread_of}
 use Rattle.sk_nodes.specs.Sound.{IsTop, IsPair, Sound, Decays}
 use Rattle.sk_nodes.proofs.LeafLaws.{from_on-at, from_on-below, from_cases, covers_none}
 

@@ -19,7 +19,7 @@ reach-returns-clause-top g t c =
     let i = c.args.index.now in
     subst (λ n. IsTop i (record c.seek.new.top { greatest = n }) (shape_of c.seek.new.node)) (sym c.min-top.ensures)
     (capped_top i c.seek.new.top (shape_of c.seek.new.node) c.args.top.now.greatest c.seek.ensures.top
-      (AtMost-covers c.args.target c.args.need c.args.top.now.greatest (rest i (shape_of c.args.node.now)) (rest i (shape_of c.seek.new.node)) c.requires.top.bound (reach-returns-clause-covers g t c)))
+    (AtMost-covers c.args.target c.args.need c.args.top.now.greatest (rest i (shape_of c.args.node.now)) (rest i (shape_of c.seek.new.node)) c.requires.top.bound (reach-returns-clause-covers g t c)))
 
 pub seek-returns-in-Pair-clause-top : goal.seek-returns-in-Pair-clause-top
 seek-returns-in-Pair-clause-top g t c = subst (λ (s : Shape). IsTop c.args.index.now c.seek_pair.new.top s) (sym (shape_of-Pair _ _ _ _ _)) c.seek_pair.ensures.top
