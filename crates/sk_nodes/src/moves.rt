@@ -6,7 +6,7 @@ ghost use Rattle.sk_nodes.specs.Shapes.{pair, shape_of, size_of};
 ghost use Rattle.sk_nodes.specs.Left.{rest, from_on, unread_of};
 ghost use Rattle.sk_nodes.specs.Sound.{IsTop, IsPair, Sound};
 
-use crate::node::{Node, decay};
+use crate::node::{Node, settle};
 use crate::top::{END, Top};
 use sk_decay::{Meeting, first_need, greatest_under, meeting_of, second_need, second_target};
 use sk_index::Index;
@@ -48,7 +48,7 @@ pub(crate) fn reach<L: Ledger>(
         return;
     }
     let before = top.greatest;
-    decay(node, index, need);
+    settle(node, index, need);
     seek(top, node, index, target, need, spent, steps);
     top.greatest = top.greatest.min(before);
 }
