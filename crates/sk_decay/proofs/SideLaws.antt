@@ -1,11 +1,10 @@
 -- Two sides under a need: what they cover, and their bounds.
-use Rattle.std.proofs.Common.{◌≡◌, ◌≤◌, ◌<◌, ◌+◌, ◌^◌, ℕ, max, nat_le, Bool, true, false, [], ◌∷◌, Option, None, Some, unwrap_or, is_some, is_none, if◌then◌else◌, refl, sym, subst, ap, arith}
-use Rattle.std.proofs.lemmas.Grind.{common_steps}
+use Rattle.std.proofs.Common.{◌≡◌, ◌≤◌, ◌+◌, ℕ, true, [], ◌∷◌, Option, None, Some, unwrap_or, refl, subst, arith}
 use Rattle.sk_query.specs.declared.form.Form.{Form}
-use Rattle.sk_model.specs.Combining.{both, either, greater, where_so, with_more, combined}
+use Rattle.sk_model.specs.Combining.{combined}
 use Rattle.sk_model.specs.Covers.{CoversAt, first_need, second_need}
 use Rattle.sk_model.proofs.CoverLaws.{two_and, two_or, two_xor, two_max, two_not, two_maybe, two_filter, sides_cover}
-use Rattle.sk_decay.specs.Sides.{paired, greatest_under, is_led, second_target}
+use Rattle.sk_decay.specs.Sides.{paired, greatest_under, is_led}
 
 pub paired-combined : (form : Form) (a b : Option ℕ) → combined form (a ∷ b ∷ []) ≡ paired form a b
 paired-combined Form.And a b = two_and a b

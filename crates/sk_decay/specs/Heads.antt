@@ -2,7 +2,6 @@
 use Rattle.std.specs.Prelude.{◌≡◌, ◌≤◌, ◌<◌, ◌^◌, ◌⊎◌, nat_lt, ℕ, Option, None, Some, if◌then◌else◌}
 use Rattle.sk_query.specs.declared.form.Form.{Form}
 use Rattle.sk_decay.specs.declared.meeting.Meeting.{Meeting}
-use Rattle.sk_decay.specs.declared.meeting.Meeting.TheVariants as Meeting
 use Rattle.sk_decay.specs.Sides.{paired}
 
 -- Nothing below an id.

@@ -4,3 +4,4 @@ pub mod TreeLaws
 pub mod WalkedLaws
 pub mod ListLaws
 pub mod OpenLaws
+pub mod SynonymLaws

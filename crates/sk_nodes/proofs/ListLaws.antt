@@ -109,7 +109,7 @@ length-all [] = refl
 length-all (one ∷ more) = let rest = length-all more in omega (arith, rest)
 
 -- a term that is not there has the wdf 0
-wdf_of-none : (t : List ℕ) (terms : List DocTerm) → has_term t terms ≡ false → wdf_of t terms ≡ 0
+pub wdf_of-none : (t : List ℕ) (terms : List DocTerm) → has_term t terms ≡ false → wdf_of t terms ≡ 0
 wdf_of-none t [] h = refl
 wdf_of-none t (x ∷ xs) h = by (Rattle.std.proofs.Common.bytes_eq x.term t) refl (wdf_of-none t xs)
   where

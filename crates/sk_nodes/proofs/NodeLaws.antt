@@ -1,5 +1,5 @@
 -- What nodes give, and what a change and a move leave of it.
-use Rattle.std.proofs.Common.{◌≡◌, ◌≤◌, ◌<◌, ◌+◌, ◌^◌, ℕ, Bool, true, false, Option, None, Some, unwrap_or, if◌then◌else◌, inl, inr, refl, sym, subst, ap, ◌∙◌, arith, rules, le_refl, Box, Global}
+use Rattle.std.proofs.Common.{min, ◌≡◌, ◌≤◌, ◌<◌, ◌+◌, ◌^◌, ℕ, Bool, true, false, Option, None, Some, unwrap_or, if◌then◌else◌, inl, inr, refl, sym, subst, ap, ◌∙◌, arith, rules, le_refl, Box, Global}
 use Rattle.std.proofs.lemmas.Bool.{cases_lt}
 use Rattle.sk_query.specs.declared.form.Form.{Form}
 use Rattle.sk_model.specs.Covers.{CoversAt, Covers, first_need, second_need}
@@ -14,7 +14,7 @@ use Rattle.sk_nodes.specs.declared.node.Node.{Node, the_lemmas}
 use Rattle.sk_nodes.specs.declared.node.Node.TheVariants as Node
 use Rattle.sk_nodes.specs.Leaves.{AtMost, IsLeafTop}
 use Rattle.sk_nodes.specs.Shapes.{Shape, ended, leaf, pair, shape_of, size_of}
-use Rattle.sk_nodes.specs.Left.{rest, from_on, unread_of, greatest_in}
+use Rattle.sk_nodes.specs.Left.{rest, from_on, unread_of}
 use Rattle.sk_nodes.specs.Sound.{IsTop, IsPair, Sound, Decays}
 use Rattle.sk_nodes.proofs.LeafLaws.{from_on-at, from_on-below, from_cases, covers_none}
 
@@ -57,12 +57,12 @@ pub ended_top : (i : Indexed) → IsTop i (record { head = 2 ^ 32; weight = 0; g
 ended_top i = record {
   head = record { within = le_refl (2 ^ 32); below = λ id lt. refl; at = λ lt. absurd (omega (arith, lt)); past = λ id le. refl; ended = λ same. refl };
   bound = λ id. omega arith;
-  exact = λ lt. absurd (omega (arith, lt));
+  summed = λ lt. absurd (omega (arith, lt));
   closed = λ same. refl;
 }
 
 pub leaf_top : (i : Indexed) (t : Top) (l : Leaf) → IsLeafTop i t l → IsTop i t (leaf l)
-leaf_top i t l top = record { head = top.head; bound = top.bound; exact = top.exact; closed = top.closed }
+leaf_top i t l top = record { head = top.head; bound = top.bound; summed = λ lt. omega (arith, top.exact lt); closed = top.closed }
 
 -- an ended head: nothing is given
 pub IsHead-none : (weight id : ℕ) (f : ℕ → Option ℕ) → IsHead (2 ^ 32) weight f → f id ≡ None
@@ -189,7 +189,7 @@ pair_top i form ta a tb b t first second h exact closed = record {
     | inr le ↦ none_bound (paired form (rest i a id) (rest i b id)) t.greatest
         (IsHead-none t.weight id (λ id. paired form (rest i a id) (rest i b id)) (subst (λ n. IsHead n t.weight (λ id. paired form (rest i a id) (rest i b id))) (at_end le h.within) h))
   ];
-  exact = exact;
+  summed = λ lt. omega (arith, exact lt);
   closed = closed;
 }
   where
@@ -206,7 +206,7 @@ pub pair_top_ended : (i : Indexed) (form : Form) (ta : Top) (a : Shape) (tb : To
 pair_top_ended i form ta a tb b first led end = record {
   head = record { within = le_refl (2 ^ 32); below = λ id lt. gone id; at = λ lt. absurd (omega (arith, lt)); past = λ id le. gone id; ended = λ same. refl };
   bound = λ id. none_bound (paired form (rest i a id) (rest i b id)) (gone id);
-  exact = λ lt. absurd (omega (arith, lt));
+  summed = λ lt. absurd (omega (arith, lt));
   closed = λ same. refl;
 }
   where
@@ -280,7 +280,6 @@ pub decays_itself : (i : Indexed) (need : ℕ) (s : Shape) → Sound i s → Dec
 decays_itself i need s sound = record {
   sound = sound;
   covers = λ id. covers_itself (rest i s id) need;
-  falls = le_refl (greatest_in s);
   smaller = le_refl (size_of s);
   unread = le_refl (unread_of i s);
 }
@@ -292,7 +291,6 @@ pub decays_ended : (i : Indexed) (need : ℕ) (form : Form) (ta : Top) (a : Shap
 decays_ended i need form ta a tb b a_ended b_ended first second sound covers = record {
   sound = tt;
   covers = λ id. covers (rest i a id) (rest i b id) (IsTop-side i ta a a_ended first sound.first id) (IsTop-side i tb b b_ended second sound.second id);
-  falls = omega arith;
   smaller = omega arith;
   unread = omega arith;
 }
@@ -331,3 +329,15 @@ sides_more i form target need from further ta0 a0 tb0 b0 ta a tb b ua c ub d far
 
 pub decays_along : (i : Indexed) (need : ℕ) (old new s t : Shape) → old ≡ s → new ≡ t → Decays i need s t → Decays i need old new
 decays_along i need old new s t e f h = subst (λ (o : Shape). Decays i need o new) (sym e) (subst (λ (n : Shape). Decays i need s n) (sym f) h)
+
+-- a weight that none is above bounds a top
+pub capped_top : (i : Indexed) (t : Top) (s : Shape) (g : ℕ) → IsTop i t s → AtMost g (rest i s) → IsTop i (record t { greatest = min t.greatest g }) s
+capped_top i t s g top bound = record {
+  head = top.head;
+  bound = λ id. lesser (unwrap_or (rest i s id) 0) t.greatest g (top.bound id) (bound id);
+  summed = λ lt. omega (arith, top.summed lt);
+  closed = λ end. omega (arith, top.closed end);
+}
+  where
+    lesser : (n a b : ℕ) → n ≤ a → n ≤ b → n ≤ min a b
+    lesser n a b p q = omega (arith, p, q)

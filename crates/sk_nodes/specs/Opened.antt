@@ -67,3 +67,9 @@ pub record AreParts (form : Form) (factor : ℕ) (ts : Query.Trees) : Type 0 whe
   pub leaves : leaves_in ts ≤ 1024
   pub joins : is_form_walked form (count_in ts) ≡ true
   pub walked : are_walked ts ≡ true
+
+-- What a synonym is made of terms by: their weights added under Nnn; under the other schemes all weigh the same.
+abbrev pub joint_form : Scheme → Form
+joint_form Scheme.Bool = Form.Max
+joint_form Scheme.Coord = Form.Max
+joint_form Scheme.Nnn = Form.Or

@@ -12,7 +12,7 @@ use Rattle.sk_nodes.specs.Left.{rest, unread_of, greatest_in}
 pub record IsTop (i : Indexed) (t : Top) (s : Shape) : Type 0 where
   pub head : IsHead t.head t.weight (rest i s)
   pub bound : AtMost t.greatest (rest i s)
-  pub exact : t.head < 2 ^ 32 → t.greatest ≡ greatest_in s
+  pub summed : t.head < 2 ^ 32 → t.greatest ≤ greatest_in s
   pub closed : t.head ≡ 2 ^ 32 → t.greatest ≡ 0
 
 -- Two sides with their tops, by what holds of each.
@@ -33,6 +33,5 @@ Sound i (pair form ta a tb b) = IsPair i ta a tb b (Sound i a) (Sound i b)
 pub record Decays (i : Indexed) (need : ℕ) (old new : Shape) : Type 0 where
   pub sound : Sound i new
   pub covers : Covers (rest i old) (rest i new) need
-  pub falls : greatest_in new ≤ greatest_in old
   pub smaller : size_of new ≤ size_of old
   pub unread : unread_of i new ≤ unread_of i old

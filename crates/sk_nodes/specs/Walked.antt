@@ -19,7 +19,7 @@ is_form_walked Form.AndMaybe n = true
 is_form_walked Form.Filter n = true
 
 abbrev mutual
-  -- All forms of a query but wildcard, near, phrase, synonym, range, and an xor of three parts or more.
+  -- All forms of a query but wildcard, near, phrase, range, and an xor of three parts or more.
   pub is_walked : Tree → Bool
   is_walked nothing = true
   is_walked all = true
@@ -28,7 +28,7 @@ abbrev mutual
   is_walked (parts form ts) = is_form_walked form (count_in ts) && are_walked ts
   is_walked (near window ts) = false
   is_walked (phrase window ts) = false
-  is_walked (synonym ts) = false
+  is_walked (synonym ts) = true
   is_walked (scale f t) = is_walked t
   is_walked (range slot lo hi) = false
 

@@ -5,6 +5,7 @@ mod leaf;
 mod moves;
 mod node;
 mod opening;
+mod synonym;
 #[cfg(test)]
 mod tests;
 mod top;

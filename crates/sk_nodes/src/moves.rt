@@ -3,10 +3,10 @@ ghost use Rattle.std.specs.Prelude.{◌≡◌, ◌≤◌, ◌<◌, ◌+◌, ◌^
 ghost use Rattle.sk_model.specs.Covers.{Covers};
 ghost use Rattle.sk_decay.specs.Sides.{paired, greatest_under};
 ghost use Rattle.sk_nodes.specs.Shapes.{pair, shape_of, size_of};
-ghost use Rattle.sk_nodes.specs.Left.{rest, from_on, unread_of, greatest_in};
+ghost use Rattle.sk_nodes.specs.Left.{rest, from_on, unread_of};
 ghost use Rattle.sk_nodes.specs.Sound.{IsTop, IsPair, Sound};
 
-use crate::node::{Node, decay};
+use crate::node::{Node, settle};
 use crate::top::{END, Top};
 use sk_decay::{Meeting, first_need, greatest_under, meeting_of, second_need, second_target};
 use sk_index::Index;
@@ -47,8 +47,10 @@ pub(crate) fn reach<L: Ledger>(
         *top = Top::ended();
         return;
     }
-    decay(node, index, need);
+    let before = top.greatest;
+    settle(node, index, need);
     seek(top, node, index, target, need, spent, steps);
+    top.greatest = top.greatest.min(before);
 }
 
 /// Moves a node on to its first match from the target on.
@@ -69,7 +71,6 @@ fn seek<L: Ledger>(
     ensures sound { Sound index.now (shape_of node.new) }
     ensures covers { Covers (from_on target (rest index.now (shape_of node.old))) (rest index.now (shape_of node.new)) need }
     ensures reached { target ≤ top.new.head }
-    ensures falls { top.new.greatest ≤ greatest_in (shape_of node.old) }
     ensures smaller { size_of (shape_of node.new) ≤ size_of (shape_of node.old) }
     ensures paid { spent.new + unread_of index.now (shape_of node.new) ≤ spent.old + unread_of index.now (shape_of node.old) }
     ensures counted { steps.new + spent.old ≡ steps.old + spent.new }

@@ -18,9 +18,32 @@ pub(crate) enum Node {
     Pair(Form, Top, Box<Node>, Top, Box<Node>),
 }
 
-/// Puts what is enough under the need in the node's place.
+/// Puts what is enough under the need in the node's place. The rule is asked only where it may say anything.
+#[inline(always)]
+pub(crate) fn settle(node: &mut Node, index: &Index, need: u64)
+    requires { Sound index.now (shape_of node.old) }
+    ensures { Decays index.now need (shape_of node.old) (shape_of node.new) }
+{
+    if is_settled(node, need) {
+        return;
+    }
+    decay(node, index, need);
+}
+
+// Neither side has ended, or weighs too little by itself.
+#[inline(always)]
+fn is_settled(node: &Node, need: u64) -> bool {
+    match node {
+        Node::Nothing => true,
+        Node::Leaf(_) => true,
+        Node::Pair(_, ta, _, tb, _) => {
+            ta.head < END && tb.head < END && need <= ta.greatest && need <= tb.greatest
+        }
+    }
+}
+
 #[inline(never)]
-pub(crate) fn decay(node: &mut Node, _index: &Index, need: u64)
+fn decay(node: &mut Node, _index: &Index, need: u64)
     requires { Sound _index.now (shape_of node.old) }
     ensures { Decays _index.now need (shape_of node.old) (shape_of node.new) }
 {

@@ -21,6 +21,7 @@ ghost use Rattle.sk_nodes.specs.Opened.{score_of, joint_score_of, others_of, que
 use crate::leaf::{Leaf, list_length};
 use crate::moves::seek_pair;
 use crate::node::Node;
+use crate::synonym::open_synonym;
 use crate::top::Top;
 use sk_base::{Scheme, Term};
 use sk_index::Index;
@@ -79,6 +80,19 @@ pub(crate) fn open_node<L: Ledger>(
             spent,
             steps,
         ),
+        Query::Synonym(words) => {
+            open_synonym(
+                alloc,
+                index,
+                query,
+                words.as_slice(),
+                scheme,
+                factor,
+                most,
+                spent,
+                steps,
+            )
+        }
         _ => Err(AllocError),
     }
 }
@@ -240,7 +254,7 @@ fn open_all<L: Ledger>(
 }
 
 /// The leaf of a term, and nothing where no document has the term.
-fn open_term<L: Ledger>(
+pub(crate) fn open_term<L: Ledger>(
     index: &Index,
     word: &Term,
     scheme: Scheme,
@@ -307,7 +321,7 @@ fn open_leaf<L: Ledger>(
 }
 
 /// A node of two sides, moved on to where they first meet, and its top.
-fn pair_of<L: Ledger>(
+pub(crate) fn pair_of<L: Ledger>(
     alloc: Global,
     index: &Index,
     form: Form,
@@ -328,6 +342,7 @@ fn pair_of<L: Ledger>(
     ensures sound { IfOk result (λ p. Sound index.now (shape_of p.1)) }
     ensures gives { IfOk result (λ p. (id : ℕ) → rest index.now (shape_of p.1) id ≡ paired form (rest index.now (shape_of a) id) (rest index.now (shape_of b) id)) }
     ensures ceiling { IfOk result (λ p. p.0.greatest ≤ greatest_under form ta.greatest tb.greatest) }
+    ensures sum { IfOk result (λ p. p.0.greatest ≤ ta.greatest + tb.greatest) }
     ensures paid { IfOk result (λ p. spent.new + unread_of index.now (shape_of p.1) ≤ spent.old + (unread_of index.now (shape_of a) + unread_of index.now (shape_of b))) }
     ensures counted { steps.new + spent.old ≡ steps.old + spent.new }
     ensures later { spent.old ≤ spent.new }

@@ -11,12 +11,10 @@ pub fn is_walked(query: &Query) -> bool
     ensures { result ≡ is_walked (query_view query.now) }
 {
     match query {
-        Query::Nothing | Query::All | Query::Term(_) => true,
-        Query::Wildcard(_)
-        | Query::Near(_, _)
-        | Query::Phrase(_, _)
-        | Query::Synonym(_)
-        | Query::Range(_, _, _) => false,
+        Query::Nothing | Query::All | Query::Term(_) | Query::Synonym(_) => true,
+        Query::Wildcard(_) | Query::Near(_, _) | Query::Phrase(_, _) | Query::Range(_, _, _) => {
+            false
+        },
         Query::And(parts)
         | Query::Or(parts)
         | Query::Max(parts)

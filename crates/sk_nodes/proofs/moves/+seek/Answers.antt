@@ -5,8 +5,21 @@ use Rattle.sk_nodes.specs.declared.top.Top.{Top}
 use Rattle.sk_nodes.specs.Shapes.{Shape, pair, shape_of}
 use Rattle.sk_nodes.specs.Left.{rest, from_on}
 use Rattle.sk_nodes.specs.Sound.{IsTop, Sound}
-use Rattle.sk_nodes.proofs.NodeLaws.{shape_of-Pair, pair_shape, covers_along, weight_le, target_ended, head_reached, pair_top, pair_top_ended, sides_covers, sides_covers_ended, sides_more, size_along, paid_along}
+use Rattle.sk_nodes.proofs.LeafLaws.{AtMost-covers}
+use Rattle.sk_nodes.proofs.NodeLaws.{covers_more, capped_top, shape_of-Pair, pair_shape, covers_along, weight_le, target_ended, head_reached, pair_top, pair_top_ended, sides_covers, sides_covers_ended, sides_more, size_along, paid_along}
 use Rattle.sk_nodes.proofs.moves.+seek.Goals as goal
+
+pub reach-returns-clause-covers : goal.reach-returns-clause-covers
+reach-returns-clause-covers g t c =
+    let i = c.args.index.now in
+    covers_more c.args.target c.args.need (rest i (shape_of c.args.node.now)) (rest i (shape_of c.settle.new.node)) (rest i (shape_of c.seek.new.node)) c.settle.ensures.covers c.seek.ensures.covers
+
+pub reach-returns-clause-top : goal.reach-returns-clause-top
+reach-returns-clause-top g t c =
+    let i = c.args.index.now in
+    subst (λ n. IsTop i (record c.seek.new.top { greatest = n }) (shape_of c.seek.new.node)) (sym c.min-top.ensures)
+    (capped_top i c.seek.new.top (shape_of c.seek.new.node) c.args.top.now.greatest c.seek.ensures.top
+    (AtMost-covers c.args.target c.args.need c.args.top.now.greatest (rest i (shape_of c.args.node.now)) (rest i (shape_of c.seek.new.node)) c.requires.top.bound (reach-returns-clause-covers g t c)))
 
 pub seek-returns-in-Pair-clause-top : goal.seek-returns-in-Pair-clause-top
 seek-returns-in-Pair-clause-top g t c = subst (λ (s : Shape). IsTop c.args.index.now c.seek_pair.new.top s) (sym (shape_of-Pair _ _ _ _ _)) c.seek_pair.ensures.top
