@@ -290,6 +290,12 @@ module _ (form : Form) (factor : ℕ) (ts fs bs : Trees.Trees) (e : ts ≡ joine
       let second = ceil_small scheme docs light (parts (others_of form) bs) factor (true_both (has_parts bs) (are_sound factor bs) (has_parts-some bs back_some) sounds.1) small split_back.leaves in
       omega (arith, first, second)
 
+-- ---- an and whose first part is put behind the others
+
+module _ (factor : ℕ) (ts fs bs : Trees.Trees) (e : ts ≡ joined bs fs) (are : AreParts Form.And factor ts) (front_some : 0 < count_in fs) (back_some : 0 < count_in bs) where
+  pub turned_fits : factor ≤ 65536 → (scheme : Scheme) (docs : Docs) → All IsLight docs → ceil_of Form.And (ceils fs scheme factor docs) + ceil_of Form.And (ceils bs scheme factor docs) < 2 ^ 63
+  turned_fits small scheme docs light = omega (arith, split_fits Form.And factor ts bs fs e are back_some front_some small scheme docs light)
+
 -- ---- the whole query
 
 pub fits_ceil : (t : Trees.Tree) (scheme : Scheme) (docs : Docs) → fits_tree t ≡ true → All IsLight docs → ceil t scheme 1 docs ≤ 2 ^ 55
