@@ -1,5 +1,5 @@
 -- Two sides under a need: what they cover, and their bounds.
-use Rattle.std.proofs.Common.{◌≡◌, ◌≤◌, ◌+◌, ℕ, true, [], ◌∷◌, Option, None, Some, unwrap_or, refl, subst, arith}
+use Rattle.std.proofs.Common.{◌≡◌, ◌≤◌, ℕ, true, [], ◌∷◌, Option, None, Some, unwrap_or, refl, subst, arith}
 use Rattle.sk_query.specs.declared.form.Form.{Form}
 use Rattle.sk_model.specs.Combining.{combined}
 use Rattle.sk_model.specs.Covers.{CoversAt, first_need, second_need}
@@ -44,25 +44,6 @@ paired-bound Form.AndMaybe (Some v) None ga gb h g = omega (arith, h, g)
 paired-bound Form.AndMaybe (Some v) (Some w) ga gb h g = omega (arith, h, g)
 paired-bound Form.Filter a None ga gb h g = omega arith
 paired-bound Form.Filter a (Some w) ga gb h g = h
-
--- a form makes no more of sides that weigh no more
-pub greatest_under-less : (form : Form) (a b c d : ℕ) → c ≤ a → d ≤ b → greatest_under form c d ≤ greatest_under form a b
-greatest_under-less Form.And a b c d h g = omega (arith, h, g)
-greatest_under-less Form.Or a b c d h g = omega (arith, h, g)
-greatest_under-less Form.Xor a b c d h g = omega (arith, h, g)
-greatest_under-less Form.Max a b c d h g = omega (arith, h, g)
-greatest_under-less Form.AndNot a b c d h g = h
-greatest_under-less Form.AndMaybe a b c d h g = omega (arith, h, g)
-greatest_under-less Form.Filter a b c d h g = h
-
-pub greatest_under-sum : (form : Form) (a b : ℕ) → greatest_under form a b ≤ a + b
-greatest_under-sum Form.And a b = omega arith
-greatest_under-sum Form.Or a b = omega arith
-greatest_under-sum Form.Xor a b = omega arith
-greatest_under-sum Form.Max a b = omega arith
-greatest_under-sum Form.AndNot a b = omega arith
-greatest_under-sum Form.AndMaybe a b = omega arith
-greatest_under-sum Form.Filter a b = omega arith
 
 -- a form that is led gives nothing where its first side gives nothing
 pub paired-led : (form : Form) (b : Option ℕ) → is_led form ≡ true → paired form None b ≡ None

@@ -1,9 +1,8 @@
 -- What a leaf gives, and what a seek leaves of it.
-use Rattle.std.proofs.Common.{◌≡◌, ◌≤◌, ◌<◌, ◌+◌, ◌^◌, ℕ, nat_le, nat_lt, Bool, true, false, [], ◌∷◌, ◌++◌, length, drop, Option, None, Some, unwrap_or, if◌then◌else◌, ◌⊎◌, inl, inr, refl, sym, subst, ap, ◌∙◌, arith, le_refl}
+use Rattle.std.proofs.Common.{◌≡◌, ◌≤◌, ◌<◌, ◌^◌, ℕ, nat_le, nat_lt, Bool, true, false, [], ◌∷◌, ◌++◌, Option, None, Some, unwrap_or, if◌then◌else◌, ◌⊎◌, inl, inr, refl, sym, subst, ap, ◌∙◌, arith, le_refl}
 use Rattle.std.specs.Option.{option_map}
 use Rattle.std.proofs.lemmas.Bool.{cases_eq, cases_lt, ltb-false}
 use Rattle.std.proofs.lemmas.Bool.Decides.{nat_tests}
-use Rattle.std.proofs.lemmas.List.{length-drop}
 use Rattle.sk_base.specs.declared.find.Scheme.{Scheme}
 use Rattle.sk_sorted.specs.Entries.{RiseAbove, LieBelow, AreSorted, found, from, first_id}
 use Rattle.sk_sorted.proofs.EntryLaws.{RiseAbove-lower, found-here, found-other, found-below, from-below, from-at}
@@ -100,9 +99,6 @@ module _ (factor : ℕ) (scheme : Scheme) where
   pub weighed-none : (id : ℕ) (es : Postings) → found id es ≡ None → weighed factor scheme es id ≡ None
   weighed-none id es e = weighed-of id es None e
 
-  same_number : (m n : ℕ) → Some m ≡ Some n → n ≡ m
-  same_number m n e = cc
-
   -- entries begin with their first id
   head_is : (e : ℕ × ℕ) (es : Postings) → AreSorted (e ∷ es) → IsHead e.0 (weigh_by factor scheme e.1) (weighed factor scheme (e ∷ es))
   head_is e es sorted = record {
@@ -119,10 +115,6 @@ module _ (factor : ℕ) (scheme : Scheme) where
       let here : p.0 ≡ id = cc in
       subst (λ h. IsHead h (weigh_by factor scheme wdf) (weighed factor scheme (p ∷ ps))) here
       (subst (λ w. IsHead p.0 (weigh_by factor scheme w) (weighed factor scheme (p ∷ ps))) (sym f) (head_is p ps sorted))
-
-  pub weighed-end : (es : Postings) → None ≡ first_id es → IsHead (2 ^ 32) 0 (weighed factor scheme es)
-  weighed-end [] e = record { within = le_refl (2 ^ 32); below = λ id lt. refl; at = λ lt. absurd (omega (arith, lt)); past = λ id le. refl; ended = λ same. refl }
-  weighed-end (p ∷ ps) e = cc
 
   -- ---- what is passed over
 
@@ -178,16 +170,9 @@ pub head_of-Some : (id : ℕ) (es : Postings) → Some id ≡ first_id es → id
 head_of-Some id [] e = cc
 head_of-Some id (p ∷ ps) e = cc
 
-pub head_of-None : (es : Postings) → None ≡ first_id es → 2 ^ 32 ≡ head_of es
-head_of-None [] e = refl
-head_of-None (p ∷ ps) e = cc
-
 pub head_of-reached : (target : ℕ) (es : Postings) → target < 2 ^ 32 → is_below target es ≡ false → target ≤ head_of es
 head_of-reached target [] lt above = omega (arith, lt)
 head_of-reached target (p ∷ ps) lt above = ltb-false p.0 target above
-
-pub unread_less : (count : ℕ) (old new : Postings) → new ≡ drop count old → count ≤ length old → length new + count ≡ length old
-unread_less count old new e le = omega (arith, ap length e, length-drop count old)
 
 -- ---- a leaf
 

@@ -10,7 +10,7 @@ use Rattle.std.proofs.Math.Nat.{mul-le-mul_right}
 use Rattle.sk_base.specs.declared.find.Scheme.{Scheme}
 use Rattle.sk_base.specs.declared.doc_entry.DocTerm.{DocTerm}
 use Rattle.sk_base.specs.Documents.{has_term, wdf_of}
-use Rattle.sk_base.specs.Numbers.{Docs, live_of, length_of, greatest_of, some_has}
+use Rattle.sk_base.specs.Numbers.{Docs, length_of, greatest_of, some_has}
 use Rattle.sk_sorted.specs.Entries.{RiseAbove, LieBelow, AreSorted, found}
 use Rattle.sk_sorted.proofs.EntryLaws.{found-here, found-other, found-below}
 use Rattle.sk_lists.specs.Postings.{Postings, greatest_wdf}
@@ -103,10 +103,6 @@ length-postings t [] = refl
 length-postings t (one ∷ more) =
     counted_length (has_term t one.1.terms) (one.0, wdf_of t one.1.terms) (postings t more) (length_of t more) (length-postings t more)
     ∙ sym (sum_by-cons (λ (x : ℕ × Document). cond (has_term t x.1.terms) 1 0) one more)
-
-pub length-all : (docs : Docs) → length (all_postings docs) ≡ live_of docs
-length-all [] = refl
-length-all (one ∷ more) = let rest = length-all more in omega (arith, rest)
 
 -- a term that is not there has the wdf 0
 pub wdf_of-none : (t : List ℕ) (terms : List DocTerm) → has_term t terms ≡ false → wdf_of t terms ≡ 0

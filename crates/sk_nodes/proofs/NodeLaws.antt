@@ -9,11 +9,10 @@ use Rattle.sk_decay.specs.Sides.{paired, greatest_under, is_led, second_target, 
 use Rattle.sk_decay.specs.Heads.{IsHead, NoneBelow}
 use Rattle.sk_decay.proofs.SideLaws.{paired-covers, paired-bound, paired-led, paired-none}
 use Rattle.sk_nodes.specs.declared.top.Top.{Top}
-use Rattle.sk_nodes.specs.declared.leaf.Leaf.{Leaf}
 use Rattle.sk_nodes.specs.declared.node.Node.{Node, the_lemmas}
 use Rattle.sk_nodes.specs.declared.node.Node.TheVariants as Node
-use Rattle.sk_nodes.specs.Leaves.{AtMost, IsLeafTop}
-use Rattle.sk_nodes.specs.Shapes.{Shape, ended, leaf, pair, shape_of, size_of}
+use Rattle.sk_nodes.specs.Leaves.{AtMost}
+use Rattle.sk_nodes.specs.Shapes.{Shape, ended, pair, shape_of, size_of}
 use Rattle.sk_nodes.specs.Left.{rest, from_on, unread_of}
 use Rattle.sk_nodes.specs.Sound.{IsTop, IsPair, Sound, Decays}
 use Rattle.sk_nodes.proofs.LeafLaws.{from_on-at, from_on-below, from_cases, covers_none}
@@ -23,18 +22,10 @@ use Rattle.sk_nodes.proofs.LeafLaws.{from_on-at, from_on-below, from_cases, cove
 pub shape_of-Nothing : shape_of Node.Nothing ≡ ended
 shape_of-Nothing = search (rules, the_lemmas)
 
-pub shape_of-Leaf : (l : Leaf) → shape_of (Node.Leaf l) ≡ leaf l
-shape_of-Leaf l = search (rules, the_lemmas)
-
 pub shape_of-Pair : (form : Form) (ta tb : Top) (a b : Box Node Global) → shape_of (Node.Pair form ta a tb b) ≡ pair form ta (shape_of a.value) tb (shape_of b.value)
 shape_of-Pair form ta tb a b = search (rules, the_lemmas)
 
 -- ---- one side
-
--- a head at the target or behind it stays
-pub covers_stays : (target need head weight : ℕ) (f : ℕ → Option ℕ) → IsHead head weight f → target ≤ head → Covers (from_on target f) f need
-covers_stays target need head weight f h le = λ id.
-    from_cases target f id (f id) need (λ at. covers_itself (f id) need) (λ below. h.below id (omega (arith, le, below)))
 
 light_gone : (a : Option ℕ) (greatest need : ℕ) → unwrap_or a 0 ≤ greatest → greatest < need → CoversAt a None need
 light_gone None greatest need le lt = tt
@@ -60,9 +51,6 @@ ended_top i = record {
   summed = λ lt. absurd (omega (arith, lt));
   closed = λ same. refl;
 }
-
-pub leaf_top : (i : Indexed) (t : Top) (l : Leaf) → IsLeafTop i t l → IsTop i t (leaf l)
-leaf_top i t l top = record { head = top.head; bound = top.bound; summed = λ lt. omega (arith, top.exact lt); closed = top.closed }
 
 -- an ended head: nothing is given
 pub IsHead-none : (weight id : ℕ) (f : ℕ → Option ℕ) → IsHead (2 ^ 32) weight f → f id ≡ None
@@ -152,21 +140,6 @@ target_ended form from head lt = by (is_led form) refl
     by true e up = (e, up)
     by false e up = absurd (omega (arith, lt, up))
 
--- the second side of a form that is led is sought from the first one's head
-pub target_led : (form : Form) (from head next : ℕ) → next ≡ second_target form from head → is_led form ≡ true → next ≡ head
-target_led form from head next is led = is ∙ by (is_led form) led
-  where
-    by : (test : Bool) → test ≡ true → (if test then head else from) ≡ head
-    by true e = refl
-    by false e = cc
-
-pub target_further : (form : Form) (from head : ℕ) → from ≤ head → from ≤ second_target form from head
-target_further form from head le = by (is_led form)
-  where
-    by : (test : Bool) → from ≤ (if test then head else from)
-    by true = le
-    by false = le_refl from
-
 -- what is left begins at the target or behind it
 pub head_reached : (target need head weight : ℕ) (f g : ℕ → Option ℕ) → Covers (from_on target f) g need → IsHead head weight g → target < 2 ^ 32 → target ≤ head
 head_reached target need head weight f g covers h lt =
@@ -232,18 +205,6 @@ pub record SidesSoFar (i : Indexed) (form : Form) (target need from : ℕ) (ta0 
   pub second_falls : tb.greatest ≤ tb0.greatest
   pub first_smaller : size_of a ≤ size_of a0
   pub second_smaller : size_of b ≤ size_of b0
-
-pub sides_begin : (i : Indexed) (form : Form) (target need : ℕ) (ta : Top) (a : Shape) (tb : Top) (b : Shape) → IsPair i ta a tb b (Sound i a) (Sound i b) → target < 2 ^ 32
-    → SidesSoFar i form target need target ta a tb b ta a tb b
-sides_begin i form target need ta a tb b kept lt = record {
-  pair = kept;
-  covers = λ id. covers_itself (from_on target (λ id. paired form (rest i a id) (rest i b id)) id) need;
-  within = lt;
-  first_falls = le_refl ta.greatest;
-  second_falls = le_refl tb.greatest;
-  first_smaller = le_refl (size_of a);
-  second_smaller = le_refl (size_of b);
-}
 
 -- both sides moved on once more
 pub sides_covers : (i : Indexed) (form : Form) (target need from next : ℕ) (ta0 : Top) (a0 : Shape) (tb0 : Top) (b0 : Shape) (ta : Top) (a : Shape) (tb : Top) (b : Shape) (ua : Top) (c : Shape) (d : Shape)

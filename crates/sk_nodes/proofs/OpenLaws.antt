@@ -1,5 +1,5 @@
 -- What a nest of two-sided nodes makes of the scores of parts.
-use Rattle.std.proofs.Common.{◌≡◌, ◌≤◌, ◌<◌, ◌+◌, ◌^◌, ◌&&◌, ℕ, max, nat_le, Bool, true, false, List, [], ◌∷◌, ◌++◌, length, take, drop, slice_get, Option, None, Some, All, is_some, is_none, unwrap_or, refl, sym, subst, ap, ◌∙◌, arith}
+use Rattle.std.proofs.Common.{◌≡◌, ◌≤◌, ◌<◌, ◌+◌, ◌^◌, ◌&&◌, ℕ, max, nat_le, Bool, true, false, List, [], ◌∷◌, ◌++◌, length, take, drop, Option, None, Some, All, is_some, is_none, unwrap_or, refl, sym, subst, ap, ◌∙◌, arith}
 use Rattle.std.proofs.lemmas.Bool.Decides.{nat_tests}
 use Rattle.std.proofs.lemmas.List.{take-append-drop}
 use Rattle.sk_base.specs.declared.find.Scheme.{Scheme}
@@ -21,7 +21,7 @@ use Rattle.sk_model.proofs.WeightLaws.{ceil_small}
 use Rattle.sk_decay.specs.Sides.{paired, greatest_under}
 use Rattle.sk_decay.proofs.SideLaws.{paired-none}
 use Rattle.sk_nodes.specs.Walked.{count_in, is_walked, are_walked, is_form_walked}
-use Rattle.sk_nodes.specs.Opened.{score_of, joint_score_of, others_of, query_size, parts_size, AreParts}
+use Rattle.sk_nodes.specs.Opened.{joint_score_of, others_of, query_size, parts_size, AreParts}
 
 -- ---- parts, one behind the other
 
@@ -175,15 +175,6 @@ ceil_of-split Form.AndNot bs cs some = omega (arith, first_in-append bs cs some)
 ceil_of-split Form.AndMaybe bs cs some = omega (arith, sum_in-append bs cs)
 ceil_of-split Form.Filter bs cs some = omega (arith, first_in-append bs cs some)
 
-pub ceil_of-one : (form : Form) (b : ℕ) → ceil_of form (b ∷ []) ≡ b
-ceil_of-one Form.And b = omega arith
-ceil_of-one Form.Or b = omega arith
-ceil_of-one Form.Xor b = omega arith
-ceil_of-one Form.Max b = omega arith
-ceil_of-one Form.AndNot b = refl
-ceil_of-one Form.AndMaybe b = omega arith
-ceil_of-one Form.Filter b = refl
-
 -- ---- parts, and the parts that are put together first
 
 length-scores : (ts : Trees.Trees) (scheme : Scheme) (factor : ℕ) (d : Document) → length (scores ts scheme factor d) ≡ count_in ts
@@ -299,49 +290,11 @@ module _ (form : Form) (factor : ℕ) (ts fs bs : Trees.Trees) (e : ts ≡ joine
       let second = ceil_small scheme docs light (parts (others_of form) bs) factor (true_both (has_parts bs) (are_sound factor bs) (has_parts-some bs back_some) sounds.1) small split_back.leaves in
       omega (arith, first, second)
 
--- ---- a query of several
+-- ---- an and whose first part is put behind the others
 
-pub form_of-parts : (t : Trees.Tree) (form : Form) (ts : Trees.Trees) → Some (form, ts) ≡ form_of t → t ≡ parts form ts
-form_of-parts Trees.nothing form ts e = cc
-form_of-parts Trees.all form ts e = cc
-form_of-parts (Trees.term t) form ts e = cc
-form_of-parts (Trees.wildcard prefix) form ts e = cc
-form_of-parts (parts f us) form ts e = let same : (form, ts) ≡ (f, us) = cc in sym (ap (λ (p : Form × Trees.Trees). parts p.0 p.1) same)
-form_of-parts (Trees.near window ws) form ts e = cc
-form_of-parts (Trees.phrase window ws) form ts e = cc
-form_of-parts (Trees.synonym ws) form ts e = cc
-form_of-parts (Trees.scale f t) form ts e = cc
-form_of-parts (Trees.range slot lo hi) form ts e = cc
-
-counts_some : (ts : Trees.Trees) → has_parts ts ≡ true → 0 < count_in ts
-counts_some no_trees e = cc
-counts_some (tree t ts) e = omega arith
-
-pub query_parts : (t : Trees.Tree) (form : Form) (factor : ℕ) (ts : Trees.Trees) → t ≡ parts form ts → is_sound factor t ≡ true → leaves_of t ≤ 1024 → is_walked t ≡ true → AreParts form factor ts
-query_parts t form factor ts e sound few walked =
-    let sounds = both_true (has_parts ts) (are_sound factor ts) (ap (is_sound factor) (sym e) ∙ sound) in
-    let walks = both_true (is_form_walked form (count_in ts)) (are_walked ts) (ap is_walked (sym e) ∙ walked) in
-    record {
-      some = counts_some ts sounds.0;
-      sound = sounds.1;
-      leaves = omega (arith, ap leaves_of e, few);
-      joins = walks.0;
-      walked = walks.1;
-    }
-
-same_score : (form : Form) (ts : Trees.Trees) (scheme : Scheme) (factor : ℕ) (o : Option Document) → score_of (parts form ts) scheme factor o ≡ joint_score_of form ts scheme factor o
-same_score form ts scheme factor None = refl
-same_score form ts scheme factor (Some d) = refl
-
-pub query_scores : (t : Trees.Tree) (form : Form) (factor : ℕ) (ts : Trees.Trees) → t ≡ parts form ts → (scheme : Scheme) (o : Option Document) → score_of t scheme factor o ≡ joint_score_of form ts scheme factor o
-query_scores t form factor ts e scheme o = ap (λ u. score_of u scheme factor o) e ∙ same_score form ts scheme factor o
-
--- ---- one part alone
-
-one_view : (ps : List Query) → length ps ≡ 1 → (q : Query) → slice_get ps 0 ≡ Some q → queries_view ps ≡ tree (query_view q) no_trees
-one_view [] e q f = absurd (omega (arith, e))
-one_view (p ∷ []) e q f = let same : p ≡ q = cc in ap (λ r. tree (query_view r) no_trees) same
-one_view (p ∷ r ∷ ps) e q f = absurd (omega (arith, e))
+module _ (factor : ℕ) (ts fs bs : Trees.Trees) (e : ts ≡ joined bs fs) (are : AreParts Form.And factor ts) (front_some : 0 < count_in fs) (back_some : 0 < count_in bs) where
+  pub turned_fits : factor ≤ 65536 → (scheme : Scheme) (docs : Docs) → All IsLight docs → ceil_of Form.And (ceils fs scheme factor docs) + ceil_of Form.And (ceils bs scheme factor docs) < 2 ^ 63
+  turned_fits small scheme docs light = omega (arith, split_fits Form.And factor ts bs fs e are back_some front_some small scheme docs light)
 
 -- ---- the whole query
 

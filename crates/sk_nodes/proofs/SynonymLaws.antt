@@ -6,7 +6,7 @@ use Rattle.std.proofs.lemmas.List.Folds.{list_any-append}
 use Rattle.std.proofs.lemmas.List.{take-append-drop}
 use Rattle.sk_base.specs.declared.find.Scheme.{Scheme}
 use Rattle.sk_base.specs.declared.doc_entry.DocTerm.{DocTerm}
-use Rattle.sk_base.specs.Documents.{has_term, wdf_of}
+use Rattle.sk_base.specs.Documents.{has_term}
 use Rattle.sk_base.specs.Loads.{load_of, IsLight}
 use Rattle.sk_base.specs.Numbers.{Docs, length_of, greatest_of}
 use Rattle.sk_sorted.proofs.EntryLaws.{AllByRecursion-found}
@@ -56,9 +56,6 @@ none_sum (t ∷ ts) terms e =
     behind true b e = cc
     behind false b e = e
 
-same : (m n : ℕ) → m ≡ n → Some m ≡ Some n
-same m n e = ap Some e
-
 by_scheme : (scheme : Scheme) (factor : ℕ) (a b : Bool) (x y : ℕ) → (a ≡ false → x ≡ 0) → (b ≡ false → y ≡ 0)
     → weight_if (a || b) (weigh_by factor scheme (x + y)) ≡ paired (joint_form scheme) (weight_if a (weigh_by factor scheme x)) (weight_if b (weigh_by factor scheme y))
 by_scheme Scheme.Bool factor true true x y h g = ap Some (omega arith)
@@ -81,18 +78,6 @@ synonym-split scheme factor xs ys None = sym (paired-none (joint_form scheme))
 synonym-split scheme factor xs ys (Some d) =
     (λ i. weight_if (list_any-append (λ t. has_term t d.terms) xs ys i) (weigh_by factor scheme (wdf_sum-append xs ys d.terms i)))
     ∙ by_scheme scheme factor (list_any (λ t. has_term t d.terms) xs) (list_any (λ t. has_term t d.terms) ys) (wdf_sum xs d.terms) (wdf_sum ys d.terms) (none_sum xs d.terms) (none_sum ys d.terms)
-
-no_more : (a : Bool) → (a || false) ≡ a
-no_more true = refl
-no_more false = refl
-
-nothing_more : (n : ℕ) → n + 0 ≡ n
-nothing_more n = omega arith
-
--- a synonym of one
-pub synonym-one : (scheme : Scheme) (factor : ℕ) (t : List ℕ) (o : Option Document) → score_of (Trees.synonym (t ∷ [])) scheme factor o ≡ score_of (Trees.term t) scheme factor o
-synonym-one scheme factor t None = refl
-synonym-one scheme factor t (Some d) = λ i. weight_if (no_more (has_term t d.terms) i) (weigh_by factor scheme (nothing_more (wdf_of t d.terms) i))
 
 -- ---- bounds
 

@@ -4,6 +4,7 @@ ghost use Rattle.sk_base.specs.declared.find.Scheme.{Scheme};
 ghost use Rattle.sk_base.specs.Loads.{IsLight};
 ghost use Rattle.sk_base.specs.Numbers.{Docs, length_of};
 ghost use Rattle.sk_sorted.specs.Entries.{AreSorted};
+ghost use Rattle.sk_query.specs.declared.form.Form.TheVariants as Form;
 ghost use Rattle.sk_query.specs.Trees as QueryTree;
 ghost use Rattle.sk_query.specs.Trees.{query_view, queries_view};
 ghost use Rattle.sk_query.specs.Fits.{is_sound, leaves_of};
@@ -27,6 +28,7 @@ use sk_base::{Scheme, Term};
 use sk_index::Index;
 use sk_query::{Form, Query};
 use sk_steps::Steps;
+use sk_weight::static_count;
 use std::alloc::{AllocError, Global};
 use std::sync::ledger::Ledger;
 
@@ -127,7 +129,7 @@ fn open_parts<L: Ledger>(
     if let Some(part) = only_part(form, parts, factor) {
         return open_node(alloc, index, part, scheme, factor, most, spent, steps);
     }
-    let (front, back) = split_parts(form, parts, factor);
+    let (front, back) = split_parts(index, form, parts, factor);
     let (ta, a) = open_parts(
         alloc, index, form, front, scheme, factor, most, spent, steps,
     )?;
@@ -182,7 +184,67 @@ fn only_part(form: Form, parts: &[Query], _factor: u64) -> Option<&Query>
 }
 
 /// The parts that are put together first, and the others.
-fn split_parts(form: Form, parts: &[Query], _factor: u64) -> (&[Query], &[Query])
+fn split_parts<'a>(
+    index: &Index,
+    form: Form,
+    parts: &'a [Query],
+    _factor: u64,
+) -> (&'a [Query], &'a [Query])
+    requires factor { _factor ≤ 65536 }
+    requires parts { AreParts form _factor (queries_view parts.now) }
+    requires many { 2 ≤ length parts.now }
+    ensures front { AreParts form _factor (queries_view result.0.now) }
+    ensures back { AreParts (others_of form) _factor (queries_view result.1.now) }
+    ensures front_size { parts_size (queries_view result.0.now) < parts_size (queries_view parts.now) }
+    ensures back_size { parts_size (queries_view result.1.now) < parts_size (queries_view parts.now) }
+    ensures scores { (scheme : Scheme) (o : Option Document) → joint_score_of form (queries_view parts.now) scheme _factor o ≡ paired form (joint_score_of form (queries_view result.0.now) scheme _factor o) (joint_score_of (others_of form) (queries_view result.1.now) scheme _factor o) }
+    ensures ceiling { (scheme : Scheme) (docs : Docs) → greatest_under form (ceil_of form (ceils (queries_view result.0.now) scheme _factor docs)) (ceil_of (others_of form) (ceils (queries_view result.1.now) scheme _factor docs)) ≤ ceil_of form (ceils (queries_view parts.now) scheme _factor docs) }
+    ensures fits { (scheme : Scheme) (docs : Docs) → All IsLight docs → ceil_of form (ceils (queries_view result.0.now) scheme _factor docs) + ceil_of (others_of form) (ceils (queries_view result.1.now) scheme _factor docs) < 2 ^ 63 }
+    ensures readings { (docs : Docs) → leaves_readings (queries_view parts.now) docs ≡ leaves_readings (queries_view result.0.now) docs + leaves_readings (queries_view result.1.now) docs }
+{
+    match form {
+        Form::And => split_and(index, parts, _factor),
+        Form::Or => split_in_order(Form::Or, parts, _factor),
+        Form::Xor => split_in_order(Form::Xor, parts, _factor),
+        Form::Max => split_in_order(Form::Max, parts, _factor),
+        Form::AndNot => split_in_order(Form::AndNot, parts, _factor),
+        Form::AndMaybe => split_in_order(Form::AndMaybe, parts, _factor),
+        Form::Filter => split_in_order(Form::Filter, parts, _factor),
+    }
+}
+
+/// The parts of an and: the longer one of the first and the last is put behind the others, so that in the end the shortest
+/// part leads.
+fn split_and<'a>(index: &Index, parts: &'a [Query], _factor: u64) -> (&'a [Query], &'a [Query])
+    requires factor { _factor ≤ 65536 }
+    requires parts { AreParts Form.And _factor (queries_view parts.now) }
+    requires many { 2 ≤ length parts.now }
+    ensures front { AreParts Form.And _factor (queries_view result.0.now) }
+    ensures back { AreParts (others_of Form.And) _factor (queries_view result.1.now) }
+    ensures front_size { parts_size (queries_view result.0.now) < parts_size (queries_view parts.now) }
+    ensures back_size { parts_size (queries_view result.1.now) < parts_size (queries_view parts.now) }
+    ensures scores { (scheme : Scheme) (o : Option Document) → joint_score_of Form.And (queries_view parts.now) scheme _factor o ≡ paired Form.And (joint_score_of Form.And (queries_view result.0.now) scheme _factor o) (joint_score_of (others_of Form.And) (queries_view result.1.now) scheme _factor o) }
+    ensures ceiling { (scheme : Scheme) (docs : Docs) → greatest_under Form.And (ceil_of Form.And (ceils (queries_view result.0.now) scheme _factor docs)) (ceil_of (others_of Form.And) (ceils (queries_view result.1.now) scheme _factor docs)) ≤ ceil_of Form.And (ceils (queries_view parts.now) scheme _factor docs) }
+    ensures fits { (scheme : Scheme) (docs : Docs) → All IsLight docs → ceil_of Form.And (ceils (queries_view result.0.now) scheme _factor docs) + ceil_of (others_of Form.And) (ceils (queries_view result.1.now) scheme _factor docs) < 2 ^ 63 }
+    ensures readings { (docs : Docs) → leaves_readings (queries_view parts.now) docs ≡ leaves_readings (queries_view result.0.now) docs + leaves_readings (queries_view result.1.now) docs }
+{
+    if is_longer(index, parts) {
+        let (first, others) = parts.split_at(1);
+        return (others, first);
+    }
+    split_in_order(Form::And, parts, _factor)
+}
+
+/// Whether more documents may match the first part than the last.
+fn is_longer(index: &Index, parts: &[Query]) -> bool
+    requires { 2 ≤ length parts.now }
+{
+    let last = parts.len() - 1;
+    last < MOST_NESTED && static_count(index, &parts[last]) < static_count(index, &parts[0])
+}
+
+/// The same in the order of the parts.
+fn split_in_order(form: Form, parts: &[Query], _factor: u64) -> (&[Query], &[Query])
     requires factor { _factor ≤ 65536 }
     requires parts { AreParts form _factor (queries_view parts.now) }
     requires many { 2 ≤ length parts.now }

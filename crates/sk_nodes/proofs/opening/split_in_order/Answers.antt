@@ -4,7 +4,7 @@ use Rattle.sk_query.specs.Trees.{queries_view}
 use Rattle.sk_nodes.specs.Walked.{count_in}
 use Rattle.sk_nodes.proofs.WalkedLaws.{counted}
 use Rattle.sk_nodes.proofs.OpenLaws.{joined, parts_joined, split_front, split_back, split_front_size, split_back_size, split_scores, split_ceiling, split_readings, split_fits}
-use Rattle.sk_nodes.proofs.opening.split_parts.Goals as goal
+use Rattle.sk_nodes.proofs.opening.split_in_order.Goals as goal
 
 whole : (c : goal.After-split_at) → queries_view c.args.parts.now ≡ joined (queries_view c.split_at.result.0.now) (queries_view c.split_at.result.1.now)
 whole c = parts_joined c.args.parts.now c.split_at.result.0.now c.split_at.result.1.now c.split_of.result c.split_at.ensures.front c.split_at.ensures.back

@@ -1,0 +1,26 @@
+-- What holds of an and holds of its first part and of the others, which are put together first.
+use Rattle.std.proofs.Common.{◌≡◌, ◌<◌, arith}
+use Rattle.sk_query.specs.declared.form.Form.{Form}
+use Rattle.sk_query.specs.Trees.{queries_view}
+use Rattle.sk_nodes.specs.Walked.{count_in}
+use Rattle.sk_nodes.proofs.WalkedLaws.{counted}
+use Rattle.sk_nodes.proofs.OpenLaws.{joined, parts_joined, split_back, split_front_size, turned_fits}
+use Rattle.sk_nodes.proofs.opening.split_and.Goals as goal
+
+whole : (c : goal.After-others-1) → queries_view c.args.parts.now ≡ joined (queries_view c.split_at.result.0.now) (queries_view c.split_at.result.1.now)
+whole c = parts_joined c.args.parts.now c.split_at.result.0.now c.split_at.result.1.now 1 c.split_at.ensures.front c.split_at.ensures.back
+
+first_some : (c : goal.After-others-1) → 0 < count_in (queries_view c.split_at.result.0.now)
+first_some c = omega (arith, counted c.split_at.result.0.now, c.split_at.ensures.front_len)
+
+others_some : (c : goal.After-others-1) → 0 < count_in (queries_view c.split_at.result.1.now)
+others_some c = omega (arith, counted c.split_at.result.1.now, c.split_at.ensures.back_len, c.requires.many)
+
+pub returns-then-is_longer-clause-front : goal.returns-then-is_longer-clause-front
+returns-then-is_longer-clause-front c = split_back Form.And c.args._factor _ _ _ (whole c) c.requires.parts (first_some c) (others_some c)
+
+pub returns-then-is_longer-clause-back_size : goal.returns-then-is_longer-clause-back_size
+returns-then-is_longer-clause-back_size c = split_front_size Form.And c.args._factor _ _ _ (whole c) c.requires.parts (first_some c) (others_some c)
+
+pub returns-then-is_longer-clause-fits : goal.returns-then-is_longer-clause-fits
+returns-then-is_longer-clause-fits c = turned_fits c.args._factor _ _ _ (whole c) c.requires.parts (others_some c) (first_some c) c.requires.factor
