@@ -5,6 +5,7 @@ ghost use Rattle.std.specs.Prelude.{◌≡◌};
 
 mod pattern;
 mod section;
+mod setting;
 
 use section::{Outcome, Section};
 use sk_io::{Line, Lines, StdSource};
@@ -20,7 +21,7 @@ fn main(rt: HostRuntime) -> io::Result<ExitCode> {
     let alloc = rt.alloc();
     let mut source = StdSource::new(rt.stdin());
     let mut lines = Lines::new(alloc, MOST_BYTES)?;
-    let mut section = Section::new(alloc);
+    let mut section = Section::new(alloc)?;
     let mut rows = 0u64;
     let mut differing = 0u64;
     for _ in 0..u64::MAX {
@@ -35,13 +36,14 @@ fn main(rt: HostRuntime) -> io::Result<ExitCode> {
         if line.is_none_or(section::is_title) {
             let outcome = section.run::<Brand>(Blank::new(1), alloc)?;
             rows = rows.saturating_add(section.rows());
-            if let Outcome::Differs(answered) = outcome {
+            if let Outcome::Differs(answered, said, code) = outcome {
                 differing = differing.saturating_add(1);
                 let title = section.title();
                 let answered = answered.as_str();
-                println!(rt; "differs: {title}\n{answered}")?;
+                let said = said.as_str();
+                println!(rt; "differs: {title}\n{answered}{said}ended with {code}")?;
             }
-            section = Section::new(alloc);
+            section = Section::new(alloc)?;
         }
         match line {
             Some(line) => section.add(alloc, line)?,

@@ -1,4 +1,5 @@
 //! How lines and answers are written in a section.
+use crate::setting::number_in;
 use std::alloc::AllocError;
 use std::str;
 
@@ -31,10 +32,10 @@ fn line_fits(want: &str, line: &str) -> bool {
 }
 
 fn is_at_most(number: &str, most: &str) -> bool {
-    match (number.parse::<u64>(), most.parse::<u64>()) {
-        (Ok(number), Ok(most)) => number <= most,
-        _ => false,
-    }
+    let Some(number) = number_in(number) else {
+        return false;
+    };
+    number_in(most).is_some_and(|most| number <= most)
 }
 
 /// Puts a line. `<<N*B>>` in it stands for a byte N times, B being its number in two hexadecimal digits.

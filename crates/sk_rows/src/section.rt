@@ -1,31 +1,36 @@
-//! A section: a title, lines, and what they are to be answered.
+//! A section: a title, how it is run, lines, and what they are to be answered.
 ghost use Rattle.std.specs.Prelude.{◌≡◌};
 
 use crate::pattern::{fits, put_expanded};
-use sk_engine::run;
+use crate::setting::Setting;
+use sk_engine::start;
 use sk_io::{MemorySink, MemorySource};
-use sk_steps::Steps;
 use std::alloc::{AllocError, Global};
 use std::str;
 use std::sync::ledger::{Blank, Ledger};
 
-/// How many bytes a section may be answered.
-const ROOM: usize = 1 << 20;
+/// What is said where the word is no form.
+const USAGE: &[u8] = b"usage: run";
 
 /// What a section came to.
 #[derive(Debug, Drop)]
 pub enum Outcome {
     Fits,
-    /// What its lines were answered.
-    Differs(String),
+    /// What its lines were answered, what was said, and the number that the program ended with.
+    Differs(String, String, u8),
 }
 
 /// A title, lines of commands, and what these are to be answered.
 #[derive(Debug, Drop)]
 pub struct Section {
     title: String,
+    setting: Setting,
+    /// Whether each line that sets something has a meaning.
+    is_set: bool,
     input: Vec<u8>,
     wanted: Vec<String>,
+    /// What is to be said on the errors.
+    said: Vec<String>,
     rows: u64,
 }
 
@@ -35,13 +40,16 @@ pub fn is_title(line: &[u8]) -> bool {
 }
 
 impl Section {
-    pub fn new(alloc: Global) -> Section {
-        Section {
+    pub fn new(alloc: Global) -> Result<Section, AllocError> {
+        Ok(Section {
             title: String::new(alloc),
+            setting: Setting::new(alloc)?,
+            is_set: true,
             input: Vec::new(alloc),
             wanted: Vec::new(alloc),
+            said: Vec::new(alloc),
             rows: 0,
-        }
+        })
     }
 
     pub fn title(&self) -> &str {
@@ -53,18 +61,43 @@ impl Section {
         self.rows
     }
 
-    /// Adds a line: `# ` and the title, `> ` and a line of commands, or an answer. A blank line is nothing.
+    /// Adds a line: `# ` and the title, `@ ` and what is set, `> ` and a line of commands, `>> ` and one without its end,
+    /// `! ` and a line that is said, or an answer. A blank line is nothing.
     pub fn add(&mut self, alloc: Global, line: &[u8]) -> Result<(), AllocError> {
         if let Some(title) = line.strip_prefix(b"# ") {
             self.title = String::from_utf8_lossy(alloc, title)?;
+        } else if let Some(set) = line.strip_prefix(b"@ ") {
+            let set = String::from_utf8_lossy(alloc, set)?;
+            self.is_set = self.setting.set(set.as_str())? && self.is_set;
         } else if let Some(command) = line.strip_prefix(b"> ") {
             put_expanded(&mut self.input, command)?;
             self.input.push(b'\n')?;
             self.rows = self.rows.saturating_add(1);
+        } else if let Some(command) = line.strip_prefix(b">> ") {
+            put_expanded(&mut self.input, command)?;
+            self.rows = self.rows.saturating_add(1);
+        } else if let Some(said) = line.strip_prefix(b"! ") {
+            self.said.push(String::from_utf8_lossy(alloc, said)?)?;
         } else if !line.is_empty() {
             self.wanted.push(String::from_utf8_lossy(alloc, line)?)?;
         }
         Ok(())
+    }
+
+    /// The number that the program is to end with: where nothing is set 1 if a line is refused, and 0 if none is.
+    fn code(&self) -> u64 {
+        if let Some(code) = self.setting.code {
+            return code;
+        }
+        if self
+            .wanted
+            .iter()
+            .any(|line| line.as_str().starts_with("refused "))
+        {
+            1
+        } else {
+            0
+        }
     }
 
     /// Runs the lines over a store of their own.
@@ -73,25 +106,36 @@ impl Section {
         requires parts { blank.parts ≡ L.parts }
         requires one { blank.parts ≡ 1 }
     {
-        let mut steps = Steps::<L>::open(blank);
-        let mut words = Vec::new(alloc);
-        words.push(String::from_str(alloc, "run")?)?;
-        let mut input = MemorySource::new(self.input.clone()?, 65_536, Vec::new(alloc));
+        let mut arguments = Vec::new(alloc);
+        arguments.push(String::from_str(alloc, "program")?)?;
+        arguments.push(self.setting.word.clone()?)?;
+        let piece = self.setting.piece.max(1);
+        let reads = vec![in alloc; self.setting.read; 1]?;
+        let writes = vec![in alloc; self.setting.write; 1]?;
+        let mut input = MemorySource::new(self.input.clone()?, piece, reads);
         let mut records = MemorySource::new(Vec::new(alloc), 1, Vec::new(alloc));
-        let mut output = MemorySink::new(alloc, 65_536, ROOM, Vec::new(alloc))?;
-        let _status = run(
+        let mut output = MemorySink::new(alloc, piece, self.setting.room, writes)?;
+        let mut errors = MemorySink::new(alloc, 100, 100, Vec::new(alloc))?;
+        let code = start::<_, _, _, _, L>(
+            blank,
             alloc,
-            words.as_slice(),
+            USAGE,
+            Ok(arguments),
             &mut input,
             &mut records,
             &mut output,
-            &mut steps,
+            &mut errors,
         );
         let answered = String::from_utf8_lossy(alloc, output.bytes())?;
-        if fits(self.wanted.as_slice(), answered.as_str()) {
+        let said = String::from_utf8_lossy(alloc, errors.bytes())?;
+        if self.is_set
+            && fits(self.wanted.as_slice(), answered.as_str())
+            && fits(self.said.as_slice(), said.as_str())
+            && u64::from(code) == self.code()
+        {
             Ok(Outcome::Fits)
         } else {
-            Ok(Outcome::Differs(answered))
+            Ok(Outcome::Differs(answered, said, code))
         }
     }
 }

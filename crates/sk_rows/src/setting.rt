@@ -1,0 +1,67 @@
+//! How a section is run, and what the program comes to.
+use std::alloc::{AllocError, Global};
+
+/// The word that the program is started with, how its streams give and take, and the number that it is to end with.
+#[derive(Debug, Drop)]
+pub struct Setting {
+    pub word: String,
+    /// How many bytes a call gives or takes at the most.
+    pub piece: usize,
+    /// How many bytes the output takes.
+    pub room: usize,
+    /// Which call of the input fails, and which of the output, counted from 1; none where it is 0.
+    pub read: u64,
+    pub write: u64,
+    /// None where the section does not say it.
+    pub code: Option<u64>,
+}
+
+impl Setting {
+    /// Streams that give and take all.
+    pub fn new(alloc: Global) -> Result<Setting, AllocError> {
+        Ok(Setting {
+            word: String::from_str(alloc, "run")?,
+            piece: 65_536,
+            room: 1 << 20,
+            read: 0,
+            write: 0,
+            code: None,
+        })
+    }
+
+    /// Takes what a line sets, as `piece=3 read=1`, and answers whether all of it has a meaning.
+    pub fn set(&mut self, line: &str) -> Result<bool, AllocError> {
+        let alloc = *self.word.allocator();
+        for part in line.split(' ') {
+            let Some((name, value)) = part.split_once("=") else {
+                return Ok(false);
+            };
+            if name == "word" {
+                self.word = String::from_str(alloc, value)?;
+            } else if !self.set_number(name, value) {
+                return Ok(false);
+            }
+        }
+        Ok(true)
+    }
+
+    fn set_number(&mut self, name: &str, value: &str) -> bool {
+        let Some(number) = number_in(value) else {
+            return false;
+        };
+        match name {
+            "piece" => self.piece = number as usize,
+            "room" => self.room = number as usize,
+            "read" => self.read = number,
+            "write" => self.write = number,
+            "code" => self.code = Some(number),
+            _ => return false,
+        }
+        true
+    }
+}
+
+/// The number that a text is.
+pub fn number_in(text: &str) -> Option<u64> {
+    text.parse::<u64>().ok()
+}
