@@ -12,6 +12,3 @@ mod schema;
 
 pub use fault::LineFault;
 pub use reader::command;
-
-#[cfg(test)]
-mod tests;
