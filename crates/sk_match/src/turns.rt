@@ -85,7 +85,8 @@ impl Search {
         // It is done exactly where nothing is left to see, and then nothing changes.
         ensures done { IfOk result (λ turn. turn ≡ Turn.Done → (ahead index.now self.old ≡ []) × (self.new ≡ self.old) × (steps.new ≡ steps.old)) }
 
-        // What it saw is left to see no more.
+        // What it saw, and that alone, is left to see no more.
+        ensures one { IfOk result (λ turn. turn ≡ Turn.More → ahead index.now self.new ≡ drop 1 (ahead index.now self.old)) }
         ensures more { IfOk result (λ turn. turn ≡ Turn.More → length (ahead index.now self.new) < length (ahead index.now self.old)) }
         ensures all { IfOk result (λ turn. all_of index.now self.new ≡ all_of index.now self.old) }
         ensures cost { steps.new + self.old.tree.spent ≡ steps.old + self.new.tree.spent }
