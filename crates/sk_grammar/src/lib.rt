@@ -1,4 +1,5 @@
-//! The query language: what its tokens are, which texts are queries, and which query a text is. Types, definitions and laws, and no other code.
+//! The query language: what its tokens are, which texts are queries, and which query a text is. Types, definitions and
+//! laws, and no other code.
 #![tactic(auto)]
 
 mod cutting;

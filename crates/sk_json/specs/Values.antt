@@ -32,8 +32,8 @@ abbrev pub text_at : List ℕ → Data → Option (List ℕ)
 text_at name d = option_and_then as_str (get name d)
 
 -- The unsigned number of 64 bits that a value is.
-abbrev pub number_of : Data → Option ℕ
-number_of d = option_and_then as_u64 (as_number d)
+abbrev pub whole_number : Data → Option ℕ
+whole_number d = option_and_then as_u64 (as_number d)
 
 -- The number, where it lies between these.
 abbrev pub between : ℕ → ℕ → ℕ → Option ℕ
@@ -50,7 +50,7 @@ optional_text name d = optional [] as_str (get name d)
 
 -- The number at a member that may be absent.
 abbrev pub optional_number : List ℕ → ℕ → Data → Option ℕ
-optional_number name otherwise d = optional otherwise number_of (get name d)
+optional_number name otherwise d = optional otherwise whole_number (get name d)
 
 -- Whether a member that may be absent says true.
 abbrev pub optional_flag : List ℕ → Data → Option Bool

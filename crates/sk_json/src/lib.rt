@@ -5,6 +5,6 @@ mod members;
 mod strings;
 
 pub use members::{
-    between, has, has_only, number_of, optional_flag, optional_number, optional_text, text_at,
+    between, has, has_only, optional_flag, optional_number, optional_text, text_at, whole_number,
 };
 pub use strings::{is_within, texts_of, two_texts};

@@ -1,7 +1,7 @@
 //! The members of an object, and numbers.
 ghost use Rattle.std.specs.Prelude.{◌≡◌, map, option_map};
 ghost use Rattle.serde_json.specs.View.{view, members_view};
-ghost use Rattle.sk_json.specs.Values.{has, has_only, all_names, is_one_of, text_at, number_of, between, optional_text, optional_number, optional_flag};
+ghost use Rattle.sk_json.specs.Values.{has, has_only, all_names, is_one_of, text_at, whole_number, between, optional_text, optional_number, optional_flag};
 
 use serde_json::{Map, Value};
 
@@ -50,8 +50,8 @@ pub fn text_at<'a>(value: &'a Value, name: &str) -> Option<&'a str>
 }
 
 /// The unsigned number of 64 bits that the value is.
-pub fn number_of(value: &Value) -> Option<u64>
-    ensures { result ≡ number_of (view value.now) }
+pub fn whole_number(value: &Value) -> Option<u64>
+    ensures { result ≡ whole_number (view value.now) }
 {
     value.as_u64()
 }

@@ -13,8 +13,8 @@ ghost use Rattle.sk_model.specs.Matches.{matches};
 ghost use Rattle.sk_model.specs.Bounds.{ceil, static_count};
 
 /// A law: no document of a list weighs more than `ceil` says, under any scheme and factor. The documents have each of
-/// their terms once, in byte order, and are light (their wdfs are below 2^29 together). The query is sound (it keeps the conditions on
-/// trees), whatever the product of the factors above it.
+/// their terms once, in byte order, and are light (their wdfs are below 2^29 together). The query is sound (it keeps the
+/// conditions on trees), whatever the product of the factors above it.
 pub fn score_within_ceil()
     ensures { (query : Tree) (scheme : Scheme) (above factor : ℕ) (docs : Docs)
         → is_sound above query ≡ true

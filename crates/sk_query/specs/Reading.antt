@@ -3,7 +3,7 @@ use Rattle.std.specs.Prelude.{ℕ, Bool, List, [], ◌∷◌, Option, Some, None
 use Rattle.std.specs.Option.{option_and_then}
 use Rattle.serde_json.specs.Data.{Data, null, boolean, number, string, array, object, Items, no_items, item, Members, no_members, member}
 use Rattle.serde_json.specs.Find.{as_u64}
-use Rattle.sk_json.specs.Values.{number_of, texts_of}
+use Rattle.sk_json.specs.Values.{whole_number, texts_of}
 use Rattle.sk_query.specs.declared.form.Form.{Form}
 use Rattle.sk_query.specs.Trees.{Limit, unbounded, Tree, nothing, all, term, wildcard, parts, near, phrase, synonym, scale, range, Trees, no_trees, tree}
 use Rattle.sk_query.specs.Trees.{number as number_limit, bytes as bytes_limit}
@@ -11,7 +11,7 @@ use Rattle.sk_query.specs.Fits.{is_window, is_factor, is_slot, fits_tree}
 
 -- The number that a value is, where it passes the test.
 abbrev pub number_if : (ℕ → Bool) → Data → Option ℕ
-number_if test d = option_and_then (λ n. if test n then Some n else None) (number_of d)
+number_if test d = option_and_then (λ n. if test n then Some n else None) (whole_number d)
 
 -- A window and strings.
 abbrev pub windowed : Items → Option (ℕ × List (List ℕ))

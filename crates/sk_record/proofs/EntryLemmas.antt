@@ -13,7 +13,7 @@ use Rattle.sk_base.specs.declared.schema.Field.{Field}
 use Rattle.sk_base.specs.declared.schema.FieldKind.{FieldKind}
 use Rattle.sk_base.specs.Fields.{IsSchema, is_field, are_apart}
 use Rattle.sk_base.specs.Records.{fits_kind, fits_field, fits_entry, bytes_of_texts, bytes_of_value, bytes_of_values, most_bytes, FitsValues}
-use Rattle.sk_json.specs.Values.{number_of, texts_of, bytes_in, bytes_in_items}
+use Rattle.sk_json.specs.Values.{whole_number, texts_of, bytes_in, bytes_in_items}
 use Rattle.sk_record.specs.Shapes.{Given}
 use Rattle.sk_record.specs.FieldRules.{filter_texts, value_of, member_value, with_entry, entries_from, names_fields, entries_of, record_of}
 use Rattle.sk_record.proofs.Choices.{some_is, chained, mapped, guarded, second_true}
@@ -54,7 +54,7 @@ value_fits (FieldKind.Text prefix step) d value =
 value_fits (FieldKind.Filter prefix) d value =
     mapped (FitsValue (FieldKind.Filter prefix) (bytes_in d)) (λ texts. FieldValue.Filter texts) (filter_texts d) value (λ texts are. (refl, filter_bytes d texts are))
 value_fits (FieldKind.Number slot) d value =
-    mapped (FitsValue (FieldKind.Number slot) (bytes_in d)) (λ n. FieldValue.Number n) (number_of d) value (λ n is. (refl, omega arith))
+    mapped (FitsValue (FieldKind.Number slot) (bytes_in d)) (λ n. FieldValue.Number n) (whole_number d) value (λ n is. (refl, omega arith))
 value_fits (FieldKind.Word slot) d value =
     mapped (FitsValue (FieldKind.Word slot) (bytes_in d)) (λ text. FieldValue.Word text) (as_str d) value (λ text is. (refl, text_bytes d text is))
 

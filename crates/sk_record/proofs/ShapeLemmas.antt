@@ -6,7 +6,7 @@ use Rattle.serde_json.specs.Data.{Data}
 use Rattle.serde_json.specs.Find.{get, as_str, as_object}
 use Rattle.sk_base.specs.declared.find.Options.{Options}
 use Rattle.sk_base.specs.Records.{most_bytes}
-use Rattle.sk_json.specs.Values.{has, has_only, text_at, number_of, between, optional_text, optional_number, bytes_in}
+use Rattle.sk_json.specs.Values.{has, has_only, text_at, whole_number, between, optional_text, optional_number, bytes_in}
 use Rattle.sk_record.specs.Shapes.{Given, Asked, words, tree, Collapsed, Wanted, Shape, schema, add, replace, replace_by, delete, delete_by, seek, show}
 use Rattle.sk_record.specs.Options.{query_at, join_at, scheme_at, page_at, check_at, sorted_at, collapsed_on, collapsed_by, collapsed_at, options_at, wanted_at, option_names, find_row, tree_row}
 use Rattle.sk_record.specs.Rows.{values_of, given_at, id_at, pair_at, add_row, replace_row, replace_by_row, delete_row, delete_by_row, show_row, later_shape}
@@ -56,7 +56,7 @@ given_short name d given =
 
 id_from_one : (name : List ℕ) (d : Data) (id : ℕ) → id_at name d ≡ Some id → 1 ≤ id
 id_from_one name d id =
-    chained (λ n. 1 ≤ n) (between 1 4294967295) (option_and_then number_of (get name d)) id (λ n is e. between_least 1 4294967295 n id e)
+    chained (λ n. 1 ≤ n) (between 1 4294967295) (option_and_then whole_number (get name d)) id (λ n is e. between_least 1 4294967295 n id e)
 
 query_short : (name : List ℕ) (d : Data) (text : List ℕ) → query_at name d ≡ Some text → length text ≤ most_bytes
 query_short name d text =

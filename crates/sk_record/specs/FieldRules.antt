@@ -15,7 +15,7 @@ use Rattle.sk_base.specs.declared.schema.FieldKind.{FieldKind}
 use Rattle.sk_base.specs.Fields.{are_fields}
 use Rattle.sk_base.specs.Terms.{prefixed}
 use Rattle.sk_record.specs.declared.row.Sort.{Sort}
-use Rattle.sk_json.specs.Values.{all_names, number_of, texts_of}
+use Rattle.sk_json.specs.Values.{all_names, whole_number, texts_of}
 use Rattle.sk_record.specs.Shapes.{Given, Sorted, by_relevance, by_field, Collapsed, Wanted, Shape, schema, add, replace, replace_by, delete, delete_by, seek, show}
 use Rattle.sk_record.specs.Told.{Sought, Told, opens, edits, finds, shows}
 
@@ -36,7 +36,7 @@ filter_texts (object ms) = None
 abbrev pub value_of : FieldKind → Data → Option FieldValue
 value_of (FieldKind.Text prefix step) d = option_map (λ text. FieldValue.Text text) (as_str d)
 value_of (FieldKind.Filter prefix) d = option_map (λ texts. FieldValue.Filter texts) (filter_texts d)
-value_of (FieldKind.Number slot) d = option_map (λ n. FieldValue.Number n) (number_of d)
+value_of (FieldKind.Number slot) d = option_map (λ n. FieldValue.Number n) (whole_number d)
 value_of (FieldKind.Word slot) d = option_map (λ text. FieldValue.Word text) (as_str d)
 
 -- What a member gives for a field of this kind: nothing where it is absent or null.

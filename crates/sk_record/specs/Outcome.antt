@@ -13,14 +13,14 @@ use Rattle.sk_record.specs.Told.{Told, told_by}
 use Rattle.sk_record.specs.FieldRules.{command_of}
 
 -- What was told, or the rule on fields that was broken.
-abbrev pub kept : Option Told → Result Told LineFault
-kept None = Err LineFault.BadField
-kept (Some told) = Ok told
+abbrev pub told_or_broken : Option Told → Result Told LineFault
+told_or_broken None = Err LineFault.BadField
+told_or_broken (Some told) = Ok told
 
 -- The shape is asked for first, and then the rules on fields.
 abbrev pub judged : List Field → Option Shape → Result Told LineFault
 judged fields None = Err LineFault.BadShape
-judged fields (Some shape) = kept (command_of fields shape)
+judged fields (Some shape) = told_or_broken (command_of fields shape)
 
 -- What a value gives, under the fields that were accepted before, if any.
 abbrev pub value_outcome : Option (List Field) → Data → Result Told LineFault

@@ -4,7 +4,7 @@ use Rattle.std.specs.Option.{option_and_then}
 use Rattle.serde_json.specs.Data.{Data}
 use Rattle.serde_json.specs.Find.{get, as_object}
 use Rattle.sk_base.specs.Records.{most_bytes}
-use Rattle.sk_json.specs.Values.{has, has_only, number_of, between, optional_text, two_texts, bytes_in}
+use Rattle.sk_json.specs.Values.{has, has_only, whole_number, between, optional_text, two_texts, bytes_in}
 use Rattle.sk_record.specs.Shapes.{Given, Shape, schema, add, replace, replace_by, delete, delete_by, seek, show}
 use Rattle.sk_record.specs.SchemaFields.{schema_row}
 use Rattle.sk_record.specs.Options.{query_at, join_at, find_row, tree_row}
@@ -21,7 +21,7 @@ given_at name d =
 
 -- The id at a member: 1 to 4,294,967,295.
 abbrev pub id_at : List ℕ → Data → Option ℕ
-id_at name d = option_and_then (between 1 4294967295) (option_and_then number_of (get name d))
+id_at name d = option_and_then (between 1 4294967295) (option_and_then whole_number (get name d))
 
 -- The name of a field and a text, at a member.
 abbrev pub pair_at : List ℕ → Data → Option (List ℕ × List ℕ)

@@ -5,7 +5,7 @@ use Rattle.serde_json.specs.Data.{Data, Items, no_items, item}
 use Rattle.serde_json.specs.Find.{get, as_array}
 use Rattle.sk_base.specs.declared.schema.Field.{Field}
 use Rattle.sk_base.specs.declared.schema.FieldKind.{FieldKind}
-use Rattle.sk_json.specs.Values.{has_only, text_at, optional_text, optional_number, number_of, count_items}
+use Rattle.sk_json.specs.Values.{has_only, text_at, optional_text, optional_number, whole_number, count_items}
 
 -- A number beyond 32 bits is taken as the greatest of 32 bits, which is out of range as well.
 abbrev pub capped : ℕ → ℕ
@@ -27,7 +27,7 @@ filter_kind d =
 -- The slot of a number or a word, which must be there.
 abbrev pub slot_at : Data → Option ℕ
 slot_at d =
-    if has_only (codes "name" ∷ codes "kind" ∷ codes "slot" ∷ []) d then option_map capped (option_and_then number_of (get (codes "slot") d))
+    if has_only (codes "name" ∷ codes "kind" ∷ codes "slot" ∷ []) d then option_map capped (option_and_then whole_number (get (codes "slot") d))
     else None
 
 -- The kind of a field object, by the name of the kind.

@@ -13,7 +13,7 @@ use sk_base::{
     Ask, Collapse, Command, Edit, Entries, Entry, Field, FieldKind, FieldValue, Find, Items, Order,
     Record, SortKey, Term, Text, Texts, prefixed,
 };
-use sk_json::{number_of, texts_of};
+use sk_json::{texts_of, whole_number};
 use std::alloc::{AllocError, Global};
 
 /// The command of a row.
@@ -309,7 +309,7 @@ fn value_of(
             Some(texts) => Ok(Some(FieldValue::Filter(texts))),
             None => Ok(None),
         },
-        FieldKind::Number(_) => match number_of(value) {
+        FieldKind::Number(_) => match whole_number(value) {
             Some(n) => Ok(Some(FieldValue::Number(n))),
             None => Ok(None),
         },

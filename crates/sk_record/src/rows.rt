@@ -8,7 +8,7 @@ use crate::options::{find_row, join_at, query_at, tree_row};
 use crate::row::{RecordRow, Row, TextRow};
 use serde_json::Value;
 use sk_base::MOST_TEXT;
-use sk_json::{between, has, has_only, is_within, number_of, optional_text, two_texts};
+use sk_json::{between, has, has_only, is_within, optional_text, two_texts, whole_number};
 
 /// The row of a line that is no schema, by its first member.
 pub fn later_row(line: &Value) -> Option<Row<'_>>
@@ -122,7 +122,7 @@ fn values_of(value: &Value) -> Option<&Value>
 fn id_at(line: &Value, name: &str) -> Option<u32>
     ensures { result ≡ id_at name.now (view line.now) }
 {
-    between(1, u32::MAX, number_of(line.get(name)?)?)
+    between(1, u32::MAX, whole_number(line.get(name)?)?)
 }
 
 fn pair_at<'a>(line: &'a Value, name: &str) -> Option<TextRow<'a>>

@@ -8,7 +8,7 @@ ghost use Rattle.sk_record.specs.SchemaFields.{capped, text_kind, filter_kind, s
 
 use serde_json::Value;
 use sk_base::{Field, FieldKind, MOST_FIELDS, Text};
-use sk_json::{has_only, number_of, optional_number, optional_text, text_at};
+use sk_json::{has_only, optional_number, optional_text, text_at, whole_number};
 use std::alloc::{AllocError, Global};
 
 /// The fields of a schema line, none where it has not the shape of one.
@@ -147,7 +147,7 @@ fn slot_at(value: &Value) -> Option<u32>
     if !has_only(value, &["name", "kind", "slot"]) {
         return None;
     }
-    let slot = number_of(value.get("slot")?)?;
+    let slot = whole_number(value.get("slot")?)?;
     Some(capped(slot))
 }
 

@@ -12,7 +12,7 @@ use Rattle.sk_io.specs.Answers.{Ends, Stops, ReadsOn}
 use Rattle.sk_run.specs.declared.status.Status.{Status}
 use Rattle.sk_run.specs.Lines.{AnsweredLine}
 use Rattle.sk_run.specs.Ends.{TakesAll}
-use Rattle.sk_run.specs.Ended.{Outside, Told, Finishes, CutsShort, BreaksOff, RunsOut, Ended}
+use Rattle.sk_run.specs.Ended.{Outside, WhereTold, Finishes, CutsShort, BreaksOff, RunsOut, Ended}
 use Rattle.sk_run.specs.Closing.{Output, ClosesWhole, ClosesInPart, ClosesWithout, Closed}
 use Rattle.sk_run.proofs.RunLemmas.{IsPut, none_put, put_more, put_in_part, Reached, begins, reach_more, first_ones, lost, cut, unclosed, closed_all, rose_since}
 

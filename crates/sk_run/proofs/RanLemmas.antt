@@ -6,7 +6,7 @@ use Rattle.sk_run.specs.declared.status.Status.TheVariants as Status
 use Rattle.sk_run.specs.Statuses.{IsFinished, IsCutShort}
 use Rattle.sk_run.specs.Forms.{is_form}
 use Rattle.sk_run.specs.Ends.{TakesAll}
-use Rattle.sk_run.specs.Ended.{Outside, Told, Finishes, CutsShort, BreaksOff, RunsOut, Ended}
+use Rattle.sk_run.specs.Ended.{Outside, WhereTold, Finishes, CutsShort, BreaksOff, RunsOut, Ended}
 use Rattle.sk_run.specs.Ran.{Ran}
 
 module _ {S R : Type 0} (text : R → List ℕ) (refuses : R → Bool) (cost : R → ℕ) (Answers : S → List ℕ → R → S → Type 0) (Closes : S → R → Type 0) (Stands Begins : S → Type 0) (begins : (s : S) → Begins s → Stands s) where

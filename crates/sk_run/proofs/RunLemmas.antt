@@ -16,7 +16,7 @@ use Rattle.sk_io.specs.Answers.{Charged, Ends, LineOf, LongLineOf, OpenLineOf, S
 use Rattle.sk_run.specs.declared.status.Status.{Status}
 use Rattle.sk_run.specs.Lines.{Runs, stop, line, Meets, Answered, AnsweredLine}
 use Rattle.sk_run.specs.Ends.{EndsLine, PutsFront, AnswersAll, AnswersTaken, AnswersFirst, AnswersSome, TakesAll, finished_status}
-use Rattle.sk_run.specs.Ended.{Outside, Told, Finishes, CutsShort, BreaksOff, RunsOut, Ended}
+use Rattle.sk_run.specs.Ended.{Outside, WhereTold, Finishes, CutsShort, BreaksOff, RunsOut, Ended}
 use Rattle.sk_run.specs.Closing.{Output, ClosesWhole, ClosesInPart, ClosesWithout, Closed}
 
 -- as many bytes as are taken off the room were taken of the bytes

@@ -17,8 +17,8 @@ pub record Outside : Type 0 where
   pub steps : ℕ
 
 -- Where the source tells its bytes.
-abbrev pub Told : Outside → (List ℕ → Type 0) → Type 0
-Told before P = (bytes : List ℕ) → before.left ≡ Some bytes → P bytes
+abbrev pub WhereTold : Outside → (List ℕ → Type 0) → Type 0
+WhereTold before P = (bytes : List ℕ) → before.left ≡ Some bytes → P bytes
 
 -- For answers that have these texts, refuse their lines so and tell of so many readings; for what a line may be answered, and what closes the run; from each state that the run may begin in.
 module _ {S R : Type 0} (text : R → List ℕ) (refuses : R → Bool) (cost : R → ℕ) (Answers : S → List ℕ → R → S → Type 0) (Closes : S → R → Type 0) (Begins : S → Type 0) where
@@ -30,7 +30,7 @@ module _ {S R : Type 0} (text : R → List ℕ) (refuses : R → Bool) (cost : R
     pub steps : after.steps ≡ before.steps + sum_by cost answers
     pub settled : after.settled ≡ true
     pub finishes : after.finishes ≡ counted before.finishes
-    pub lines : Told before (λ bytes. (s : S) → Begins s → AnswersAll Answers Closes s bytes answers after.left)
+    pub lines : WhereTold before (λ bytes. (s : S) → Begins s → AnswersAll Answers Closes s bytes answers after.left)
 
   -- The source stopped, for a fault or because too many bytes were taken. The sink was not to finish.
   pub record CutsShort (before after : Outside) : Type 0 where
@@ -38,7 +38,7 @@ module _ {S R : Type 0} (text : R → List ℕ) (refuses : R → Bool) (cost : R
     pub put : Appends before.held after.held (flat_map text answers)
     pub steps : after.steps ≡ before.steps + sum_by cost answers
     pub finishes : after.finishes ≡ before.finishes
-    pub lines : Told before (λ bytes. (s : S) → Begins s → AnswersTaken Answers s bytes answers after.left)
+    pub lines : WhereTold before (λ bytes. (s : S) → Begins s → AnswersTaken Answers s bytes answers after.left)
 
   -- The sink failed, when it took an answer or when it was to finish.
   pub record BreaksOff (before after : Outside) : Type 0 where
@@ -46,7 +46,7 @@ module _ {S R : Type 0} (text : R → List ℕ) (refuses : R → Bool) (cost : R
     pub put : PutsFront text answers before.held after.held
     pub steps : after.steps ≡ before.steps + sum_by cost answers
     pub finishes : (after.finishes ≡ before.finishes) ⊎ (after.finishes ≡ counted before.finishes)
-    pub lines : Told before (λ bytes. (s : S) → Begins s → AnswersSome Answers Closes s bytes answers after.left)
+    pub lines : WhereTold before (λ bytes. (s : S) → Begins s → AnswersSome Answers Closes s bytes answers after.left)
 
   -- Memory ran out. The sink was not to finish, and the counter rose by no less than what the answers that were put tell of.
   pub record RunsOut (before after : Outside) : Type 0 where
@@ -54,7 +54,7 @@ module _ {S R : Type 0} (text : R → List ℕ) (refuses : R → Bool) (cost : R
     pub put : Appends before.held after.held (flat_map text answers)
     pub steps : before.steps + sum_by cost answers ≤ after.steps
     pub finishes : after.finishes ≡ before.finishes
-    pub lines : Told before (λ bytes. (s : S) → Begins s → AnswersSome Answers Closes s bytes answers after.left)
+    pub lines : WhereTold before (λ bytes. (s : S) → Begins s → AnswersSome Answers Closes s bytes answers after.left)
 
   -- What each status says.
   abbrev pub Ended : Status → Outside → Outside → Type 0
@@ -64,4 +64,4 @@ module _ {S R : Type 0} (text : R → List ℕ) (refuses : R → Bool) (cost : R
   Ended ReadFault before after = CutsShort before after × Rose before.read_faults after.read_faults
   Ended WriteFault before after = BreaksOff before after × Rose before.write_faults after.write_faults
   Ended Memory before after = RunsOut before after
-  Ended TooMuch before after = CutsShort before after × Told before (λ bytes. TakesAll (2 ^ 40) bytes after.left)
+  Ended TooMuch before after = CutsShort before after × WhereTold before (λ bytes. TakesAll (2 ^ 40) bytes after.left)

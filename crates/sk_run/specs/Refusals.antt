@@ -4,15 +4,15 @@ use Rattle.sk_run.specs.declared.refusal.Refusal.{Refusal}
 use Rattle.sk_run.specs.declared.refusal.Refusal.TheVariants.{TooLong, NotJson, NoSchema, SchemaAgain, BadShape, BadField, NoIdLeft, NotFound}
 
 -- The number that is printed behind `refused`.
-abbrev pub number_of : Refusal → ℕ
-number_of TooLong = 1
-number_of NotJson = 2
-number_of NoSchema = 3
-number_of SchemaAgain = 4
-number_of BadShape = 5
-number_of BadField = 6
-number_of NoIdLeft = 7
-number_of NotFound = 8
+abbrev pub refusal_number : Refusal → ℕ
+refusal_number TooLong = 1
+refusal_number NotJson = 2
+refusal_number NoSchema = 3
+refusal_number SchemaAgain = 4
+refusal_number BadShape = 5
+refusal_number BadField = 6
+refusal_number NoIdLeft = 7
+refusal_number NotFound = 8
 
 -- The name that is printed behind the number.
 abbrev pub name_of : Refusal → List ℕ

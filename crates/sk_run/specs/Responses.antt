@@ -5,11 +5,11 @@ use Rattle.sk_run.specs.declared.refusal.Refusal.{Refusal}
 use Rattle.sk_run.specs.declared.refusal.Refusal.TheVariants as Refusal
 use Rattle.sk_run.specs.declared.response.Response.{Response}
 use Rattle.sk_run.specs.declared.response.Response.TheVariants.{Skipped, Refused, Schema, Id, Deleted, Own}
-use Rattle.sk_run.specs.Refusals.{number_of, name_of}
+use Rattle.sk_run.specs.Refusals.{refusal_number, name_of}
 
 -- `refused`, the number and the name.
 abbrev pub refusal_line : Refusal → List ℕ
-refusal_line why = codes "refused " ++ (decimal (number_of why) ++ (codes " " ++ (name_of why ++ codes "\n")))
+refusal_line why = codes "refused " ++ (decimal (refusal_number why) ++ (codes " " ++ (name_of why ++ codes "\n")))
 
 -- The text of one answer, where a store's own answers have these texts.
 abbrev pub text_of : {A : Type 0} → (A → List ℕ) → Response A → List ℕ

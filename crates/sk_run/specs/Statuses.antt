@@ -42,13 +42,3 @@ IsCutShort ReadFault = Unit {0}
 IsCutShort WriteFault = ⊥
 IsCutShort Memory = ⊥
 IsCutShort TooMuch = Unit {0}
-
--- The answers broke off, for want of memory or because the sink failed.
-abbrev pub IsBrokenOff : Status → Type 0
-IsBrokenOff Done = ⊥
-IsBrokenOff Refused = ⊥
-IsBrokenOff Usage = ⊥
-IsBrokenOff ReadFault = ⊥
-IsBrokenOff WriteFault = Unit {0}
-IsBrokenOff Memory = Unit {0}
-IsBrokenOff TooMuch = ⊥

@@ -23,10 +23,10 @@ pub enum Refusal {
 }
 
 impl Refusal {
-    ghost use Rattle.sk_run.specs.Refusals.{number_of, name_of};
+    ghost use Rattle.sk_run.specs.Refusals.{refusal_number, name_of};
 
     pub fn number(self) -> u32
-        ensures { result ≡ number_of self }
+        ensures { result ≡ refusal_number self }
     {
         match self {
             Refusal::TooLong => 1,
