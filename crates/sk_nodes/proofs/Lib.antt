@@ -5,3 +5,4 @@ pub mod WalkedLaws
 pub mod ListLaws
 pub mod OpenLaws
 pub mod SynonymLaws
+pub mod OddLaws

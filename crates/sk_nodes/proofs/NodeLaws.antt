@@ -206,6 +206,18 @@ pub record SidesSoFar (i : Indexed) (form : Form) (target need from : ℕ) (ta0 
   pub first_smaller : size_of a ≤ size_of a0
   pub second_smaller : size_of b ≤ size_of b0
 
+-- none has moved yet
+pub sides_begun : (i : Indexed) (form : Form) (target need : ℕ) (ta : Top) (a : Shape) (tb : Top) (b : Shape) → IsPair i ta a tb b (Sound i a) (Sound i b) → target < 2 ^ 32 → SidesSoFar i form target need target ta a tb b ta a tb b
+sides_begun i form target need ta a tb b are within = record {
+  pair = are;
+  covers = λ id. covers_itself (from_on target (λ id. paired form (rest i a id) (rest i b id)) id) need;
+  within = within;
+  first_falls = omega arith;
+  second_falls = omega arith;
+  first_smaller = omega arith;
+  second_smaller = omega arith;
+}
+
 -- both sides moved on once more
 pub sides_covers : (i : Indexed) (form : Form) (target need from next : ℕ) (ta0 : Top) (a0 : Shape) (tb0 : Top) (b0 : Shape) (ta : Top) (a : Shape) (tb : Top) (b : Shape) (ua : Top) (c : Shape) (d : Shape)
     → SidesSoFar i form target need from ta0 a0 tb0 b0 ta a tb b → IsTop i ua c → from ≤ ua.head
@@ -260,6 +272,51 @@ decays_ended i need form ta a tb b a_ended b_ended first second sound covers = r
 
 pub pair_shape : (node : Node) (form : Form) (ta tb : Top) (a b : Box Node Global) (x y : Node) → node ≡ Node.Pair form ta a tb b → x ≡ a.value → y ≡ b.value → shape_of node ≡ pair form ta (shape_of x) tb (shape_of y)
 pair_shape node form ta tb a b x y e f g = ap shape_of e ∙ shape_of-Pair form ta tb a b ∙ (λ i. pair form ta (shape_of (sym f i)) tb (shape_of (sym g i)))
+
+-- the same by what is read of its parts
+pub parts_shape : (node : Node) (form : Form) (ta tb : Top) (a b : Box Node Global) (f : Form) (va vb : Top) (x y : Node) → node ≡ Node.Pair form ta a tb b → f ≡ form → va ≡ ta → vb ≡ tb → x ≡ a.value → y ≡ b.value → shape_of node ≡ pair f va (shape_of x) vb (shape_of y)
+parts_shape node form ta tb a b f va vb x y e ef ea eb ex ey = pair_shape node form ta tb a b x y e ex ey ∙ (λ i. pair (sym ef i) (sym ea i) (shape_of x) (sym eb i) (shape_of y))
+
+-- a side alone, and the sides under another form
+pub decays_first : (i : Indexed) (need : ℕ) (form : Form) (ta : Top) (a : Shape) (tb : Top) (b : Shape) (a_ended b_ended : Bool) → (a_ended ≡ true → ta.head ≡ 2 ^ 32) → (b_ended ≡ true → tb.head ≡ 2 ^ 32)
+    → Sound i (pair form ta a tb b) → ((v w : Option ℕ) → IsSide ta.greatest a_ended v → IsSide tb.greatest b_ended w → CoversAt (paired form v w) v need)
+    → Decays i need (pair form ta a tb b) a
+decays_first i need form ta a tb b a_ended b_ended first second sound covers = record {
+  sound = sound.first_sound;
+  covers = λ id. covers (rest i a id) (rest i b id) (IsTop-side i ta a a_ended first sound.first id) (IsTop-side i tb b b_ended second sound.second id);
+  smaller = omega arith;
+  unread = omega arith;
+}
+
+pub decays_second : (i : Indexed) (need : ℕ) (form : Form) (ta : Top) (a : Shape) (tb : Top) (b : Shape) (a_ended b_ended : Bool) → (a_ended ≡ true → ta.head ≡ 2 ^ 32) → (b_ended ≡ true → tb.head ≡ 2 ^ 32)
+    → Sound i (pair form ta a tb b) → ((v w : Option ℕ) → IsSide ta.greatest a_ended v → IsSide tb.greatest b_ended w → CoversAt (paired form v w) w need)
+    → Decays i need (pair form ta a tb b) b
+decays_second i need form ta a tb b a_ended b_ended first second sound covers = record {
+  sound = sound.second_sound;
+  covers = λ id. covers (rest i a id) (rest i b id) (IsTop-side i ta a a_ended first sound.first id) (IsTop-side i tb b b_ended second sound.second id);
+  smaller = omega arith;
+  unread = omega arith;
+}
+
+pub decays_under : (i : Indexed) (need : ℕ) (form other : Form) (ta : Top) (a : Shape) (tb : Top) (b : Shape) (a_ended b_ended : Bool) → (a_ended ≡ true → ta.head ≡ 2 ^ 32) → (b_ended ≡ true → tb.head ≡ 2 ^ 32)
+    → Sound i (pair form ta a tb b) → ((v w : Option ℕ) → IsSide ta.greatest a_ended v → IsSide tb.greatest b_ended w → CoversAt (paired form v w) (paired other v w) need)
+    → Decays i need (pair form ta a tb b) (pair other ta a tb b)
+decays_under i need form other ta a tb b a_ended b_ended first second sound covers = record {
+  sound = record { first = sound.first; second = sound.second; first_sound = sound.first_sound; second_sound = sound.second_sound; fits = sound.fits };
+  covers = λ id. covers (rest i a id) (rest i b id) (IsTop-side i ta a a_ended first sound.first id) (IsTop-side i tb b b_ended second sound.second id);
+  smaller = omega arith;
+  unread = omega arith;
+}
+
+pub decays_swapped : (i : Indexed) (need : ℕ) (form other : Form) (ta : Top) (a : Shape) (tb : Top) (b : Shape) (a_ended b_ended : Bool) → (a_ended ≡ true → ta.head ≡ 2 ^ 32) → (b_ended ≡ true → tb.head ≡ 2 ^ 32)
+    → Sound i (pair form ta a tb b) → ((v w : Option ℕ) → IsSide ta.greatest a_ended v → IsSide tb.greatest b_ended w → CoversAt (paired form v w) (paired other w v) need)
+    → Decays i need (pair form ta a tb b) (pair other tb b ta a)
+decays_swapped i need form other ta a tb b a_ended b_ended first second sound covers = record {
+  sound = record { first = sound.second; second = sound.first; first_sound = sound.second_sound; second_sound = sound.first_sound; fits = omega (arith, sound.fits) };
+  covers = λ id. covers (rest i a id) (rest i b id) (IsTop-side i ta a a_ended first sound.first id) (IsTop-side i tb b b_ended second sound.second id);
+  smaller = omega arith;
+  unread = omega arith;
+}
 
 pub covers_along : (i : Indexed) (target need : ℕ) (old new s t : Shape) → old ≡ s → new ≡ t → Covers (from_on target (rest i s)) (rest i t) need → Covers (from_on target (rest i old)) (rest i new) need
 covers_along i target need old new s t e f covers =

@@ -14,14 +14,15 @@ use Rattle.sk_model.specs.Documents.{Document}
 use Rattle.sk_model.specs.Combining.{both, either, sum_of_all, sum_of_any, where_so, with_more, combined}
 use Rattle.sk_model.specs.Scores.{score, scores}
 use Rattle.sk_model.specs.Bounds.{sum_in, greatest_in, first_in, ceil_of, ceil, ceils}
-use Rattle.sk_model.specs.Allowance.{leaves_readings}
+use Rattle.sk_model.specs.Allowance.{leaf_readings, leaves_readings}
 use Rattle.sk_model.proofs.CombiningLaws.{both-end, either-end, greater-end, sum_of_all-append, sum_of_any-append, greatest_score-append, not_others}
 use Rattle.sk_model.proofs.CoverLaws.{two_xor}
 use Rattle.sk_model.proofs.WeightLaws.{ceil_small}
 use Rattle.sk_decay.specs.Sides.{paired, greatest_under}
 use Rattle.sk_decay.proofs.SideLaws.{paired-none}
-use Rattle.sk_nodes.specs.Walked.{count_in, is_walked, are_walked, is_form_walked}
-use Rattle.sk_nodes.specs.Opened.{joint_score_of, others_of, query_size, parts_size, AreParts}
+use Rattle.sk_nodes.proofs.OddLaws.{none_odd}
+use Rattle.sk_nodes.specs.Walked.{count_in, is_walked, are_walked}
+use Rattle.sk_nodes.specs.Opened.{joint_score_of, others_of, query_size, parts_size, is_nest, part_scores, score_of, AreParts}
 
 -- ---- parts, one behind the other
 
@@ -70,27 +71,6 @@ are_walked-joined (tree t ts) us e =
     let here = both_true (is_walked t) (are_walked (joined ts us)) e in
     let rest = are_walked-joined ts us here.1 in
     (true_both (is_walked t) (are_walked ts) here.0 rest.0, rest.1)
-
-few : (m n : ℕ) → m ≤ n → nat_le n 2 ≡ true → nat_le m 2 ≡ true
-few m n le e = grind (arith, nat_tests)
-
-pub form_walked-fewer : (form : Form) (m n : ℕ) → m ≤ n → is_form_walked form n ≡ true → is_form_walked form m ≡ true
-form_walked-fewer Form.And m n le e = refl
-form_walked-fewer Form.Or m n le e = refl
-form_walked-fewer Form.Xor m n le e = few m n le e
-form_walked-fewer Form.Max m n le e = refl
-form_walked-fewer Form.AndNot m n le e = refl
-form_walked-fewer Form.AndMaybe m n le e = refl
-form_walked-fewer Form.Filter m n le e = refl
-
-pub form_walked-others : (form : Form) (m n : ℕ) → m ≤ n → is_form_walked form n ≡ true → is_form_walked (others_of form) m ≡ true
-form_walked-others Form.And m n le e = refl
-form_walked-others Form.Or m n le e = refl
-form_walked-others Form.Xor m n le e = few m n le e
-form_walked-others Form.Max m n le e = refl
-form_walked-others Form.AndNot m n le e = refl
-form_walked-others Form.AndMaybe m n le e = refl
-form_walked-others Form.Filter m n le e = refl
 
 -- ---- scores put together in two pieces
 
@@ -213,7 +193,7 @@ has_parts-some : (ts : Trees.Trees) → 0 < count_in ts → has_parts ts ≡ tru
 has_parts-some no_trees some = absurd (omega (arith, some))
 has_parts-some (tree t ts) some = refl
 
-is_two : (form : Form) (m n : ℕ) → 0 < m → 0 < n → is_form_walked form (m + n) ≡ true → IsTwo form m n
+is_two : (form : Form) (m n : ℕ) → 0 < m → 0 < n → is_nest form (m + n) ≡ true → IsTwo form m n
 is_two Form.And m n p q e = tt
 is_two Form.Or m n p q e = tt
 is_two Form.Xor m n p q e = let le : m + n ≤ 2 = at_most e in (omega (arith, p, q, le), omega (arith, p, q, le))
@@ -247,7 +227,6 @@ module _ (form : Form) (factor : ℕ) (ts fs bs : Trees.Trees) (e : ts ≡ joine
     some = front_some;
     sound = sounds.0;
     leaves = omega (arith, leaves, are.leaves);
-    joins = form_walked-fewer form (count_in fs) (count_in ts) (omega (arith, counts)) are.joins;
     walked = walks.0;
   }
 
@@ -256,7 +235,6 @@ module _ (form : Form) (factor : ℕ) (ts fs bs : Trees.Trees) (e : ts ≡ joine
     some = back_some;
     sound = sounds.1;
     leaves = omega (arith, leaves, are.leaves);
-    joins = form_walked-others form (count_in bs) (count_in ts) (omega (arith, counts)) are.joins;
     walked = walks.1;
   }
 
@@ -266,14 +244,14 @@ module _ (form : Form) (factor : ℕ) (ts fs bs : Trees.Trees) (e : ts ≡ joine
   pub split_back_size : parts_size bs < parts_size ts
   split_back_size = omega (arith, ap parts_size e, parts_size-joined fs bs, parts_size-some fs, front_some)
 
-  pub split_scores : (scheme : Scheme) (o : Option Document) → joint_score_of form ts scheme factor o ≡ paired form (joint_score_of form fs scheme factor o) (joint_score_of (others_of form) bs scheme factor o)
-  split_scores scheme None = sym (paired-none form)
-  split_scores scheme (Some d) =
+  pub split_scores : is_nest form (count_in ts) ≡ true → (scheme : Scheme) (o : Option Document) → joint_score_of form ts scheme factor o ≡ paired form (joint_score_of form fs scheme factor o) (joint_score_of (others_of form) bs scheme factor o)
+  split_scores nest scheme None = sym (paired-none form)
+  split_scores nest scheme (Some d) =
       ap (λ us. combined form (scores us scheme factor d)) e ∙ ap (combined form) (scores-joined fs bs scheme factor d)
       ∙ combined-split form (scores fs scheme factor d) (scores bs scheme factor d) (omega (arith, length-scores fs scheme factor d, front_some))
       (subst (λ m. IsTwo form m (length (scores bs scheme factor d))) (sym (length-scores fs scheme factor d))
       (subst (λ n. IsTwo form (count_in fs) n) (sym (length-scores bs scheme factor d))
-      (is_two form (count_in fs) (count_in bs) front_some back_some (ap (is_form_walked form) (sym counts) ∙ are.joins))))
+      (is_two form (count_in fs) (count_in bs) front_some back_some (ap (is_nest form) (sym counts) ∙ nest))))
 
   pub split_ceiling : (scheme : Scheme) (docs : Docs) → greatest_under form (ceil_of form (ceils fs scheme factor docs)) (ceil_of (others_of form) (ceils bs scheme factor docs)) ≤ ceil_of form (ceils ts scheme factor docs)
   split_ceiling scheme docs =
@@ -296,6 +274,48 @@ module _ (factor : ℕ) (ts fs bs : Trees.Trees) (e : ts ≡ joined bs fs) (are 
   pub turned_fits : factor ≤ 65536 → (scheme : Scheme) (docs : Docs) → All IsLight docs → ceil_of Form.And (ceils fs scheme factor docs) + ceil_of Form.And (ceils bs scheme factor docs) < 2 ^ 63
   turned_fits small scheme docs light = omega (arith, split_fits Form.And factor ts bs fs e are back_some front_some small scheme docs light)
 
+-- ---- an xor of three parts or more
+
+pub is_xor : (form : Form) (n : ℕ) → is_nest form n ≡ false → form ≡ Form.Xor
+is_xor Form.And n e = cc
+is_xor Form.Or n e = cc
+is_xor Form.Xor n e = refl
+is_xor Form.Max n e = cc
+is_xor Form.AndNot n e = cc
+is_xor Form.AndMaybe n e = cc
+is_xor Form.Filter n e = cc
+
+pub part_scores-joined : (ts us : Trees.Trees) (scheme : Scheme) (factor : ℕ) (o : Option Document) → part_scores (joined ts us) scheme factor o ≡ part_scores ts scheme factor o ++ part_scores us scheme factor o
+part_scores-joined no_trees us scheme factor o = refl
+part_scores-joined (tree t ts) us scheme factor o = ap (λ (ss : List (Option ℕ)). score_of t scheme factor o ∷ ss) (part_scores-joined ts us scheme factor o)
+
+part_scores-some : (ts : Trees.Trees) (scheme : Scheme) (factor : ℕ) (d : Document) → part_scores ts scheme factor (Some d) ≡ scores ts scheme factor d
+part_scores-some no_trees scheme factor d = refl
+part_scores-some (tree t ts) scheme factor d = ap (λ (ss : List (Option ℕ)). score t scheme factor d ∷ ss) (part_scores-some ts scheme factor d)
+
+part_scores-none : (ts : Trees.Trees) (scheme : Scheme) (factor : ℕ) → sum_of_any (part_scores ts scheme factor None) ≡ None
+part_scores-none no_trees scheme factor = refl
+part_scores-none (tree t ts) scheme factor = part_scores-none ts scheme factor
+
+pub joint-odd : (ts : Trees.Trees) (scheme : Scheme) (factor : ℕ) (o : Option Document) → combined Form.Xor (part_scores ts scheme factor o) ≡ joint_score_of Form.Xor ts scheme factor o
+joint-odd ts scheme factor None = none_odd (part_scores ts scheme factor None) (part_scores-none ts scheme factor)
+joint-odd ts scheme factor (Some d) = ap (combined Form.Xor) (part_scores-some ts scheme factor d)
+
+module _ (form : Form) (factor : ℕ) (ts : Trees.Trees) (n : ℕ) (e : is_nest form n ≡ false) where
+  pub odd_are : AreParts form factor ts → AreParts Form.Xor factor ts
+  odd_are are = record { some = are.some; sound = are.sound; leaves = are.leaves; walked = are.walked }
+
+  pub odd_scores : (scheme : Scheme) (o : Option Document) → joint_score_of form ts scheme factor o ≡ combined Form.Xor (part_scores ts scheme factor o)
+  odd_scores scheme o = ap (λ (f : Form). joint_score_of f ts scheme factor o) (is_xor form n e) ∙ sym (joint-odd ts scheme factor o)
+
+  pub odd_ceiling : (scheme : Scheme) (docs : Docs) → ceil_of form (ceils ts scheme factor docs) ≡ sum_in (ceils ts scheme factor docs)
+  odd_ceiling scheme docs = ap (λ (f : Form). ceil_of f (ceils ts scheme factor docs)) (is_xor form n e)
+
+  pub odd_fits : AreParts form factor ts → factor ≤ 65536 → (scheme : Scheme) (docs : Docs) → All IsLight docs → sum_in (ceils ts scheme factor docs) < 2 ^ 63
+  odd_fits are small scheme docs light =
+      let whole = ceil_small scheme docs light (parts Form.Xor ts) factor (true_both (has_parts ts) (are_sound factor ts) (has_parts-some ts are.some) are.sound) small are.leaves in
+      omega (arith, whole)
+
 -- ---- the whole query
 
 pub fits_ceil : (t : Trees.Tree) (scheme : Scheme) (docs : Docs) → fits_tree t ≡ true → All IsLight docs → ceil t scheme 1 docs ≤ 2 ^ 55
@@ -306,3 +326,13 @@ fits_ceil t scheme docs fits light =
   where
     at_most : (m n : ℕ) → nat_le m n ≡ true → m ≤ n
     at_most m n e = grind (arith, nat_tests)
+
+-- ---- the two halves of the parts of an xor
+
+module _ (factor : ℕ) (ts fs bs : Trees.Trees) (e : ts ≡ joined fs bs) where
+  pub halves_scores : (scheme : Scheme) (o : Option Document) → part_scores ts scheme factor o ≡ part_scores fs scheme factor o ++ part_scores bs scheme factor o
+  halves_scores scheme o = ap (λ us. part_scores us scheme factor o) e ∙ part_scores-joined fs bs scheme factor o
+
+  pub halves_ceiling : (scheme : Scheme) (docs : Docs) → sum_in (ceils ts scheme factor docs) ≡ sum_in (ceils fs scheme factor docs) + sum_in (ceils bs scheme factor docs)
+  halves_ceiling scheme docs =
+      ap (λ us. sum_in (ceils us scheme factor docs)) e ∙ ap sum_in (ceils-joined fs bs scheme factor docs) ∙ sum_in-append (ceils fs scheme factor docs) (ceils bs scheme factor docs)

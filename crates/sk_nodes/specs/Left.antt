@@ -1,27 +1,49 @@
 -- What a node still gives.
-use Rattle.std.specs.Prelude.{ℕ, ◌+◌, nat_le, Option, None, if◌then◌else◌}
+use Rattle.std.specs.Prelude.{ℕ, ◌+◌, nat_le, List, [], ◌∷◌, Option, None, if◌then◌else◌}
+use Rattle.sk_query.specs.declared.form.Form.{Form}
+use Rattle.sk_model.specs.Combining.{combined}
 use Rattle.sk_index.specs.Indexed.{Indexed}
 use Rattle.sk_decay.specs.Sides.{paired, greatest_under}
 use Rattle.sk_nodes.specs.Leaves.{leaf_rest, leaf_unread}
-use Rattle.sk_nodes.specs.Shapes.{Shape, ended, leaf, pair}
+use Rattle.sk_nodes.specs.Shapes.{Shape, ended, leaf, pair, odd, Sides, no_sides, side}
 
--- The weight that a node still gives at an id.
-abbrev pub rest : Indexed → Shape → ℕ → Option ℕ
-rest i ended id = None
-rest i (leaf l) id = leaf_rest i l id
-rest i (pair form ta a tb b) id = paired form (rest i a id) (rest i b id)
+abbrev mutual
+  -- The weight that a node still gives at an id.
+  pub rest : Indexed → Shape → ℕ → Option ℕ
+  rest i ended id = None
+  rest i (leaf l) id = leaf_rest i l id
+  rest i (pair form ta a tb b) id = paired form (rest i a id) (rest i b id)
+  rest i (odd ss) id = combined Form.Xor (rests i ss id)
 
--- How many entries of its lists a node has not read.
-abbrev pub unread_of : Indexed → Shape → ℕ
-unread_of i ended = 0
-unread_of i (leaf l) = leaf_unread i l
-unread_of i (pair form ta a tb b) = unread_of i a + unread_of i b
+  -- The weights that sides still give at an id.
+  pub rests : Indexed → Sides → ℕ → List (Option ℕ)
+  rests i no_sides id = []
+  rests i (side t s ss) id = rest i s id ∷ rests i ss id
+
+abbrev mutual
+  -- How many entries of its lists a node has not read.
+  pub unread_of : Indexed → Shape → ℕ
+  unread_of i ended = 0
+  unread_of i (leaf l) = leaf_unread i l
+  unread_of i (pair form ta a tb b) = unread_of i a + unread_of i b
+  unread_of i (odd ss) = unread_in i ss
+
+  -- How many entries of their lists sides have not read.
+  pub unread_in : Indexed → Sides → ℕ
+  unread_in i no_sides = 0
+  unread_in i (side t s ss) = unread_of i s + unread_in i ss
+
+-- How much sides can weigh together.
+abbrev pub greatest_sum : Sides → ℕ
+greatest_sum no_sides = 0
+greatest_sum (side t s ss) = t.greatest + greatest_sum ss
 
 -- How much a node that has not ended can weigh.
 abbrev pub greatest_in : Shape → ℕ
 greatest_in ended = 0
 greatest_in (leaf l) = l.greatest
 greatest_in (pair form ta a tb b) = greatest_under form ta.greatest tb.greatest
+greatest_in (odd ss) = greatest_sum ss
 
 -- What is given from an id on.
 abbrev pub from_on : ℕ → (ℕ → Option ℕ) → ℕ → Option ℕ

@@ -1,5 +1,5 @@
 -- What a node is opened for.
-use Rattle.std.specs.Prelude.{◌≡◌, ◌≤◌, ◌<◌, ◌+◌, ℕ, true, Option, None, Some}
+use Rattle.std.specs.Prelude.{◌≡◌, ◌≤◌, ◌<◌, ◌+◌, ℕ, nat_le, Bool, true, List, [], ◌∷◌, Option, None, Some}
 use Rattle.sk_base.specs.declared.find.Scheme.{Scheme}
 use Rattle.sk_query.specs.declared.form.Form.{Form}
 use Rattle.sk_query.specs.Trees as Query
@@ -10,10 +10,10 @@ use Rattle.sk_model.specs.Combining.{combined}
 use Rattle.sk_model.specs.Scores.{score, scores}
 use Rattle.sk_index.specs.Indexed.{Indexed}
 use Rattle.sk_nodes.specs.declared.top.Top.{Top}
-use Rattle.sk_nodes.specs.Shapes.{Shape}
-use Rattle.sk_nodes.specs.Left.{rest}
-use Rattle.sk_nodes.specs.Sound.{IsTop, Sound}
-use Rattle.sk_nodes.specs.Walked.{count_in, are_walked, is_form_walked}
+use Rattle.sk_nodes.specs.Shapes.{Shape, Sides}
+use Rattle.sk_nodes.specs.Left.{rest, rests, greatest_sum}
+use Rattle.sk_nodes.specs.Sound.{IsTop, Sound, AreSound}
+use Rattle.sk_nodes.specs.Walked.{count_in, are_walked}
 
 -- What a document scores, if there is one.
 abbrev pub score_of : Query.Tree → Scheme → ℕ → Option Document → Option ℕ
@@ -34,6 +34,21 @@ others_of Form.Max = Form.Max
 others_of Form.AndNot = Form.Or
 others_of Form.AndMaybe = Form.Or
 others_of Form.Filter = Form.And
+
+-- A nest of nodes of two sides: each form but an xor of three parts or more.
+abbrev pub is_nest : Form → ℕ → Bool
+is_nest Form.And n = true
+is_nest Form.Or n = true
+is_nest Form.Xor n = nat_le n 2
+is_nest Form.Max n = true
+is_nest Form.AndNot n = true
+is_nest Form.AndMaybe n = true
+is_nest Form.Filter n = true
+
+-- What the parts score, if there is a document.
+abbrev pub part_scores : Query.Trees → Scheme → ℕ → Option Document → List (Option ℕ)
+part_scores Query.no_trees scheme factor o = []
+part_scores (Query.tree t ts) scheme factor o = score_of t scheme factor o ∷ part_scores ts scheme factor o
 
 -- A node stands at the first of these scores, and gives them; it weighs no more than this.
 pub record Opens (i : Indexed) (t : Top) (s : Shape) (f : Option Document → Option ℕ) (most : ℕ) : Type 0 where
@@ -65,7 +80,6 @@ pub record AreParts (form : Form) (factor : ℕ) (ts : Query.Trees) : Type 0 whe
   pub some : 0 < count_in ts
   pub sound : are_sound factor ts ≡ true
   pub leaves : leaves_in ts ≤ 1024
-  pub joins : is_form_walked form (count_in ts) ≡ true
   pub walked : are_walked ts ≡ true
 
 -- What a synonym is made of terms by: their weights added under Nnn; under the other schemes all weigh the same.
@@ -73,3 +87,9 @@ abbrev pub joint_form : Scheme → Form
 joint_form Scheme.Bool = Form.Max
 joint_form Scheme.Coord = Form.Max
 joint_form Scheme.Nnn = Form.Or
+
+-- Sides give these lists of scores, and weigh no more together than this.
+pub record OpensSides (i : Indexed) (ss : Sides) (f : Option Document → List (Option ℕ)) (most : ℕ) : Type 0 where
+  pub sound : AreSound i ss
+  pub gives : (id : ℕ) → rests i ss id ≡ f (document_at id i.live.documents)
+  pub ceiling : greatest_sum ss ≤ most

@@ -1,29 +1,54 @@
 -- Nodes, as every definition takes them.
-use Rattle.std.specs.Prelude.{ℕ, ◌+◌}
+use Rattle.std.specs.Prelude.{ℕ, ◌+◌, List, [], ◌∷◌, map}
 use Rattle.sk_query.specs.declared.form.Form.{Form}
 use Rattle.sk_nodes.specs.declared.top.Top.{Top}
 use Rattle.sk_nodes.specs.declared.leaf.Leaf.{Leaf}
 use Rattle.sk_nodes.specs.declared.node.Node.{Node, fold-Node}
 use Rattle.sk_nodes.specs.declared.node.Node.TheOpen.{Node-F}
 
--- A node: nothing, a leaf, or two sides with their tops under a form.
-pub data Shape : Type 0 where
-  ended : Shape
-  leaf : Leaf → Shape
-  pair : Form → Top → Shape → Top → Shape → Shape
+mutual
+  -- A node: nothing, a leaf, two sides with their tops under a form, or the sides of an xor.
+  pub data Shape : Type 0 where
+    ended : Shape
+    leaf : Leaf → Shape
+    pair : Form → Top → Shape → Top → Shape → Shape
+    odd : Sides → Shape
+
+  -- Sides in order, each with its top.
+  pub data Sides : Type 0 where
+    no_sides : Sides
+    side : Top → Shape → Sides → Sides
+
+-- The sides as two lists have them.
+abbrev pub sides_of : List Top → List Shape → Sides
+sides_of [] ss = no_sides
+sides_of (t ∷ ts) [] = no_sides
+sides_of (t ∷ ts) (s ∷ ss) = side t s (sides_of ts ss)
 
 -- One layer of a node, its sides being shapes already.
 abbrev pub node_step : Node-F Shape → Shape
 node_step Node-F.Nothing = ended
 node_step (Node-F.Leaf l) = leaf l
 node_step (Node-F.Pair form ta a tb b) = pair form ta a.value tb b.value
+node_step (Node-F.Odd tops nodes) = odd (sides_of tops.items nodes.items)
 
 -- The shape of a node.
 abbrev pub shape_of : Node → Shape
 shape_of = fold-Node Shape node_step
 
--- How many nodes there are.
-abbrev pub size_of : Shape → ℕ
-size_of ended = 1
-size_of (leaf l) = 1
-size_of (pair form ta a tb b) = 1 + (size_of a + size_of b)
+-- The sides of nodes, with their tops.
+abbrev pub sides_on : List Top → List Node → Sides
+sides_on ts ns = sides_of ts (map shape_of ns)
+
+abbrev mutual
+  -- How many nodes there are.
+  pub size_of : Shape → ℕ
+  size_of ended = 1
+  size_of (leaf l) = 1
+  size_of (pair form ta a tb b) = 1 + (size_of a + size_of b)
+  size_of (odd ss) = 1 + sizes_in ss
+
+  -- How many there are in all sides, each side itself counted.
+  pub sizes_in : Sides → ℕ
+  sizes_in no_sides = 0
+  sizes_in (side t s ss) = 1 + (size_of s + sizes_in ss)

@@ -5,8 +5,8 @@ use Rattle.sk_model.specs.Covers.{Covers}
 use Rattle.sk_decay.specs.Heads.{IsHead}
 use Rattle.sk_nodes.specs.declared.top.Top.{Top}
 use Rattle.sk_nodes.specs.Leaves.{AtMost, IsLeafOn}
-use Rattle.sk_nodes.specs.Shapes.{Shape, ended, leaf, pair, size_of}
-use Rattle.sk_nodes.specs.Left.{rest, unread_of, greatest_in}
+use Rattle.sk_nodes.specs.Shapes.{Shape, ended, leaf, pair, odd, Sides, no_sides, side, size_of}
+use Rattle.sk_nodes.specs.Left.{rest, unread_of, greatest_sum, greatest_in}
 
 -- A node's head, and how much it can weigh, are those of what it still gives.
 pub record IsTop (i : Indexed) (t : Top) (s : Shape) : Type 0 where
@@ -23,11 +23,29 @@ pub record IsPair (i : Indexed) (ta : Top) (a : Shape) (tb : Top) (b : Shape) (A
   pub second_sound : B
   pub fits : ta.greatest + tb.greatest < 2 ^ 63
 
--- All that is kept in a node is so.
-abbrev pub Sound : Indexed → Shape → Type 0
-Sound i ended = Unit {0}
-Sound i (leaf l) = IsLeafOn i l
-Sound i (pair form ta a tb b) = IsPair i ta a tb b (Sound i a) (Sound i b)
+-- A side with its top, by what holds of it and of the others.
+pub record IsFirst (i : Indexed) (t : Top) (s : Shape) (A B : Type 0) : Type 0 where
+  pub top : IsTop i t s
+  pub sound : A
+  pub others : B
+
+-- The sides of an xor, by what holds of them.
+pub record IsOdd (ss : Sides) (A : Type 0) : Type 0 where
+  pub sides : A
+  pub fits : greatest_sum ss < 2 ^ 63
+
+abbrev mutual
+  -- All that is kept in a node is so.
+  pub Sound : Indexed → Shape → Type 0
+  Sound i ended = Unit {0}
+  Sound i (leaf l) = IsLeafOn i l
+  Sound i (pair form ta a tb b) = IsPair i ta a tb b (Sound i a) (Sound i b)
+  Sound i (odd ss) = IsOdd ss (AreSound i ss)
+
+  -- All that is kept in sides and beside them is so.
+  pub AreSound : Indexed → Sides → Type 0
+  AreSound i no_sides = Unit {0}
+  AreSound i (side t s ss) = IsFirst i t s (Sound i s) (AreSound i ss)
 
 -- A node was put in the place of another, and covers what that gave.
 pub record Decays (i : Indexed) (need : ℕ) (old new : Shape) : Type 0 where

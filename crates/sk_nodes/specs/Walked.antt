@@ -1,6 +1,5 @@
 -- Which queries a tree is made for so far.
-use Rattle.std.specs.Prelude.{ℕ, ◌+◌, nat_le, Bool, true, false, ◌&&◌}
-use Rattle.sk_query.specs.declared.form.Form.{Form}
+use Rattle.std.specs.Prelude.{ℕ, ◌+◌, Bool, true, false, ◌&&◌}
 use Rattle.sk_query.specs.Trees.{Tree, nothing, all, term, wildcard, parts, near, phrase, synonym, scale, range, Trees, no_trees, tree}
 
 -- How many parts there are.
@@ -8,24 +7,14 @@ abbrev pub count_in : Trees → ℕ
 count_in no_trees = 0
 count_in (tree t ts) = 1 + count_in ts
 
--- An xor of at most two parts, and each other form of several.
-abbrev pub is_form_walked : Form → ℕ → Bool
-is_form_walked Form.And n = true
-is_form_walked Form.Or n = true
-is_form_walked Form.Xor n = nat_le n 2
-is_form_walked Form.Max n = true
-is_form_walked Form.AndNot n = true
-is_form_walked Form.AndMaybe n = true
-is_form_walked Form.Filter n = true
-
 abbrev mutual
-  -- All forms of a query but wildcard, near, phrase, range, and an xor of three parts or more.
+  -- All forms of a query but wildcard, near, phrase and range.
   pub is_walked : Tree → Bool
   is_walked nothing = true
   is_walked all = true
   is_walked (term t) = true
   is_walked (wildcard prefix) = false
-  is_walked (parts form ts) = is_form_walked form (count_in ts) && are_walked ts
+  is_walked (parts form ts) = are_walked ts
   is_walked (near window ts) = false
   is_walked (phrase window ts) = false
   is_walked (synonym ts) = true

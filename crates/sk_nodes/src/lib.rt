@@ -4,10 +4,9 @@
 mod leaf;
 mod moves;
 mod node;
+mod odd;
 mod opening;
 mod synonym;
-#[cfg(test)]
-mod tests;
 mod top;
 mod tree;
 mod walked;

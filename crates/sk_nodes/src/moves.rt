@@ -2,11 +2,13 @@
 ghost use Rattle.std.specs.Prelude.{◌≡◌, ◌≤◌, ◌<◌, ◌+◌, ◌^◌, ℕ};
 ghost use Rattle.sk_model.specs.Covers.{Covers};
 ghost use Rattle.sk_decay.specs.Sides.{paired, greatest_under};
-ghost use Rattle.sk_nodes.specs.Shapes.{pair, shape_of, size_of};
-ghost use Rattle.sk_nodes.specs.Left.{rest, from_on, unread_of};
-ghost use Rattle.sk_nodes.specs.Sound.{IsTop, IsPair, Sound};
+ghost use Rattle.sk_nodes.specs.Shapes.{pair, odd, shape_of, size_of, sides_on, sizes_in};
+ghost use Rattle.sk_nodes.specs.Left.{rest, from_on, unread_of, unread_in, greatest_sum};
+ghost use Rattle.sk_nodes.specs.Sound.{IsTop, IsPair, IsOdd, Sound, AreSound};
+ghost use Rattle.sk_nodes.specs.Odd.{AreSought, AreFrom};
 
 use crate::node::{Node, settle};
+use crate::odd::{FEW, odd_greatest, odd_meeting};
 use crate::top::{END, Top};
 use sk_decay::{Meeting, first_need, greatest_under, meeting_of, second_need, second_target};
 use sk_index::Index;
@@ -82,6 +84,7 @@ fn seek<L: Ledger>(
         Node::Pair(form, ta, a, tb, b) => seek_pair(
             top, *form, ta, a, tb, b, index, target, need, spent, steps,
         ),
+        Node::Odd(tops, nodes) => seek_odd(top, tops, nodes, index, target, need, spent, steps),
     }
 }
 
@@ -161,4 +164,107 @@ fn greatest_at(form: Form, head: u64, a: u64, b: u64) -> u64
         return 0;
     }
     greatest_under(form, a, b)
+}
+
+/// Moves the sides of an xor on to its first match from the target on. It may be lighter than is needed.
+#[cycle(seek)]
+pub(crate) fn seek_odd<L: Ledger>(
+    top: &mut Top,
+    tops: &mut [Top],
+    nodes: &mut [Node],
+    index: &Index,
+    target: u64,
+    _need: u64,
+    spent: &mut u128,
+    steps: &mut Steps<L>,
+)
+    requires sides { IsOdd (sides_on tops.old nodes.old) (AreSound index.now (sides_on tops.old nodes.old)) }
+    requires target { target < 2 ^ 32 }
+    requires room { spent.old + unread_in index.now (sides_on tops.old nodes.old) < 2 ^ 128 }
+    ensures top { IsTop index.now top.new (odd (sides_on tops.new nodes.new)) }
+    ensures sound { IsOdd (sides_on tops.new nodes.new) (AreSound index.now (sides_on tops.new nodes.new)) }
+    ensures covers { Covers (from_on target (rest index.now (odd (sides_on tops.old nodes.old)))) (rest index.now (odd (sides_on tops.new nodes.new))) _need }
+    ensures reached { target ≤ top.new.head }
+    ensures falls { top.new.greatest ≤ greatest_sum (sides_on tops.old nodes.old) }
+    ensures smaller { sizes_in (sides_on tops.new nodes.new) ≤ sizes_in (sides_on tops.old nodes.old) }
+    ensures paid { spent.new + unread_in index.now (sides_on tops.new nodes.new) ≤ spent.old + unread_in index.now (sides_on tops.old nodes.old) }
+    ensures counted { steps.new + spent.old ≡ steps.old + spent.new }
+    ensures later { spent.old ≤ spent.new }
+{
+    let mut from = target;
+    'all: loop {
+        reach_all(tops, nodes, index, from, spent, steps);
+        match odd_meeting(tops, nodes) {
+            Meeting::At(head, weight) => {
+                top.head = head;
+                top.weight = weight;
+                top.greatest = odd_greatest(head, tops, nodes);
+                return;
+            }
+            Meeting::Behind(further) => from = further,
+        }
+    }
+}
+
+/// Moves all sides on that stand before the target.
+#[cycle(seek)]
+fn reach_all<L: Ledger>(
+    tops: &mut [Top],
+    nodes: &mut [Node],
+    index: &Index,
+    target: u64,
+    spent: &mut u128,
+    steps: &mut Steps<L>,
+)
+    requires sound { AreSound index.now (sides_on tops.old nodes.old) }
+    requires target { target < 2 ^ 32 }
+    requires room { spent.old + unread_in index.now (sides_on tops.old nodes.old) < 2 ^ 128 }
+    ensures sound { AreSound index.now (sides_on tops.new nodes.new) }
+    ensures sought { AreSought index.now target (sides_on tops.old nodes.old) (sides_on tops.new nodes.new) }
+    ensures reached { AreFrom target (sides_on tops.new nodes.new) }
+    ensures falls { greatest_sum (sides_on tops.new nodes.new) ≤ greatest_sum (sides_on tops.old nodes.old) }
+    ensures smaller { sizes_in (sides_on tops.new nodes.new) ≤ sizes_in (sides_on tops.old nodes.old) }
+    ensures paid { spent.new + unread_in index.now (sides_on tops.new nodes.new) ≤ spent.old + unread_in index.now (sides_on tops.old nodes.old) }
+    ensures counted { steps.new + spent.old ≡ steps.old + spent.new }
+    ensures later { spent.old ≤ spent.new }
+{
+    let count = tops.len().min(nodes.len());
+    if count <= FEW {
+        reach_few(tops, nodes, index, target, spent, steps);
+        return;
+    }
+    let (front_tops, back_tops) = tops.split_at_mut(count / 2);
+    let (front_nodes, back_nodes) = nodes.split_at_mut(count / 2);
+    reach_all(front_tops, front_nodes, index, target, spent, steps);
+    reach_all(back_tops, back_nodes, index, target, spent, steps);
+}
+
+/// Moves few sides on, one by one.
+#[cycle(seek)]
+fn reach_few<L: Ledger>(
+    tops: &mut [Top],
+    nodes: &mut [Node],
+    index: &Index,
+    target: u64,
+    spent: &mut u128,
+    steps: &mut Steps<L>,
+)
+    requires sound { AreSound index.now (sides_on tops.old nodes.old) }
+    requires target { target < 2 ^ 32 }
+    requires room { spent.old + unread_in index.now (sides_on tops.old nodes.old) < 2 ^ 128 }
+    ensures sound { AreSound index.now (sides_on tops.new nodes.new) }
+    ensures sought { AreSought index.now target (sides_on tops.old nodes.old) (sides_on tops.new nodes.new) }
+    ensures reached { AreFrom target (sides_on tops.new nodes.new) }
+    ensures falls { greatest_sum (sides_on tops.new nodes.new) ≤ greatest_sum (sides_on tops.old nodes.old) }
+    ensures smaller { sizes_in (sides_on tops.new nodes.new) ≤ sizes_in (sides_on tops.old nodes.old) }
+    ensures paid { spent.new + unread_in index.now (sides_on tops.new nodes.new) ≤ spent.old + unread_in index.now (sides_on tops.old nodes.old) }
+    ensures counted { steps.new + spent.old ≡ steps.old + spent.new }
+    ensures later { spent.old ≤ spent.new }
+{
+    if let Some((top, tops)) = tops.split_first_mut() {
+        if let Some((node, nodes)) = nodes.split_first_mut() {
+            reach(top, node, index, target, 0, spent, steps);
+            reach_few(tops, nodes, index, target, spent, steps);
+        }
+    }
 }

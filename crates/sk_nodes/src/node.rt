@@ -10,12 +10,14 @@ use sk_index::Index;
 use sk_query::Form;
 use std::mem;
 
-/// A node. One of two sides keeps the tops of its sides, so that their heads are read without following a box.
+/// A node. One of two sides keeps the tops of its sides, so that their heads are read without following a box; so does an
+/// xor of many sides.
 #[derive(Drop)]
 pub(crate) enum Node {
     Nothing,
     Leaf(Leaf),
     Pair(Form, Top, Box<Node>, Top, Box<Node>),
+    Odd(Vec<Top>, Vec<Node>),
 }
 
 /// Puts what is enough under the need in the node's place. The rule is asked only where it may say anything.
@@ -39,6 +41,7 @@ fn is_settled(node: &Node, need: u64) -> bool {
         Node::Pair(_, ta, _, tb, _) => {
             ta.head < END && tb.head < END && need <= ta.greatest && need <= tb.greatest
         }
+        Node::Odd(_, _) => true,
     }
 }
 
@@ -50,6 +53,7 @@ fn decay(node: &mut Node, _index: &Index, need: u64)
     match node {
         Node::Nothing => {}
         Node::Leaf(_) => {}
+        Node::Odd(_, _) => {}
         Node::Pair(form, ta, a, tb, b) => {
             let change = rule(
                 *form,

@@ -1,5 +1,5 @@
 //! How the node of a query is opened.
-ghost use Rattle.std.specs.Prelude.{◌≡◌, ◌≤◌, ◌<◌, ◌+◌, ◌^◌, ℕ, true, All, IfOk, IfSome, IfNone, length, Option};
+ghost use Rattle.std.specs.Prelude.{◌≡◌, ◌≤◌, ◌<◌, ◌+◌, ◌^◌, ℕ, true, ◌++◌, All, IfOk, IfSome, IfNone, length, Option};
 ghost use Rattle.sk_base.specs.declared.find.Scheme.{Scheme};
 ghost use Rattle.sk_base.specs.Loads.{IsLight};
 ghost use Rattle.sk_base.specs.Numbers.{Docs, length_of};
@@ -9,18 +9,20 @@ ghost use Rattle.sk_query.specs.Trees as QueryTree;
 ghost use Rattle.sk_query.specs.Trees.{query_view, queries_view};
 ghost use Rattle.sk_query.specs.Fits.{is_sound, leaves_of};
 ghost use Rattle.sk_model.specs.Documents.{Document};
-ghost use Rattle.sk_model.specs.Bounds.{ceil, ceils, ceil_of, term_ceil};
+ghost use Rattle.sk_model.specs.Combining.{combined};
+ghost use Rattle.sk_model.specs.Bounds.{sum_in, ceil, ceils, ceil_of, term_ceil};
 ghost use Rattle.sk_model.specs.Allowance.{leaf_readings, leaves_readings};
 ghost use Rattle.sk_decay.specs.Sides.{paired, greatest_under};
 ghost use Rattle.sk_nodes.specs.Leaves.{IsThere, list_in, weighed, leaf_greatest};
-ghost use Rattle.sk_nodes.specs.Shapes.{shape_of};
-ghost use Rattle.sk_nodes.specs.Left.{rest, unread_of};
-ghost use Rattle.sk_nodes.specs.Sound.{IsTop, Sound};
-ghost use Rattle.sk_nodes.specs.Walked.{is_walked};
-ghost use Rattle.sk_nodes.specs.Opened.{score_of, joint_score_of, others_of, query_size, parts_size, AreParts, Opens};
+ghost use Rattle.sk_nodes.specs.Shapes.{odd, no_sides, side, shape_of, sides_on};
+ghost use Rattle.sk_nodes.specs.Left.{rest, rests, unread_of, unread_in, greatest_sum};
+ghost use Rattle.sk_nodes.specs.Sound.{IsTop, IsOdd, Sound, AreSound};
+ghost use Rattle.sk_nodes.specs.Odd.{followed_by};
+ghost use Rattle.sk_nodes.specs.Walked.{is_walked, count_in};
+ghost use Rattle.sk_nodes.specs.Opened.{score_of, part_scores, is_nest, OpensSides, joint_score_of, others_of, query_size, parts_size, AreParts, Opens};
 
 use crate::leaf::{Leaf, list_length};
-use crate::moves::seek_pair;
+use crate::moves::{seek_odd, seek_pair};
 use crate::node::Node;
 use crate::synonym::open_synonym;
 use crate::top::Top;
@@ -129,6 +131,11 @@ fn open_parts<L: Ledger>(
     if let Some(part) = only_part(form, parts, factor) {
         return open_node(alloc, index, part, scheme, factor, most, spent, steps);
     }
+    if let Some(sides) = odd_parts(form, parts, factor) {
+        let (tops, nodes) = open_sides(alloc, index, sides, scheme, factor, most, spent, steps)?;
+        let (top, node) = odd_of(index, tops, nodes, spent, steps);
+        return Ok((top, node));
+    }
     let (front, back) = split_parts(index, form, parts, factor);
     let (ta, a) = open_parts(
         alloc, index, form, front, scheme, factor, most, spent, steps,
@@ -145,6 +152,124 @@ fn open_parts<L: Ledger>(
         steps,
     )?;
     pair_of(alloc, index, form, ta, a, tb, b, spent, steps)
+}
+
+/// The nodes of the parts of an xor, in order, with their tops.
+#[cycle(open_node)]
+fn open_sides<L: Ledger>(
+    alloc: Global,
+    index: &Index,
+    parts: &[Query],
+    scheme: Scheme,
+    factor: u64,
+    most: &mut u128,
+    spent: &mut u128,
+    steps: &mut Steps<L>,
+) -> Result<(Vec<Top>, Vec<Node>), AllocError>
+    requires factor { factor ≤ 65536 }
+    requires parts { AreParts Form.Xor factor (queries_view parts.now) }
+    requires documents { AreSorted index.now.live.documents }
+    requires light { All IsLight index.now.live.documents }
+    requires room { spent.old ≤ most.old }
+    requires small { most.old < 2 ^ 128 }
+    ensures opens { IfOk result (λ p. OpensSides index.now (sides_on p.0.items p.1.items) (part_scores (queries_view parts.now) scheme factor) (sum_in (ceils (queries_view parts.now) scheme factor index.now.live.documents))) }
+    ensures even { IfOk result (λ p. length p.0.items ≡ length p.1.items) }
+    ensures paid { IfOk result (λ p. spent.new + unread_in index.now (sides_on p.0.items p.1.items) + most.old ≤ spent.old + most.new) }
+    ensures within { IfOk result (λ p. most.new ≤ most.old + leaves_readings (queries_view parts.now) index.now.live.documents) }
+    ensures counted { steps.new + spent.old ≡ steps.old + spent.new }
+    ensures later { spent.old ≤ spent.new }
+    ensures room { IfOk result (λ p. spent.new ≤ most.new) }
+    ensures small { most.new < 2 ^ 128 }
+{
+    if let Some(part) = only_part(Form::Xor, parts, factor) {
+        let (top, node) = open_node(alloc, index, part, scheme, factor, most, spent, steps)?;
+        let (tops, nodes) = one_side(alloc, top, node)?;
+        return Ok((tops, nodes));
+    }
+    let (front, back) = odd_halves(parts, factor);
+    let (some_tops, some_nodes) = open_sides(
+        alloc, index, front, scheme, factor, most, spent, steps,
+    )?;
+    let (more_tops, more_nodes) = open_sides(
+        alloc, index, back, scheme, factor, most, spent, steps,
+    )?;
+    let (tops, nodes) = with_more(some_tops, some_nodes, more_tops, more_nodes)?;
+    Ok((tops, nodes))
+}
+
+/// One side alone.
+fn one_side(alloc: Global, top: Top, node: Node) -> Result<(Vec<Top>, Vec<Node>), AllocError>
+    ensures sides { IfOk result (λ p. sides_on p.0.items p.1.items ≡ side top (shape_of node) no_sides) }
+    ensures even { IfOk result (λ p. length p.0.items ≡ length p.1.items) }
+{
+    let mut tops = Vec::new(alloc);
+    let mut nodes = Vec::new(alloc);
+    tops.push(top)?;
+    nodes.push(node)?;
+    Ok((tops, nodes))
+}
+
+/// Sides, and more behind them.
+fn with_more(
+    mut tops: Vec<Top>,
+    mut nodes: Vec<Node>,
+    mut more_tops: Vec<Top>,
+    mut more_nodes: Vec<Node>,
+) -> Result<(Vec<Top>, Vec<Node>), AllocError>
+    requires even { length tops.items ≡ length nodes.items }
+    requires more_even { length more_tops.items ≡ length more_nodes.items }
+    ensures sides { IfOk result (λ p. sides_on p.0.items p.1.items ≡ followed_by (sides_on tops.items nodes.items) (sides_on more_tops.items more_nodes.items)) }
+    ensures even { IfOk result (λ p. length p.0.items ≡ length p.1.items) }
+{
+    tops.append(&mut more_tops)?;
+    nodes.append(&mut more_nodes)?;
+    Ok((tops, nodes))
+}
+
+/// The parts of an xor of three or more.
+fn odd_parts(form: Form, parts: &[Query], _factor: u64) -> Option<&[Query]>
+    requires factor { _factor ≤ 65536 }
+    requires parts { AreParts form _factor (queries_view parts.now) }
+    ensures nest { IfNone result (is_nest form (count_in (queries_view parts.now)) ≡ true) }
+    ensures parts { IfSome result (λ sides. AreParts Form.Xor _factor (queries_view sides.now)) }
+    ensures size { IfSome result (λ sides. parts_size (queries_view sides.now) ≡ parts_size (queries_view parts.now)) }
+    ensures scores { IfSome result (λ sides. (scheme : Scheme) (o : Option Document) → joint_score_of form (queries_view parts.now) scheme _factor o ≡ combined Form.Xor (part_scores (queries_view sides.now) scheme _factor o)) }
+    ensures ceiling { IfSome result (λ sides. (scheme : Scheme) (docs : Docs) → ceil_of form (ceils (queries_view parts.now) scheme _factor docs) ≡ sum_in (ceils (queries_view sides.now) scheme _factor docs)) }
+    ensures fits { IfSome result (λ sides. (scheme : Scheme) (docs : Docs) → All IsLight docs → sum_in (ceils (queries_view sides.now) scheme _factor docs) < 2 ^ 63) }
+    ensures readings { IfSome result (λ sides. (docs : Docs) → leaves_readings (queries_view parts.now) docs ≡ leaves_readings (queries_view sides.now) docs) }
+{
+    if is_nest(form, parts) {
+        return None;
+    }
+    Some(parts)
+}
+
+/// The two halves of the parts of an xor.
+fn odd_halves(parts: &[Query], _factor: u64) -> (&[Query], &[Query])
+    requires factor { _factor ≤ 65536 }
+    requires parts { AreParts Form.Xor _factor (queries_view parts.now) }
+    requires many { 2 ≤ length parts.now }
+    ensures front { AreParts Form.Xor _factor (queries_view result.0.now) }
+    ensures back { AreParts Form.Xor _factor (queries_view result.1.now) }
+    ensures front_size { parts_size (queries_view result.0.now) < parts_size (queries_view parts.now) }
+    ensures back_size { parts_size (queries_view result.1.now) < parts_size (queries_view parts.now) }
+    ensures scores { (scheme : Scheme) (o : Option Document) → part_scores (queries_view parts.now) scheme _factor o ≡ part_scores (queries_view result.0.now) scheme _factor o ++ part_scores (queries_view result.1.now) scheme _factor o }
+    ensures ceiling { (scheme : Scheme) (docs : Docs) → sum_in (ceils (queries_view parts.now) scheme _factor docs) ≡ sum_in (ceils (queries_view result.0.now) scheme _factor docs) + sum_in (ceils (queries_view result.1.now) scheme _factor docs) }
+    ensures readings { (docs : Docs) → leaves_readings (queries_view parts.now) docs ≡ leaves_readings (queries_view result.0.now) docs + leaves_readings (queries_view result.1.now) docs }
+{
+    let half = parts.len() / 2;
+    parts.split_at(half)
+}
+
+/// Whether the parts make a nest of nodes of two sides.
+#[tactic(auto, using(crate::proofs::WalkedLaws::counted))]
+fn is_nest(form: Form, parts: &[Query]) -> bool
+    ensures { result ≡ is_nest form (count_in (queries_view parts.now)) }
+{
+    match form {
+        Form::Xor => parts.len() <= 2,
+        Form::And | Form::Or | Form::Max | Form::AndNot | Form::AndMaybe | Form::Filter => true,
+    }
 }
 
 /// The form and the parts of a query of several.
@@ -171,6 +296,7 @@ fn only_part(form: Form, parts: &[Query], _factor: u64) -> Option<&Query>
     ensures sound { IfSome result (λ part. is_sound _factor (query_view part.now) ≡ true) }
     ensures leaves { IfSome result (λ part. leaves_of (query_view part.now) ≤ 1024) }
     ensures walked { IfSome result (λ part. is_walked (query_view part.now) ≡ true) }
+    ensures alone { IfSome result (λ part. queries_view parts.now ≡ QueryTree.tree (query_view part.now) QueryTree.no_trees) }
     ensures size { IfSome result (λ part. query_size (query_view part.now) ≡ parts_size (queries_view parts.now)) }
     ensures scores { IfSome result (λ part. (scheme : Scheme) (o : Option Document) → joint_score_of form (queries_view parts.now) scheme _factor o ≡ score_of (query_view part.now) scheme _factor o) }
     ensures ceiling { IfSome result (λ part. (scheme : Scheme) (docs : Docs) → ceil_of form (ceils (queries_view parts.now) scheme _factor docs) ≡ ceil (query_view part.now) scheme _factor docs) }
@@ -193,6 +319,7 @@ fn split_parts<'a>(
     requires factor { _factor ≤ 65536 }
     requires parts { AreParts form _factor (queries_view parts.now) }
     requires many { 2 ≤ length parts.now }
+    requires nest { is_nest form (count_in (queries_view parts.now)) ≡ true }
     ensures front { AreParts form _factor (queries_view result.0.now) }
     ensures back { AreParts (others_of form) _factor (queries_view result.1.now) }
     ensures front_size { parts_size (queries_view result.0.now) < parts_size (queries_view parts.now) }
@@ -248,6 +375,7 @@ fn split_in_order(form: Form, parts: &[Query], _factor: u64) -> (&[Query], &[Que
     requires factor { _factor ≤ 65536 }
     requires parts { AreParts form _factor (queries_view parts.now) }
     requires many { 2 ≤ length parts.now }
+    requires nest { is_nest form (count_in (queries_view parts.now)) ≡ true }
     ensures front { AreParts form _factor (queries_view result.0.now) }
     ensures back { AreParts (others_of form) _factor (queries_view result.1.now) }
     ensures front_size { parts_size (queries_view result.0.now) < parts_size (queries_view parts.now) }
@@ -416,4 +544,51 @@ pub(crate) fn pair_of<L: Ledger>(
     let a = Box::new(alloc, a)?;
     let b = Box::new(alloc, b)?;
     Ok((top, Node::Pair(form, ta, a, tb, b)))
+}
+
+/// A node of the sides of an xor, moved on to its first match, and its top.
+fn odd_of<L: Ledger>(
+    index: &Index,
+    mut tops: Vec<Top>,
+    mut nodes: Vec<Node>,
+    spent: &mut u128,
+    steps: &mut Steps<L>,
+) -> (Top, Node)
+    requires sound { AreSound index.now (sides_on tops.items nodes.items) }
+    requires fits { greatest_sum (sides_on tops.items nodes.items) < 2 ^ 63 }
+    requires room { spent.old + unread_in index.now (sides_on tops.items nodes.items) < 2 ^ 128 }
+    ensures top { IsTop index.now result.0 (shape_of result.1) }
+    ensures sound { Sound index.now (shape_of result.1) }
+    ensures gives { (id : ℕ) → rest index.now (shape_of result.1) id ≡ combined Form.Xor (rests index.now (sides_on tops.items nodes.items) id) }
+    ensures ceiling { result.0.greatest ≤ greatest_sum (sides_on tops.items nodes.items) }
+    ensures paid { spent.new + unread_of index.now (shape_of result.1) ≤ spent.old + unread_in index.now (sides_on tops.items nodes.items) }
+    ensures counted { steps.new + spent.old ≡ steps.old + spent.new }
+    ensures later { spent.old ≤ spent.new }
+{
+    let mut top = Top::ended();
+    begin_odd(&mut top, &mut tops, &mut nodes, index, spent, steps);
+    (top, Node::Odd(tops, nodes))
+}
+
+/// Moves the sides of an xor on to its first match.
+fn begin_odd<L: Ledger>(
+    top: &mut Top,
+    tops: &mut [Top],
+    nodes: &mut [Node],
+    index: &Index,
+    spent: &mut u128,
+    steps: &mut Steps<L>,
+)
+    requires sound { AreSound index.now (sides_on tops.old nodes.old) }
+    requires fits { greatest_sum (sides_on tops.old nodes.old) < 2 ^ 63 }
+    requires room { spent.old + unread_in index.now (sides_on tops.old nodes.old) < 2 ^ 128 }
+    ensures top { IsTop index.now top.new (odd (sides_on tops.new nodes.new)) }
+    ensures sound { IsOdd (sides_on tops.new nodes.new) (AreSound index.now (sides_on tops.new nodes.new)) }
+    ensures gives { (id : ℕ) → rest index.now (odd (sides_on tops.new nodes.new)) id ≡ combined Form.Xor (rests index.now (sides_on tops.old nodes.old) id) }
+    ensures ceiling { top.new.greatest ≤ greatest_sum (sides_on tops.old nodes.old) }
+    ensures paid { spent.new + unread_in index.now (sides_on tops.new nodes.new) ≤ spent.old + unread_in index.now (sides_on tops.old nodes.old) }
+    ensures counted { steps.new + spent.old ≡ steps.old + spent.new }
+    ensures later { spent.old ≤ spent.new }
+{
+    seek_odd(top, tops, nodes, index, 0, 0, spent, steps);
 }

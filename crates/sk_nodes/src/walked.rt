@@ -1,7 +1,7 @@
 //! Which queries a tree is made for so far.
-ghost use Rattle.std.specs.Prelude.{◌≡◌, nat_le};
+ghost use Rattle.std.specs.Prelude.{◌≡◌};
 ghost use Rattle.sk_query.specs.Trees.{query_view, queries_view};
-ghost use Rattle.sk_nodes.specs.Walked.{is_walked, are_walked, count_in};
+ghost use Rattle.sk_nodes.specs.Walked.{is_walked, are_walked};
 
 use sk_query::Query;
 
@@ -17,11 +17,11 @@ pub fn is_walked(query: &Query) -> bool
         },
         Query::And(parts)
         | Query::Or(parts)
+        | Query::Xor(parts)
         | Query::Max(parts)
         | Query::AndNot(parts)
         | Query::AndMaybe(parts)
         | Query::Filter(parts) => are_walked(parts),
-        Query::Xor(parts) => are_few(parts) && are_walked(parts),
         Query::Scale(_, part) => is_walked(part),
     }
 }
@@ -36,11 +36,4 @@ fn are_walked(parts: &[Query]) -> bool
         }
     }
     true
-}
-
-#[tactic(auto, using(crate::proofs::WalkedLaws::counted))]
-fn are_few(parts: &[Query]) -> bool
-    ensures { result ≡ nat_le (count_in (queries_view parts.now)) 2 }
-{
-    parts.len() <= 2
 }

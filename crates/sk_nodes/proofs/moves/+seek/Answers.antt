@@ -1,12 +1,15 @@
 -- Two sides, how far they have come and where they meet.
-use Rattle.std.proofs.Common.{sym, subst, arith}
+use Rattle.std.proofs.Common.{◌++◌, sym, subst, ap, ◌∙◌, Box, Global, arith}
 use Rattle.sk_model.specs.Covers.{Covers}
 use Rattle.sk_nodes.specs.declared.top.Top.{Top}
-use Rattle.sk_nodes.specs.Shapes.{Shape, pair, shape_of}
-use Rattle.sk_nodes.specs.Left.{rest, from_on}
-use Rattle.sk_nodes.specs.Sound.{IsTop, Sound}
+use Rattle.sk_nodes.specs.declared.node.Node.{Node}
+use Rattle.sk_nodes.specs.Shapes.{Shape, Sides, pair, shape_of, sides_on, sizes_in}
+use Rattle.sk_nodes.specs.Left.{rest, from_on, greatest_sum, unread_in}
+use Rattle.sk_nodes.specs.Sound.{IsTop, Sound, AreSound}
+use Rattle.sk_nodes.specs.Odd.{AreFrom, AreSought, followed_by}
 use Rattle.sk_nodes.proofs.LeafLaws.{AtMost-covers}
-use Rattle.sk_nodes.proofs.NodeLaws.{covers_more, capped_top, shape_of-Pair, pair_shape, covers_along, weight_le, target_ended, head_reached, pair_top, pair_top_ended, sides_covers, sides_covers_ended, sides_more, size_along, paid_along}
+use Rattle.sk_nodes.proofs.NodeLaws.{covers_more, capped_top, shape_of-Pair, parts_shape, covers_along, weight_le, target_ended, head_reached, pair_top, pair_top_ended, sides_covers, sides_covers_ended, sides_begun, sides_more, size_along, paid_along}
+use Rattle.sk_nodes.proofs.OddLaws.{weights_fit, odd_covers, odd_more, odd_top, sides_split, sides_append, both_sound, sound_behind, from_behind, sought_behind, greatest_behind, unread_behind, sizes_behind, some_sizes}
 use Rattle.sk_nodes.proofs.moves.+seek.Goals as goal
 
 pub reach-returns-clause-covers : goal.reach-returns-clause-covers
@@ -30,19 +33,19 @@ seek-returns-in-Pair-clause-sound g t c = subst (λ (s : Shape). Sound c.args.in
 pub seek-returns-in-Pair-clause-covers : goal.seek-returns-in-Pair-clause-covers
 seek-returns-in-Pair-clause-covers g t c =
     covers_along c.args.index.now c.args.target c.args.need _ _ _ _
-    (pair_shape c.args.node.now c.in-Pair.form c.in-Pair.ta c.in-Pair.tb c.in-Pair.a c.in-Pair.b _ _ c.in-Pair.is c.deref_mut.ensures.value c.deref_mut-in-Pair.ensures.value)
+    (parts_shape c.args.node.now c.in-Pair.form c.in-Pair.ta c.in-Pair.tb c.in-Pair.a c.in-Pair.b _ _ _ _ _ c.in-Pair.is c.in-Pair.form-is c.in-Pair.ta-is c.in-Pair.tb-is (c.deref_mut.ensures.value ∙ ap (λ (x : Box Node Global). x.value) c.in-Pair.a-is) (c.deref_mut-in-Pair.ensures.value ∙ ap (λ (x : Box Node Global). x.value) c.in-Pair.b-is))
     (shape_of-Pair _ _ _ _ _) c.seek_pair.ensures.covers
 
 pub seek-returns-in-Pair-clause-smaller : goal.seek-returns-in-Pair-clause-smaller
 seek-returns-in-Pair-clause-smaller g t c =
     size_along _ _ _ _
-    (pair_shape c.args.node.now c.in-Pair.form c.in-Pair.ta c.in-Pair.tb c.in-Pair.a c.in-Pair.b _ _ c.in-Pair.is c.deref_mut.ensures.value c.deref_mut-in-Pair.ensures.value)
+    (parts_shape c.args.node.now c.in-Pair.form c.in-Pair.ta c.in-Pair.tb c.in-Pair.a c.in-Pair.b _ _ _ _ _ c.in-Pair.is c.in-Pair.form-is c.in-Pair.ta-is c.in-Pair.tb-is (c.deref_mut.ensures.value ∙ ap (λ (x : Box Node Global). x.value) c.in-Pair.a-is) (c.deref_mut-in-Pair.ensures.value ∙ ap (λ (x : Box Node Global). x.value) c.in-Pair.b-is))
     (shape_of-Pair _ _ _ _ _) (omega (arith, c.seek_pair.ensures.smaller))
 
 pub seek-returns-in-Pair-clause-paid : goal.seek-returns-in-Pair-clause-paid
 seek-returns-in-Pair-clause-paid g t c =
     paid_along c.args.index.now _ _ _ _ c.args.spent.now c.seek_pair.new.spent
-    (pair_shape c.args.node.now c.in-Pair.form c.in-Pair.ta c.in-Pair.tb c.in-Pair.a c.in-Pair.b _ _ c.in-Pair.is c.deref_mut.ensures.value c.deref_mut-in-Pair.ensures.value)
+    (parts_shape c.args.node.now c.in-Pair.form c.in-Pair.ta c.in-Pair.tb c.in-Pair.a c.in-Pair.b _ _ _ _ _ c.in-Pair.is c.in-Pair.form-is c.in-Pair.ta-is c.in-Pair.tb-is (c.deref_mut.ensures.value ∙ ap (λ (x : Box Node Global). x.value) c.in-Pair.a-is) (c.deref_mut-in-Pair.ensures.value ∙ ap (λ (x : Box Node Global). x.value) c.in-Pair.b-is))
     (shape_of-Pair _ _ _ _ _) c.seek_pair.ensures.paid
 
 pub seek_pair-returns-then-next-ge-END-clause-top : goal.seek_pair-returns-then-next-ge-END-clause-top
@@ -121,3 +124,107 @@ seek_pair-sides-preserved g t c =
       counted = omega (arith, c.reach.ensures.counted, c.reach-in-sides.ensures.counted, c.sides.invariant.counted);
       later = omega (arith, c.reach.ensures.later, c.reach-in-sides.ensures.later, c.sides.invariant.later);
     }
+
+pub seek_odd-odd_meeting-requires : goal.seek_odd-odd_meeting-requires
+seek_odd-odd_meeting-requires g t c =
+    omega (arith, weights_fit c.args.index.now (sides_on c.reach_all.new.tops c.reach_all.new.nodes) c.reach_all.ensures.sound, c.reach_all.ensures.falls, c.all.invariant.far.sides.fits)
+
+pub seek_odd-returns-in-At-clause-top : goal.seek_odd-returns-in-At-clause-top
+seek_odd-returns-in-At-clause-top g t c =
+    let i = c.args.index.now in
+    odd_top i (sides_on c.reach_all.new.tops c.reach_all.new.nodes) _ c.reach_all.ensures.sound
+    (c.in-At.ensures i c.all.from c.all.invariant.far.within c.reach_all.ensures.sound c.reach_all.ensures.reached).0
+    c.odd_greatest-top.ensures.there c.odd_greatest-top.ensures.ended
+
+pub seek_odd-returns-in-At-clause-covers : goal.seek_odd-returns-in-At-clause-covers
+seek_odd-returns-in-At-clause-covers g t c =
+    odd_covers c.args.index.now c.args.target c.args._need c.all.from (sides_on c.args.tops.now c.args.nodes.now) (sides_on c.all.tops c.all.nodes) (sides_on c.reach_all.new.tops c.reach_all.new.nodes)
+    c.all.invariant.far c.reach_all.ensures.sought
+
+pub seek_odd-returns-in-At-clause-reached : goal.seek_odd-returns-in-At-clause-reached
+seek_odd-returns-in-At-clause-reached g t c =
+    let i = c.args.index.now in
+    head_reached c.args.target c.args._need c.in-At.head c.in-At.weight _ _ (seek_odd-returns-in-At-clause-covers g t c)
+    (c.in-At.ensures i c.all.from c.all.invariant.far.within c.reach_all.ensures.sound c.reach_all.ensures.reached).0 c.requires.target
+
+pub seek_odd-all-smaller : goal.seek_odd-all-smaller
+seek_odd-all-smaller g t c =
+    let on = c.in-Behind.ensures c.args.index.now c.all.from c.all.invariant.far.within c.reach_all.ensures.sound c.reach_all.ensures.reached in
+    omega (arith, on.further, on.within)
+
+pub seek_odd-all-preserved : goal.seek_odd-all-preserved
+seek_odd-all-preserved g t c =
+    let i = c.args.index.now in
+    let on = c.in-Behind.ensures i c.all.from c.all.invariant.far.within c.reach_all.ensures.sound c.reach_all.ensures.reached in
+    record {
+      far = odd_more i c.args.target c.args._need c.all.from c.in-Behind.further (sides_on c.args.tops.now c.args.nodes.now) (sides_on c.all.tops c.all.nodes) (sides_on c.reach_all.new.tops c.reach_all.new.nodes)
+          c.all.invariant.far c.reach_all.ensures.sound c.reach_all.ensures.sought c.reach_all.ensures.falls c.reach_all.ensures.smaller on;
+      paid = omega (arith, c.reach_all.ensures.paid, c.all.invariant.paid);
+      counted = omega (arith, c.reach_all.ensures.counted, c.all.invariant.counted);
+      later = omega (arith, c.reach_all.ensures.later, c.all.invariant.later);
+    }
+
+pub seek_pair-sides-init : goal.seek_pair-sides-init
+seek_pair-sides-init g t c =
+    let i = c.args.index.now in
+    record {
+      far = sides_begun i c.args.form c.args.target c.args.need c.args.ta.now (shape_of c.args.a.now) c.args.tb.now (shape_of c.args.b.now) c.requires.pair c.requires.target;
+      paid = omega arith;
+      counted = omega arith;
+      later = omega arith;
+    }
+
+pub reach_all-reach_all-requires : goal.reach_all-reach_all-requires
+reach_all-reach_all-requires g t c κs below =
+    let i = c.args.index.now in
+    let whole = sides_split _ c.args.tops.now _ _ c.args.nodes.now _ _ c.split_at_mut-front_tops.ensures.front c.split_at_mut-front_tops.ensures.back c.split_at_mut-front_nodes.ensures.front c.split_at_mut-front_nodes.ensures.back in
+    let both = both_sound i (sides_on c.split_at_mut-front_tops.result.0.now c.split_at_mut-front_nodes.result.0.now) (sides_on c.split_at_mut-front_tops.result.1.now c.split_at_mut-front_nodes.result.1.now) (subst (λ (ss : Sides). AreSound i ss) whole c.requires.sound) in (
+      omega (arith, c.decreases, ap sizes_in whole, sizes_behind (sides_on c.split_at_mut-front_tops.result.0.now c.split_at_mut-front_nodes.result.0.now) (sides_on c.split_at_mut-front_tops.result.1.now c.split_at_mut-front_nodes.result.1.now), some_sizes c.split_at_mut-front_tops.result.1.now c.split_at_mut-front_nodes.result.1.now (omega (arith, c.split_at_mut-front_tops.ensures.back_len, c.if-count-le-FEW.false, c.min-count.ensures)) (omega (arith, c.split_at_mut-front_nodes.ensures.back_len, c.if-count-le-FEW.false, c.min-count.ensures))),
+      (below, (both.0, (c.requires.target, omega (arith, c.requires.room, ap (unread_in i) whole, unread_behind i (sides_on c.split_at_mut-front_tops.result.0.now c.split_at_mut-front_nodes.result.0.now) (sides_on c.split_at_mut-front_tops.result.1.now c.split_at_mut-front_nodes.result.1.now))))),
+    )
+
+pub reach_all-reach_all-requires-2 : goal.reach_all-reach_all-requires-2
+reach_all-reach_all-requires-2 g t c κs below =
+    let i = c.args.index.now in
+    let whole = sides_split _ c.args.tops.now _ _ c.args.nodes.now _ _ c.split_at_mut-front_tops.ensures.front c.split_at_mut-front_tops.ensures.back c.split_at_mut-front_nodes.ensures.front c.split_at_mut-front_nodes.ensures.back in
+    let both = both_sound i (sides_on c.split_at_mut-front_tops.result.0.now c.split_at_mut-front_nodes.result.0.now) (sides_on c.split_at_mut-front_tops.result.1.now c.split_at_mut-front_nodes.result.1.now) (subst (λ (ss : Sides). AreSound i ss) whole c.requires.sound) in (
+      omega (arith, c.decreases, ap sizes_in whole, sizes_behind (sides_on c.split_at_mut-front_tops.result.0.now c.split_at_mut-front_nodes.result.0.now) (sides_on c.split_at_mut-front_tops.result.1.now c.split_at_mut-front_nodes.result.1.now), some_sizes c.split_at_mut-front_tops.result.0.now c.split_at_mut-front_nodes.result.0.now (omega (arith, c.split_at_mut-front_tops.ensures.front_len, c.if-count-le-FEW.false, c.min-count.ensures)) (omega (arith, c.split_at_mut-front_nodes.ensures.front_len, c.if-count-le-FEW.false, c.min-count.ensures))),
+      (below, (both.1, (c.requires.target, omega (arith, c.requires.room, ap (unread_in i) whole, unread_behind i (sides_on c.split_at_mut-front_tops.result.0.now c.split_at_mut-front_nodes.result.0.now) (sides_on c.split_at_mut-front_tops.result.1.now c.split_at_mut-front_nodes.result.1.now), c.reach_all.ensures.paid)))),
+    )
+
+pub reach_all-returns-clause-sound : goal.reach_all-returns-clause-sound
+reach_all-returns-clause-sound g t c =
+    let i = c.args.index.now in
+    subst (λ (ss : Sides). AreSound i ss) (sym (sides_append c.reach_all.new.tops c.reach_all-2.new.tops c.reach_all.new.nodes c.reach_all-2.new.nodes (omega (arith, c.reach_all.auto.tops, c.reach_all.auto.nodes, c.split_at_mut-front_tops.ensures.front_len, c.split_at_mut-front_nodes.ensures.front_len))))
+    (sound_behind i (sides_on c.reach_all.new.tops c.reach_all.new.nodes) (sides_on c.reach_all-2.new.tops c.reach_all-2.new.nodes) c.reach_all.ensures.sound c.reach_all-2.ensures.sound)
+
+pub reach_all-returns-clause-sought : goal.reach_all-returns-clause-sought
+reach_all-returns-clause-sought g t c =
+    let i = c.args.index.now in
+    subst (λ (ss : Sides). AreSought i c.args.target ss (sides_on (c.reach_all.new.tops ++ c.reach_all-2.new.tops) (c.reach_all.new.nodes ++ c.reach_all-2.new.nodes))) (sym (sides_split _ c.args.tops.now _ _ c.args.nodes.now _ _ c.split_at_mut-front_tops.ensures.front c.split_at_mut-front_tops.ensures.back c.split_at_mut-front_nodes.ensures.front c.split_at_mut-front_nodes.ensures.back))
+    (subst (λ (ss : Sides). AreSought i c.args.target (followed_by (sides_on c.split_at_mut-front_tops.result.0.now c.split_at_mut-front_nodes.result.0.now) (sides_on c.split_at_mut-front_tops.result.1.now c.split_at_mut-front_nodes.result.1.now)) ss) (sym (sides_append c.reach_all.new.tops c.reach_all-2.new.tops c.reach_all.new.nodes c.reach_all-2.new.nodes (omega (arith, c.reach_all.auto.tops, c.reach_all.auto.nodes, c.split_at_mut-front_tops.ensures.front_len, c.split_at_mut-front_nodes.ensures.front_len))))
+    (sought_behind i c.args.target (sides_on c.split_at_mut-front_tops.result.0.now c.split_at_mut-front_nodes.result.0.now) (sides_on c.split_at_mut-front_tops.result.1.now c.split_at_mut-front_nodes.result.1.now) (sides_on c.reach_all.new.tops c.reach_all.new.nodes) (sides_on c.reach_all-2.new.tops c.reach_all-2.new.nodes) c.reach_all.ensures.sought c.reach_all-2.ensures.sought))
+
+pub reach_all-returns-clause-reached : goal.reach_all-returns-clause-reached
+reach_all-returns-clause-reached g t c =
+    subst (λ (ss : Sides). AreFrom c.args.target ss) (sym (sides_append c.reach_all.new.tops c.reach_all-2.new.tops c.reach_all.new.nodes c.reach_all-2.new.nodes (omega (arith, c.reach_all.auto.tops, c.reach_all.auto.nodes, c.split_at_mut-front_tops.ensures.front_len, c.split_at_mut-front_nodes.ensures.front_len))))
+    (from_behind c.args.target (sides_on c.reach_all.new.tops c.reach_all.new.nodes) (sides_on c.reach_all-2.new.tops c.reach_all-2.new.nodes) c.reach_all.ensures.reached c.reach_all-2.ensures.reached)
+
+pub reach_all-returns-clause-falls : goal.reach_all-returns-clause-falls
+reach_all-returns-clause-falls g t c =
+    let whole = sides_split _ c.args.tops.now _ _ c.args.nodes.now _ _ c.split_at_mut-front_tops.ensures.front c.split_at_mut-front_tops.ensures.back c.split_at_mut-front_nodes.ensures.front c.split_at_mut-front_nodes.ensures.back in
+    let new = sides_append c.reach_all.new.tops c.reach_all-2.new.tops c.reach_all.new.nodes c.reach_all-2.new.nodes (omega (arith, c.reach_all.auto.tops, c.reach_all.auto.nodes, c.split_at_mut-front_tops.ensures.front_len, c.split_at_mut-front_nodes.ensures.front_len)) in
+    omega (arith, ap greatest_sum whole, ap greatest_sum new, greatest_behind (sides_on c.split_at_mut-front_tops.result.0.now c.split_at_mut-front_nodes.result.0.now) (sides_on c.split_at_mut-front_tops.result.1.now c.split_at_mut-front_nodes.result.1.now), greatest_behind (sides_on c.reach_all.new.tops c.reach_all.new.nodes) (sides_on c.reach_all-2.new.tops c.reach_all-2.new.nodes), c.reach_all.ensures.falls, c.reach_all-2.ensures.falls)
+
+pub reach_all-returns-clause-smaller : goal.reach_all-returns-clause-smaller
+reach_all-returns-clause-smaller g t c =
+    let whole = sides_split _ c.args.tops.now _ _ c.args.nodes.now _ _ c.split_at_mut-front_tops.ensures.front c.split_at_mut-front_tops.ensures.back c.split_at_mut-front_nodes.ensures.front c.split_at_mut-front_nodes.ensures.back in
+    let new = sides_append c.reach_all.new.tops c.reach_all-2.new.tops c.reach_all.new.nodes c.reach_all-2.new.nodes (omega (arith, c.reach_all.auto.tops, c.reach_all.auto.nodes, c.split_at_mut-front_tops.ensures.front_len, c.split_at_mut-front_nodes.ensures.front_len)) in
+    omega (arith, ap sizes_in whole, ap sizes_in new, sizes_behind (sides_on c.split_at_mut-front_tops.result.0.now c.split_at_mut-front_nodes.result.0.now) (sides_on c.split_at_mut-front_tops.result.1.now c.split_at_mut-front_nodes.result.1.now), sizes_behind (sides_on c.reach_all.new.tops c.reach_all.new.nodes) (sides_on c.reach_all-2.new.tops c.reach_all-2.new.nodes), c.reach_all.ensures.smaller, c.reach_all-2.ensures.smaller)
+
+pub reach_all-returns-clause-paid : goal.reach_all-returns-clause-paid
+reach_all-returns-clause-paid g t c =
+    let i = c.args.index.now in
+    let whole = sides_split _ c.args.tops.now _ _ c.args.nodes.now _ _ c.split_at_mut-front_tops.ensures.front c.split_at_mut-front_tops.ensures.back c.split_at_mut-front_nodes.ensures.front c.split_at_mut-front_nodes.ensures.back in
+    let new = sides_append c.reach_all.new.tops c.reach_all-2.new.tops c.reach_all.new.nodes c.reach_all-2.new.nodes (omega (arith, c.reach_all.auto.tops, c.reach_all.auto.nodes, c.split_at_mut-front_tops.ensures.front_len, c.split_at_mut-front_nodes.ensures.front_len)) in
+    omega (arith, ap (unread_in i) whole, ap (unread_in i) new, unread_behind i (sides_on c.split_at_mut-front_tops.result.0.now c.split_at_mut-front_nodes.result.0.now) (sides_on c.split_at_mut-front_tops.result.1.now c.split_at_mut-front_nodes.result.1.now), unread_behind i (sides_on c.reach_all.new.tops c.reach_all.new.nodes) (sides_on c.reach_all-2.new.tops c.reach_all-2.new.nodes), c.reach_all.ensures.paid, c.reach_all-2.ensures.paid)

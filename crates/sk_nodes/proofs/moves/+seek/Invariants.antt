@@ -1,8 +1,9 @@
 -- How large the nodes are, and how far two sides have come.
 use Rattle.std.proofs.Common.{◌≡◌, ◌≤◌, ◌+◌, ◌^◌, ◌-◌, ◌*◌}
-use Rattle.sk_nodes.specs.Shapes.{shape_of, size_of}
-use Rattle.sk_nodes.specs.Left.{unread_of}
+use Rattle.sk_nodes.specs.Shapes.{shape_of, size_of, sides_on, sizes_in}
+use Rattle.sk_nodes.specs.Left.{unread_of, unread_in}
 use Rattle.sk_nodes.proofs.NodeLaws.{SidesSoFar}
+use Rattle.sk_nodes.proofs.OddLaws.{OddSoFar}
 use Rattle.sk_nodes.proofs.moves.+seek.Given as goal
 
 abbrev pub decreases-reach : goal.decreases-reach
@@ -24,3 +25,23 @@ invariant-seek_pair-sides g l = record {
 
 abbrev pub decreases-seek_pair-sides : goal.decreases-seek_pair-sides
 decreases-seek_pair-sides g l = 2 ^ 32 - l.from
+
+abbrev pub decreases-seek_odd : goal.decreases-seek_odd
+decreases-seek_odd g l = 3 * sizes_in (sides_on l.tops.now l.nodes.now) + 3
+
+abbrev pub decreases-reach_all : goal.decreases-reach_all
+decreases-reach_all g l = 3 * sizes_in (sides_on l.tops.now l.nodes.now) + 2
+
+abbrev pub decreases-reach_few : goal.decreases-reach_few
+decreases-reach_few g l = 3 * sizes_in (sides_on l.tops.now l.nodes.now) + 1
+
+abbrev pub invariant-seek_odd-all : goal.invariant-seek_odd-all
+invariant-seek_odd-all g l = record {
+  far : OddSoFar l.index l.target l._need l.from (sides_on l.fn.tops l.fn.nodes) (sides_on l.tops l.nodes);
+  paid : l.spent + unread_in l.index (sides_on l.tops l.nodes) ≤ l.fn.spent + unread_in l.index (sides_on l.fn.tops l.fn.nodes);
+  counted : l.steps + l.fn.spent ≡ l.fn.steps + l.spent;
+  later : l.fn.spent ≤ l.spent;
+}
+
+abbrev pub decreases-seek_odd-all : goal.decreases-seek_odd-all
+decreases-seek_odd-all g l = 2 ^ 32 - l.from

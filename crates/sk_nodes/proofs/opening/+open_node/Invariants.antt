@@ -5,7 +5,10 @@ use Rattle.sk_nodes.specs.Opened.{query_size, parts_size}
 use Rattle.sk_nodes.proofs.opening.+open_node.Given as goal
 
 abbrev pub decreases-open_node : goal.decreases-open_node
-decreases-open_node g l = 2 * query_size (query_view l.query.now)
+decreases-open_node g l = 3 * query_size (query_view l.query.now)
 
 abbrev pub decreases-open_parts : goal.decreases-open_parts
-decreases-open_parts g l = 2 * parts_size (queries_view l.parts.now) + 1
+decreases-open_parts g l = 3 * parts_size (queries_view l.parts.now) + 2
+
+abbrev pub decreases-open_sides : goal.decreases-open_sides
+decreases-open_sides g l = 3 * parts_size (queries_view l.parts.now) + 1

@@ -28,7 +28,7 @@ pub returns-clause-back_size : goal.returns-clause-back_size
 returns-clause-back_size c = split_back_size c.args.form c.args._factor _ _ _ (whole c) c.requires.parts (front_some c) (back_some c)
 
 pub returns-clause-scores : goal.returns-clause-scores
-returns-clause-scores c = split_scores c.args.form c.args._factor _ _ _ (whole c) c.requires.parts (front_some c) (back_some c)
+returns-clause-scores c = split_scores c.args.form c.args._factor _ _ _ (whole c) c.requires.parts (front_some c) (back_some c) c.requires.nest
 
 pub returns-clause-ceiling : goal.returns-clause-ceiling
 returns-clause-ceiling c = split_ceiling c.args.form c.args._factor _ _ _ (whole c) c.requires.parts (front_some c) (back_some c)

@@ -1,0 +1,48 @@
+-- The sides of an xor: how they move, and where they begin.
+use Rattle.std.specs.Prelude.{◌≡◌, ◌≤◌, ◌<◌, ◌+◌, ◌^◌, ℕ, List, Option}
+use Rattle.sk_model.specs.Covers.{Covers}
+use Rattle.sk_model.specs.Combining.{sum_of_any, number_matching, is_odd}
+use Rattle.sk_index.specs.Indexed.{Indexed}
+use Rattle.sk_decay.specs.declared.meeting.Meeting.{Meeting}
+use Rattle.sk_decay.specs.Heads.{IsHead, GoesOn}
+use Rattle.sk_nodes.specs.declared.top.Top.{Top}
+use Rattle.sk_nodes.specs.declared.odd.Tally.{Tally}
+use Rattle.sk_nodes.specs.Shapes.{Shape, Sides, no_sides, side, odd}
+use Rattle.sk_nodes.specs.Left.{rest, from_on}
+
+-- One side was sought from the target on, by what holds of the others.
+pub record IsSought (old new : ℕ → Option ℕ) (target : ℕ) (A : Type 0) : Type 0 where
+  pub first : Covers (from_on target old) new 0
+  pub others : A
+
+-- Each side was sought from the target on, without a need.
+abbrev pub AreSought : Indexed → ℕ → Sides → Sides → Type 0
+AreSought i target no_sides no_sides = Unit {0}
+AreSought i target no_sides (side u r rs) = ⊥
+AreSought i target (side t s ss) no_sides = ⊥
+AreSought i target (side t s ss) (side u r rs) = IsSought (rest i s) (rest i r) target (AreSought i target ss rs)
+
+-- No side begins before.
+abbrev pub AreFrom : ℕ → Sides → Type 0
+AreFrom from no_sides = Unit {0}
+AreFrom from (side t s ss) = (from ≤ t.head) × AreFrom from ss
+
+-- Sides, and others behind them.
+abbrev pub followed_by : Sides → Sides → Sides
+followed_by no_sides rs = rs
+followed_by (side t s ss) rs = side t s (followed_by ss rs)
+
+-- What sides weigh where each of them begins.
+abbrev pub weight_sum : Sides → ℕ
+weight_sum no_sides = 0
+weight_sum (side t s ss) = t.weight + weight_sum ss
+
+-- Where the first of all these begins, what they weigh there, and whether an odd number of them is there.
+pub record IsTally (f : ℕ → List (Option ℕ)) (t : Tally) : Type 0 where
+  pub head : IsHead t.head t.weight (λ id. sum_of_any (f id))
+  pub parity : t.head < 2 ^ 32 → is_odd (number_matching (f t.head)) ≡ t.odd
+
+-- An xor begins there, or lies behind.
+abbrev pub OddMeets : Indexed → ℕ → Sides → Meeting → Type 0
+OddMeets i from ss (Meeting.At h w) = IsHead h w (rest i (odd ss)) × (from ≤ h)
+OddMeets i from ss (Meeting.Behind next) = GoesOn from next (rest i (odd ss))
