@@ -1,0 +1,3 @@
+mod SoonestLemmas
+mod PhraseLemmas
+mod WindowLemmas

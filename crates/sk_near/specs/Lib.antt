@@ -1,0 +1,3 @@
+pub mod Places
+pub mod Soonest
+pub mod Windows

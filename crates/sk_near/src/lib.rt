@@ -1,0 +1,11 @@
+//! When words stand near, and as a phrase, by the positions where each stands in a document.
+#![tactic(auto)]
+
+mod operands;
+mod phrases;
+mod places;
+mod windows;
+
+pub use operands::Operands;
+pub use phrases::phrase;
+pub use windows::near;
