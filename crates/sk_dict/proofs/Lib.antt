@@ -1,5 +1,6 @@
 -- Lemmas.
 pub mod NumberLaws
+pub mod WalkLaws
 mod EachLemmas
 mod RisingLemmas
 mod BlockLemmas
@@ -7,4 +8,5 @@ mod OrderLemmas
 mod HeadLemmas
 mod FindLemmas
 mod PrefixLemmas
+mod WalkLemmas
 mod Examples

@@ -1,5 +1,5 @@
 -- The blocks of an order: lists of numbers, one behind the other.
-use Rattle.std.specs.Prelude.{◌≡◌, ◌<◌, ◌≤◌, ◌+◌, ℕ, List, [], ◌++◌, length, take, drop, slice_index_or}
+use Rattle.std.specs.Prelude.{◌≡◌, ◌<◌, ◌≤◌, ◌+◌, ℕ, List, [], ◌∷◌, ◌++◌, length, take, drop, slice_index_or}
 use Rattle.std.specs.List.{concat}
 
 -- A block has at least one number, and at most 512.
@@ -18,6 +18,11 @@ front_of blocks b offset = concat (take b blocks) ++ take offset (in_block block
 -- What stands from there on.
 abbrev pub rest_from : List (List ℕ) → ℕ → ℕ → List ℕ
 rest_from blocks b offset = drop offset (in_block blocks b) ++ concat (drop (b + 1) blocks)
+
+-- The number n is the first from the offset of the block b on, and the others stand from the offset c of the block a on.
+pub record IsStep (blocks : List (List ℕ)) (b offset n a c : ℕ) : Type 0 where
+  pub there : a < length blocks
+  pub rest : rest_from blocks b offset ≡ n ∷ rest_from blocks a c
 
 -- The block became two, and the others stayed.
 pub record IsCut (old new : List (List ℕ)) (b half : ℕ) : Type 0 where

@@ -1,5 +1,5 @@
 -- Terms by their numbers, and their order.
-use Rattle.std.specs.Prelude.{◌≡◌, ◌≢◌, ◌<◌, ℕ, Bool, true, Option, IfSome, unwrap_or, is_some, List, [], ◌∷◌, ◌++◌, length, slice_index_or, nat_eq, if◌then◌else◌}
+use Rattle.std.specs.Prelude.{◌≡◌, ◌≢◌, ◌<◌, ℕ, Bool, true, Option, Some, IfSome, unwrap_or, is_some, List, [], ◌∷◌, ◌++◌, length, slice_index_or, nat_eq, if◌then◌else◌}
 use Rattle.std.specs.List.{position, starts_with}
 use Rattle.std.specs.Str.{bytes_eq}
 use Rattle.std.specs.Ordering.{nat_cmp}
@@ -49,3 +49,8 @@ pub record IsNext (terms : List (List ℕ)) (prefix : List ℕ) (after : Option 
 -- None is one.
 abbrev pub HasNoNext : List (List ℕ) → List ℕ → Option ℕ → Type 0
 HasNoNext terms prefix after = (m : ℕ) → IsFollower terms prefix after m → ⊥
+
+-- The numbers of all terms that begin with the prefix and stand behind, in order.
+abbrev pub IsWalk : List (List ℕ) → List ℕ → Option ℕ → List ℕ → Type 0
+IsWalk terms prefix after [] = HasNoNext terms prefix after
+IsWalk terms prefix after (n ∷ ns) = IsNext terms prefix after n × IsWalk terms prefix (Some n) ns

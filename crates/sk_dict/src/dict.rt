@@ -1,19 +1,19 @@
 //! The dictionary.
 ghost use Rattle.std.specs.Prelude.{◌≡◌, ◌≢◌, ◌<◌, ◌++◌, ◌∷◌, true, Some, None, [], length, is_some, IfOk, OnOk, OnErr, IfSome, MatchOption};
 ghost use Rattle.std.specs.List.{AllPairs};
-ghost use Rattle.sk_dict.specs.Terms.{term_at, number_of, number_for, with_term, begins_with, IsNext, HasNoNext};
+ghost use Rattle.sk_dict.specs.Terms.{term_at, number_of, number_for, with_term, begins_with, IsNext, HasNoNext, IsWalk};
 ghost use Rattle.sk_dict.specs.Searches.{start_of, IsFirst, AllPassed};
 
 use crate::block::Block;
-use crate::order::{find_place, number_at, put};
+use crate::order::{find_place, number_at, numbers_with, put};
 use crate::terms::Terms;
 use sk_base::Term;
 use std::alloc::{AllocError, Global};
 use std::fmt::{Debug, Error, Formatter, Write};
 use std::marker::Model;
 
-/// Terms, each with a number from 0 in the order in which they came. Contracts see it as the list of the terms by number;
-/// `Debug` tells how many there are, and shows none.
+/// Terms, each with a number from 0 in the order in which they came. Contracts see it as the list of the terms by
+/// number; `Debug` tells how many there are, and shows none.
 #[derive(Drop)]
 pub struct Dict {
     terms: Terms,
@@ -86,8 +86,8 @@ impl Dict {
         }
     }
 
-    /// The number of the first term that begins with the prefix and stands behind the term with the number `after`, if one is given.
-    /// It takes no memory.
+    /// The number of the first term that begins with the prefix and stands behind the term with the number `after`, if
+    /// one is given. It takes no memory.
     pub fn next_with_prefix(&self, prefix: &[u8], after: Option<usize>) -> Option<usize>
         requires there { IfSome after (λ a. a < length self.now) }
         requires begins { IfSome after (λ a. begins_with (term_at self.now a) prefix.now ≡ true) }
@@ -99,6 +99,18 @@ impl Dict {
         } else {
             None
         }
+    }
+
+    /// The numbers of all terms that begin with the prefix, in byte order of the terms. One search finds the first.
+    pub fn with_prefix(&self, prefix: &[u8]) -> Result<Vec<usize>, AllocError>
+        ensures { IfOk result (λ ns. IsWalk self.now prefix.now None ns.items) }
+    {
+        if self.blocks.is_empty() {
+            return Ok(Vec::new(self.terms.allocator()));
+        }
+        let start = find_place(&self.terms, &self.blocks, prefix, false);
+        let found = numbers_with(&self.terms, &self.blocks, prefix, start)?;
+        Ok(found)
     }
 
     // The first term at the key, or behind it.

@@ -1,10 +1,11 @@
 //! The order of the terms: where a term stands among the blocks, and how a new one is put there.
-ghost use Rattle.std.specs.Prelude.{◌≡◌, ◌<◌, ◌≤◌, ◌+◌, true, false, length, take, drop, slice_get, ◌++◌, ◌∷◌, IfOk, OnOk, OnErr};
-ghost use Rattle.std.specs.List.{concat};
+ghost use Rattle.std.specs.Prelude.{◌≡◌, ◌<◌, ◌≤◌, ◌+◌, true, false, [], length, take, drop, slice_get, ◌++◌, ◌∷◌, IfOk, OnOk, OnErr, MatchOption};
+ghost use Rattle.std.specs.List.{concat, take_while};
+ghost use Rattle.sk_dict.specs.Terms.{term_at, begins_with};
 ghost use Rattle.sk_dict.specs.Searches.{passes};
 ghost use Rattle.sk_dict.specs.Heads.{AreBytes, head_of};
 ghost use Rattle.sk_dict.specs.Order.{Each, IsKnown, IsRising, IsSplit, IsPutIn};
-ghost use Rattle.sk_dict.specs.Blocks.{in_block, front_of, rest_from, IsCut, HasRoom};
+ghost use Rattle.sk_dict.specs.Blocks.{in_block, front_of, rest_from, IsStep, IsCut, HasRoom};
 
 use crate::block::{Block, FULL};
 use crate::terms::{Terms, head_of};
@@ -84,20 +85,64 @@ pub(crate) fn find_place(terms: &Terms, blocks: &[Block], key: &[u8], behind: bo
     Place { block, offset }
 }
 
+/// The number at the place, and the place behind it, or none at the end.
+pub(crate) fn step(blocks: &[Block], place: Place) -> Option<(usize, Place)>
+    requires { place.block < length blocks.now }
+    ensures { MatchOption result (rest_from blocks.now place.block place.offset ≡ [])
+        (λ s. IsStep blocks.now place.block place.offset s.0 s.1.block s.1.offset) }
+{
+    let numbers = blocks[place.block].numbers();
+    if place.offset < numbers.len() {
+        let behind = Place {
+            block: place.block,
+            offset: place.offset + 1,
+        };
+        return Some((numbers[place.offset], behind));
+    }
+    let next = place.block + 1;
+    if next < blocks.len() {
+        let behind = Place {
+            block: next,
+            offset: 1,
+        };
+        return Some((blocks[next].numbers()[0], behind));
+    }
+    None
+}
+
 /// The number at the place, or none at the end.
 pub(crate) fn number_at(blocks: &[Block], place: Place) -> Option<usize>
     requires { place.block < length blocks.now }
     ensures { result ≡ slice_get (rest_from blocks.now place.block place.offset) 0 }
 {
-    let numbers = blocks[place.block].numbers();
-    if place.offset < numbers.len() {
-        return Some(numbers[place.offset]);
+    let (number, _) = step(blocks, place)?;
+    Some(number)
+}
+
+/// The numbers from the place on whose terms begin with the prefix, up to the first that does not.
+pub(crate) fn numbers_with(
+    terms: &Terms,
+    blocks: &[Block],
+    prefix: &[u8],
+    start: Place,
+) -> Result<Vec<usize>, AllocError>
+    requires there { start.block < length blocks.now }
+    requires known { Each (IsKnown terms.now) (rest_from blocks.now start.block start.offset) }
+    ensures { IfOk result (λ ns. ns.items
+        ≡ take_while (λ n. begins_with (term_at terms.now n) prefix.now) (rest_from blocks.now start.block start.offset)) }
+{
+    let mut found = Vec::new(terms.allocator());
+    let mut place = start;
+    'walk: loop {
+        let Some((number, behind)) = step(blocks, place) else {
+            return Ok(found);
+        };
+        if !terms.get(number).as_bytes().starts_with(prefix) {
+            return Ok(found);
+        }
+        found.push(number)?;
+        place = behind;
     }
-    let next = place.block + 1;
-    if next < blocks.len() {
-        return Some(blocks[next].numbers()[0]);
-    }
-    None
 }
 
 // Cuts the block in two.

@@ -9,7 +9,8 @@ use std::alloc::{AllocError, Global};
 use std::cmp::Ordering;
 use std::marker::Model;
 
-/// Terms, each with its first eight bytes as a number, which most comparisons need alone. Contracts see the list of the terms.
+/// Terms, each with its first eight bytes as a number, which most comparisons need alone. Contracts see the list of the
+/// terms.
 #[derive(Drop)]
 pub(crate) struct Terms {
     terms: Vec<Term>,

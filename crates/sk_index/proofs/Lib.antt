@@ -3,3 +3,5 @@ mod SlottedLemmas
 mod StandsLemmas
 mod NumberLemmas
 mod WildLemmas
+mod PlaceLemmas
+mod AllWithLemmas

@@ -22,20 +22,20 @@ use Rattle.sk_index.specs.Wild.{over, is_behind, counted, sum_behind}
 use Rattle.sk_index.proofs.ListedLemmas.{list_of-none, AreTerms-tail, once_at}
 use Rattle.sk_index.proofs.NumberLemmas.{none_has, wdf_of-none}
 
-over-same : (f g : List ℕ → ℕ) (terms : List (List ℕ)) → ((m : ℕ) → m < length terms → f (term_at terms m) ≡ g (term_at terms m)) → over f terms ≡ over g terms
+pub over-same : (f g : List ℕ → ℕ) (terms : List (List ℕ)) → ((m : ℕ) → m < length terms → f (term_at terms m) ≡ g (term_at terms m)) → over f terms ≡ over g terms
 over-same f g [] h = refl
 over-same f g (t ∷ ts) h = λ i. h 0 (omega arith) i + over-same f g ts (λ m lt. h (suc m) (omega arith)) i
 
-over-none : (f : List ℕ → ℕ) (terms : List (List ℕ)) → ((m : ℕ) → m < length terms → f (term_at terms m) ≡ 0) → over f terms ≡ 0
+pub over-none : (f : List ℕ → ℕ) (terms : List (List ℕ)) → ((m : ℕ) → m < length terms → f (term_at terms m) ≡ 0) → over f terms ≡ 0
 over-none f [] h = refl
 over-none f (t ∷ ts) h = omega (arith, h 0 (omega arith), over-none f ts (λ m lt. h (suc m) (omega arith)))
 
-over-sum : (f g : List ℕ → ℕ) (terms : List (List ℕ)) → over (λ t. f t + g t) terms ≡ over f terms + over g terms
+pub over-sum : (f g : List ℕ → ℕ) (terms : List (List ℕ)) → over (λ t. f t + g t) terms ≡ over f terms + over g terms
 over-sum f g [] = refl
 over-sum f g (t ∷ ts) = omega (arith, over-sum f g ts)
 
 -- the number of one term, and 0 of another
-abbrev only : List ℕ → (List ℕ → ℕ) → List ℕ → ℕ
+abbrev pub only : List ℕ → (List ℕ → ℕ) → List ℕ → ℕ
 only x f t = if bytes_eq x t then f t else 0
 
 only-same : (x : List ℕ) (f : List ℕ → ℕ) (t : List ℕ) → t ≡ x → only x f t ≡ f x
@@ -49,7 +49,7 @@ only-other x f t apart = by (bytes_eq x t) refl
     by false e = refl
 
 -- of different terms, one is counted once
-over-only : (x : List ℕ) (f : List ℕ → ℕ) (terms : List (List ℕ)) (n : ℕ) → AllPairs (λ s t. s ≢ t) terms → n < length terms → term_at terms n ≡ x → over (only x f) terms ≡ f x
+pub over-only : (x : List ℕ) (f : List ℕ → ℕ) (terms : List (List ℕ)) (n : ℕ) → AllPairs (λ s t. s ≢ t) terms → n < length terms → term_at terms n ≡ x → over (only x f) terms ≡ f x
 over-only x f [] n different lt is = absurd (omega arith)
 over-only x f (t ∷ ts) zero different lt is =
     omega (arith, only-same x f t is, over-none (only x f) ts (λ m below. only-other x f (term_at ts m) (λ same. different 0 (suc m) [] (omega arith) (omega arith) (is ∙ sym same))))
@@ -57,7 +57,7 @@ over-only x f (t ∷ ts) (suc n) different lt is =
     omega (arith, only-other x f t (λ same. different 0 (suc n) [] (omega arith) lt (same ∙ sym is)), over-only x f ts n (λ i j d below within. different (suc i) (suc j) d (omega arith) (omega arith)) (omega arith) is)
 
 -- either of two tests that follow from each other
-both_ways : (b c : Bool) → (b ≡ true → c ≡ true) → (c ≡ true → b ≡ true) → b ≡ c
+pub both_ways : (b c : Bool) → (b ≡ true → c ≡ true) → (c ≡ true → b ≡ true) → b ≡ c
 both_ways true true f g = refl
 both_ways true false f g = sym (f refl)
 both_ways false true f g = g refl

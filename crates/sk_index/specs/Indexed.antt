@@ -1,13 +1,15 @@
 -- What an index holds, and what its readers give.
-use Rattle.std.specs.Prelude.{ℕ, List, [], map, Option, Some, None, if◌then◌else◌}
-use Rattle.std.specs.List.{filter_map}
+use Rattle.std.specs.Prelude.{◌≡◌, ◌<◌, ℕ, true, List, [], length, map, sum_by, All, AllPairs, Option, Some, None, if◌then◌else◌}
+use Rattle.std.specs.List.{filter_map, list_any}
 use Rattle.sk_lists.specs.Postings.{Postings}
 use Rattle.sk_values.specs.SlotValues.{SlotValues}
 use Rattle.sk_base.specs.declared.schema.Field.{Field}
-use Rattle.sk_base.specs.Documents.{has_term, wdf_of, has_value, value_in}
-use Rattle.sk_base.specs.Numbers.{Docs}
+use Rattle.sk_base.specs.Documents.{has_term, wdf_of, positions_of, begins_with, has_value, value_in}
+use Rattle.sk_base.specs.Numbers.{Docs, length_of, greatest_of, terms_with}
+use Rattle.sk_dict.specs.Terms.{term_at, Precedes}
 use Rattle.sk_model.specs.Documents.{Document}
-use Rattle.sk_model.specs.Edits.{Live}
+use Rattle.sk_model.specs.Edits.{Live, document_at}
+use Rattle.sk_model.specs.Scores.{wild_wdf}
 
 -- What an index holds: the fields of its schema, the live documents, and the terms that were given a number, by number.
 pub record Indexed : Type 0 where
@@ -39,3 +41,19 @@ slot_values slot docs = filter_map (valued_in slot) docs
 abbrev pub slot_value : ℕ → Option Document → List ℕ
 slot_value slot None = []
 slot_value slot (Some document) = value_in slot document.values
+
+-- The positions of the term in the document, and none where there is no document.
+abbrev pub term_positions : List ℕ → Option Document → List ℕ
+term_positions t None = []
+term_positions t (Some document) = positions_of t document.terms
+
+-- The numbers of all terms that begin with the prefix, in byte order. Over these terms a wildcard matches, weighs and is counted as over a document's own.
+pub record AreAllWith (prefix : List ℕ) (terms : List (List ℕ)) (docs : Docs) (ns : List ℕ) : Type 0 where
+  pub there : All (λ n. n < length terms) ns
+  pub begins : All (λ n. begins_with (term_at terms n) prefix ≡ true) ns
+  pub rising : AllPairs (λ m n. Precedes (term_at terms m) (term_at terms n)) ns
+  pub matches : (id : ℕ) (d : Document) → document_at id docs ≡ Some d
+      → list_any (λ one. begins_with one.term prefix) d.terms ≡ list_any (λ n. has_term (term_at terms n) d.terms) ns
+  pub wdfs : (id : ℕ) (d : Document) → document_at id docs ≡ Some d → wild_wdf prefix d.terms ≡ sum_by (λ n. wdf_of (term_at terms n) d.terms) ns
+  pub lengths : sum_by (λ n. length_of (term_at terms n) docs) ns ≡ sum_by (λ t. length_of t docs) (terms_with prefix docs)
+  pub greatest : sum_by (λ n. greatest_of (term_at terms n) docs) ns ≡ sum_by (λ t. greatest_of t docs) (terms_with prefix docs)

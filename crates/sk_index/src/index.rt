@@ -4,12 +4,14 @@ ghost use Rattle.std.specs.Option.{option_map};
 ghost use Rattle.sk_base.specs.Records.{FitsEdit};
 ghost use Rattle.sk_base.specs.Loads.{IsLight};
 ghost use Rattle.sk_base.specs.Numbers.{some_has};
+ghost use Rattle.sk_base.specs.Order.{ArePositions};
 ghost use Rattle.sk_dict.specs.Terms.{term_at, number_of};
 ghost use Rattle.sk_model.specs.Documents.{keeps_slot, has_slot};
 ghost use Rattle.sk_model.specs.Edits.{nothing_live, edited, reply_to, document_at, IsLive};
-ghost use Rattle.sk_index.specs.Indexed.{Indexed, postings, all_postings, slot_values, slot_value};
+ghost use Rattle.sk_index.specs.Indexed.{Indexed, postings, all_postings, slot_values, slot_value, term_positions, AreAllWith};
 
 use crate::lists::Lists;
+use crate::places::{Places, positions_in};
 use crate::slot_lists::SlotLists;
 use crate::term_lists::TermLists;
 use sk_base::{DocId, Edit, Field, FieldKind, Reply, Schema};
@@ -91,6 +93,14 @@ impl Index {
         self.documents.beside().terms.find(term)
     }
 
+    /// The numbers of all terms that begin with the prefix, in byte order of the terms. One search finds the first.
+    pub fn with_prefix(&self, prefix: &[u8]) -> Result<Vec<usize>, AllocError>
+        ensures { IfOk result (λ ns. AreAllWith prefix.now self.now.terms self.now.live.documents ns.items) }
+    {
+        let numbers = self.documents.beside().terms.with_prefix(prefix)?;
+        Ok(numbers)
+    }
+
     /// The live documents that have the term with this number, with its wdf in each.
     pub fn list(&self, number: usize) -> &List
         requires there { number < length self.now.terms }
@@ -124,6 +134,29 @@ impl Index {
         ensures cost { steps.new ≡ steps.old + 1 }
     {
         self.documents.beside().slots.list(slot).get(id, steps)
+    }
+
+    /// The places of the term with this number in the document. It is one reading.
+    pub fn places<L: Ledger>(&self, number: usize, id: DocId, steps: &mut Steps<L>) -> Places
+        requires there { number < length self.now.terms }
+        ensures value { result ≡ (number, id) }
+        ensures cost { steps.new ≡ steps.old + 1 }
+    {
+        Places::read(number, id, steps)
+    }
+
+    /// The positions of the term there, none where the document is not live or has not the term. It is no reading.
+    pub fn positions(&self, places: &Places) -> &[u32]
+        requires there { places.now.0 < length self.now.terms }
+        ensures value { result.now
+            ≡ term_positions (term_at self.now.terms places.now.0) (document_at places.now.1 self.now.live.documents) }
+        ensures rising { ArePositions result.now }
+    {
+        let term = self.documents.beside().terms.term(places.number);
+        match self.documents.document(places.id) {
+            Some(doc) => positions_in(doc.terms.as_slice(), term.as_bytes()),
+            None => &[],
+        }
     }
 
     /// The document's payload, none where it is not live. It is one reading.

@@ -3,10 +3,10 @@
 
 mod index;
 mod lists;
+mod places;
 mod slot_lists;
 mod stats;
 mod term_lists;
-#[cfg(test)]
-mod tests;
 
 pub use index::Index;
+pub use places::Places;

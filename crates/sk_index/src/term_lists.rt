@@ -1,7 +1,7 @@
 //! The posting lists of all terms.
 ghost use Rattle.std.specs.Prelude.{◌≡◌, ◌≤◌, ◌<◌, ◌+◌, [], length, min, set, slice_index_or, Some, None, true, IfOk, OnOk, IfSome, MatchOption};
 ghost use Rattle.sk_base.specs.Documents.{AreTerms};
-ghost use Rattle.sk_dict.specs.Terms.{term_at, number_of, begins_with, IsNext, HasNoNext};
+ghost use Rattle.sk_dict.specs.Terms.{term_at, number_of, begins_with, IsNext, HasNoNext, IsWalk};
 ghost use Rattle.sk_sorted.specs.Entries.{put, without, ids_of};
 ghost use Rattle.sk_index.specs.Listed.{list_of, IsListed, SameLists, Puts, TakesOut, PutsAll, TakesOutAll};
 ghost use Rattle.sk_index.specs.Wild.{figure_of, sum_behind};
@@ -55,6 +55,22 @@ impl TermLists {
         ensures found { MatchOption result (list_of term.now self.now ≡ []) (λ n. (n < length self.now.terms) × (term_at self.now.terms n ≡ term.now)) }
     {
         self.dict.find(term)
+    }
+
+    /// The term with this number.
+    pub fn term(&self, number: usize) -> &str
+        requires there { number < length self.now.terms }
+        ensures { result.now ≡ term_at self.now.terms number }
+    {
+        self.dict.term(number)
+    }
+
+    /// The numbers of all terms that begin with the prefix, in order.
+    pub fn with_prefix(&self, prefix: &[u8]) -> Result<Vec<usize>, AllocError>
+        ensures walk { IfOk result (λ ns. IsWalk self.now.terms prefix.now None ns.items) }
+        ensures sound { IsListed self.now }
+    {
+        self.dict.with_prefix(prefix)
     }
 
     /// The list with this number.

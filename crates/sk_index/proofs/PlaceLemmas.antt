@@ -1,0 +1,101 @@
+-- Where a search by halves among the terms of a document has come, and what is found there.
+use Rattle.std.proofs.Common.{◌≡◌, ℕ, zero, suc, ◌+◌, ◌<◌, ◌≤◌, Bool, true, false, if◌then◌else◌, List, [], ◌∷◌, length, get_or, bytes_eq, inl, inr, refl, sym, ap, subst, ◌∙◌, arith}
+use mathlib.Core.Bool.{true≢false}
+use Rattle.std.specs.Ordering.{is_lt}
+use Rattle.std.specs.Cmp.Lexicographic.{nat_list_cmp_total}
+use Rattle.std.specs.declared.cmp.Ordering.{Ordering}
+use Rattle.std.specs.declared.cmp.Ordering.TheVariants.{Less, Equal, Greater}
+use Rattle.std.proofs.lemmas.Bool.{cases_lt}
+use Rattle.std.proofs.lemmas.List.{get_or_default}
+use Rattle.std.proofs.lemmas.Slice.Eq.{bytes_eq-Decides}
+use Rattle.sk_base.specs.declared.doc_entry.DocTerm.{DocTerm}
+use Rattle.sk_base.specs.Order.{Precedes}
+use Rattle.sk_base.specs.Documents.{AreTerms, positions_of}
+use Rattle.sk_dict.specs.Terms.{term_cmp}
+use Rattle.sk_index.specs.Placed.{IsBetween}
+use Rattle.sk_index.proofs.ListedLemmas.{Precedes-irrefl}
+
+less_is : (o : Ordering) → is_lt o ≡ true → o ≡ Less
+less_is Less e = refl
+less_is Equal e = absurd (true≢false (sym e))
+less_is Greater e = absurd (true≢false (sym e))
+
+module _ (t : List ℕ) (terms : List DocTerm) (rising : AreTerms terms) where
+  -- the term in the middle stands before it
+  pub halved_low : (low middle high : ℕ) (e : DocTerm) → e ≡ get_or terms middle e → IsBetween t terms low high → middle < high → is_lt (term_cmp e.term t) ≡ true
+      → IsBetween t terms (middle + 1) high
+  halved_low low middle high e is h lt less = record {
+    some = omega arith;
+    within = h.within;
+    before = λ k d below. elim (cases_lt k middle) [
+      | inl under ↦ nat_list_cmp_total.trans (get_or terms k d).term (get_or terms middle d).term t (rising k middle d under there) (here d)
+      | inr from ↦ let same : k ≡ middle = omega arith in subst (λ i. Precedes (get_or terms i d).term t) (sym same) (here d)
+    ];
+    behind = h.behind;
+  }
+    where
+      there : middle < length terms
+      there = omega (arith, h.within)
+
+      here : (d : DocTerm) → Precedes (get_or terms middle d).term t
+      here d = subst (λ (one : DocTerm). Precedes one.term t) (is ∙ get_or_default terms middle e d there) (less_is (term_cmp e.term t) less)
+
+  -- it does not
+  pub halved_high : (low middle high : ℕ) (e : DocTerm) → e ≡ get_or terms middle e → IsBetween t terms low high → low ≤ middle → middle < high → is_lt (term_cmp e.term t) ≡ false
+      → IsBetween t terms low middle
+  halved_high low middle high e is h le lt less = record {
+    some = le;
+    within = omega arith;
+    before = h.before;
+    behind = λ k d from within p. elim (cases_lt middle k) [
+      | inl above ↦ here d (nat_list_cmp_total.trans (get_or terms middle d).term (get_or terms k d).term t (rising middle k d above within) p)
+      | inr to ↦ let same : k ≡ middle = omega arith in here d (subst (λ i. Precedes (get_or terms i d).term t) same p)
+    ];
+  }
+    where
+      there : middle < length terms
+      there = omega (arith, h.within)
+
+      here : (d : DocTerm) → Precedes (get_or terms middle d).term t → ⊥
+      here d p =
+          let before : Precedes e.term t = subst (λ (one : DocTerm). Precedes one.term t) (get_or_default terms middle d e there ∙ sym is) p in
+          true≢false (sym (ap is_lt before) ∙ less)
+
+-- a term that is none of these has no positions
+positions-none : (t : List ℕ) (xs : List DocTerm) → ((k : ℕ) (d : DocTerm) → k < length xs → (get_or xs k d).term ≡ t → ⊥) → positions_of t xs ≡ []
+positions-none t [] apart = refl
+positions-none t (x ∷ xs) apart = by (bytes_eq x.term t) refl (positions-none t xs (λ k d lt. apart (suc k) d (omega arith)))
+  where
+    by : (b : Bool) → bytes_eq x.term t ≡ b → positions_of t xs ≡ [] → (if b then x.positions else positions_of t xs) ≡ []
+    by true e rest = absurd (apart 0 x (omega arith) ((bytes_eq-Decides x.term t).0 e))
+    by false e rest = rest
+
+-- a term that is none of these but that at one place
+positions-at : (t : List ℕ) (xs : List DocTerm) (n : ℕ) (e : DocTerm) → ((k : ℕ) (d : DocTerm) → k < n → (get_or xs k d).term ≡ t → ⊥)
+    → ((k : ℕ) (d : DocTerm) → n < k → k < length xs → (get_or xs k d).term ≡ t → ⊥) → n < length xs
+    → positions_of t xs ≡ (if bytes_eq (get_or xs n e).term t then (get_or xs n e).positions else [])
+positions-at t [] n e before behind lt = absurd (omega arith)
+positions-at t (x ∷ xs) zero e before behind lt =
+    ap (λ (ps : List ℕ). if bytes_eq x.term t then x.positions else ps) (positions-none t xs (λ k d below. behind (suc k) d (omega arith) (omega arith)))
+positions-at t (x ∷ xs) (suc n) e before behind lt =
+    by (bytes_eq x.term t) refl ∙ positions-at t xs n e (λ k d below. before (suc k) d (omega arith)) (λ k d above within. behind (suc k) d (omega arith) (omega arith)) (omega arith)
+  where
+    by : (b : Bool) → bytes_eq x.term t ≡ b → (if b then x.positions else positions_of t xs) ≡ positions_of t xs
+    by true same = absurd (before 0 x (omega arith) ((bytes_eq-Decides x.term t).0 same))
+    by false same = refl
+
+-- one that stands before is another
+before_apart : (a t : List ℕ) → Precedes a t → a ≡ t → ⊥
+before_apart a t p same = Precedes-irrefl t (subst (λ w. Precedes w t) same p)
+
+-- what stands at the place that was found, if it is the term
+pub positions_found : (t : List ℕ) (terms : List DocTerm) (n : ℕ) (e : DocTerm) → e ≡ get_or terms n e → AreTerms terms → IsBetween t terms n n → n < length terms
+    → positions_of t terms ≡ (if bytes_eq e.term t then e.positions else [])
+positions_found t terms n e is rising h lt =
+    positions-at t terms n e (λ k d below. before_apart (get_or terms k d).term t (h.before k d below))
+    (λ k d above within same. h.behind n d (omega arith) lt (subst (Precedes (get_or terms n d).term) same (rising n k d above within))) lt
+    ∙ ap (λ (one : DocTerm). if bytes_eq one.term t then one.positions else []) (sym is)
+
+-- nothing stands there
+pub positions_past : (t : List ℕ) (terms : List DocTerm) (n : ℕ) → IsBetween t terms n n → length terms ≤ n → positions_of t terms ≡ []
+positions_past t terms n h le = positions-none t terms (λ k d lt. before_apart (get_or terms k d).term t (h.before k d (omega arith)))
