@@ -6,8 +6,6 @@ mod gathering;
 mod mentioned;
 mod slots;
 mod term_map;
-#[cfg(test)]
-mod tests;
 
 pub use building::build;
 pub use sk_base::{Doc, DocTerm, DocTerms, Positions, SlotValue, SlotValues};

@@ -10,6 +10,3 @@ pub use program::start;
 pub use runs::run;
 pub use session::{Answer, Session};
 pub use sk_run::Status;
-
-#[cfg(test)]
-mod tests;

@@ -1,5 +1,5 @@
 -- JSON values, and the trees that they stand for, worked out by hand from the rules.
-use Rattle.std.proofs.Common.{◌≡◌, ℕ, ℤ, Float, ◌∷◌, [], List, refl, Option, Some, None, map, codes, true, false}
+use Rattle.std.proofs.Common.{◌≡◌, ℤ, Float, ◌∷◌, [], List, refl, Option, Some, None, map, codes, true}
 use Rattle.serde_json.specs.Data.{Data, null, boolean, number, string, array, object, no_items, item, no_members, member, unsigned, negative, float}
 use Rattle.sk_query.specs.declared.form.Form.{Form}
 use Rattle.sk_query.specs.Trees.{unbounded, bytes, Tree, nothing, all, term, wildcard, parts, near, phrase, synonym, scale, range, trees_from}

@@ -1,4 +1,5 @@
 mod Examples
+mod LimitExamples
 mod CountLemmas
 mod ReadingLemmas
 pub mod ViewLaws

@@ -11,6 +11,3 @@ pub use fault::TreeFault;
 pub use form::Form;
 pub use json::from_json;
 pub use query::{Bound, Queries, Query};
-
-#[cfg(test)]
-mod tests;

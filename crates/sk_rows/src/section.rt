@@ -3,7 +3,7 @@ ghost use Rattle.std.specs.Prelude.{◌≡◌};
 
 use crate::pattern::{fits, put_expanded};
 use crate::setting::Setting;
-use sk_engine::start;
+use sk_engine::{Status, start};
 use sk_io::{MemorySink, MemorySource};
 use std::alloc::{AllocError, Global};
 use std::str;
@@ -100,15 +100,24 @@ impl Section {
         }
     }
 
+    /// The arguments of the program, or why they were not read.
+    fn arguments(&self, alloc: Global) -> Result<Result<Vec<String>, Status>, AllocError> {
+        if let Some(status) = self.setting.unread {
+            return Ok(Err(status));
+        }
+        let mut arguments = Vec::new(alloc);
+        arguments.push(String::from_str(alloc, "program")?)?;
+        arguments.push(self.setting.word.clone()?)?;
+        Ok(Ok(arguments))
+    }
+
     /// Runs the lines over a store of their own.
     pub fn run<L: Ledger>(&self, blank: Blank, alloc: Global) -> Result<Outcome, AllocError>
         requires name { blank.name ≡ L.name }
         requires parts { blank.parts ≡ L.parts }
         requires one { blank.parts ≡ 1 }
     {
-        let mut arguments = Vec::new(alloc);
-        arguments.push(String::from_str(alloc, "program")?)?;
-        arguments.push(self.setting.word.clone()?)?;
+        let arguments = self.arguments(alloc)?;
         let piece = self.setting.piece.max(1);
         let reads = vec![in alloc; self.setting.read; 1]?;
         let writes = vec![in alloc; self.setting.write; 1]?;
@@ -120,7 +129,7 @@ impl Section {
             blank,
             alloc,
             USAGE,
-            Ok(arguments),
+            arguments,
             &mut input,
             &mut records,
             &mut output,

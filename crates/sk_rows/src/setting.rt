@@ -1,10 +1,13 @@
 //! How a section is run, and what the program comes to.
+use sk_engine::Status;
 use std::alloc::{AllocError, Global};
 
 /// The word that the program is started with, how its streams give and take, and the number that it is to end with.
 #[derive(Debug, Drop)]
 pub struct Setting {
     pub word: String,
+    /// Why the arguments of the program were not read, where they were not.
+    pub unread: Option<Status>,
     /// How many bytes a call gives or takes at the most.
     pub piece: usize,
     /// How many bytes the output takes.
@@ -21,6 +24,7 @@ impl Setting {
     pub fn new(alloc: Global) -> Result<Setting, AllocError> {
         Ok(Setting {
             word: String::from_str(alloc, "run")?,
+            unread: None,
             piece: 65_536,
             room: 1 << 20,
             read: 0,
@@ -55,9 +59,22 @@ impl Setting {
             "read" => self.read = number,
             "write" => self.write = number,
             "code" => self.code = Some(number),
+            "unread" => {
+                self.unread = unread(number);
+                return self.unread.is_some();
+            }
             _ => return false,
         }
         true
+    }
+}
+
+/// The status of a program whose arguments were not read, by its number.
+fn unread(code: u64) -> Option<Status> {
+    match code {
+        2 => Some(Status::Usage),
+        5 => Some(Status::Memory),
+        _ => None,
     }
 }
 
