@@ -3,8 +3,6 @@ use Rattle.std.proofs.Common.{◌≡◌, ℕ, zero, suc, ◌+◌, ◌<◌, ◌�
 use mathlib.Core.Bool.{true≢false}
 use Rattle.std.specs.Ordering.{is_lt}
 use Rattle.std.specs.Cmp.Lexicographic.{nat_list_cmp_total}
-use Rattle.std.specs.declared.cmp.Ordering.{Ordering}
-use Rattle.std.specs.declared.cmp.Ordering.TheVariants.{Less, Equal, Greater}
 use Rattle.std.proofs.lemmas.Bool.{cases_lt}
 use Rattle.std.proofs.lemmas.List.{get_or_default}
 use Rattle.std.proofs.lemmas.Slice.Eq.{bytes_eq-Decides}
@@ -14,11 +12,7 @@ use Rattle.sk_base.specs.Documents.{AreTerms, positions_of}
 use Rattle.sk_dict.specs.Terms.{term_cmp}
 use Rattle.sk_index.specs.Placed.{IsBetween}
 use Rattle.sk_index.proofs.ListedLemmas.{Precedes-irrefl}
-
-less_is : (o : Ordering) → is_lt o ≡ true → o ≡ Less
-less_is Less e = refl
-less_is Equal e = absurd (true≢false (sym e))
-less_is Greater e = absurd (true≢false (sym e))
+use Rattle.sk_index.proofs.WildLemmas.{less_is}
 
 module _ (t : List ℕ) (terms : List DocTerm) (rising : AreTerms terms) where
   -- the term in the middle stands before it

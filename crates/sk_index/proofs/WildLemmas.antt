@@ -22,14 +22,17 @@ use Rattle.sk_index.specs.Wild.{over, is_behind, counted, sum_behind}
 use Rattle.sk_index.proofs.ListedLemmas.{list_of-none, AreTerms-tail, once_at}
 use Rattle.sk_index.proofs.NumberLemmas.{none_has, wdf_of-none}
 
+-- sums of what is the same
 pub over-same : (f g : List ℕ → ℕ) (terms : List (List ℕ)) → ((m : ℕ) → m < length terms → f (term_at terms m) ≡ g (term_at terms m)) → over f terms ≡ over g terms
 over-same f g [] h = refl
 over-same f g (t ∷ ts) h = λ i. h 0 (omega arith) i + over-same f g ts (λ m lt. h (suc m) (omega arith)) i
 
+-- of nothing
 pub over-none : (f : List ℕ → ℕ) (terms : List (List ℕ)) → ((m : ℕ) → m < length terms → f (term_at terms m) ≡ 0) → over f terms ≡ 0
 over-none f [] h = refl
 over-none f (t ∷ ts) h = omega (arith, h 0 (omega arith), over-none f ts (λ m lt. h (suc m) (omega arith)))
 
+-- of two numbers, added
 pub over-sum : (f g : List ℕ → ℕ) (terms : List (List ℕ)) → over (λ t. f t + g t) terms ≡ over f terms + over g terms
 over-sum f g [] = refl
 over-sum f g (t ∷ ts) = omega (arith, over-sum f g ts)
@@ -63,7 +66,8 @@ both_ways true false f g = sym (f refl)
 both_ways false true f g = g refl
 both_ways false false f g = refl
 
-less_is : (o : Ordering) → is_lt o ≡ true → o ≡ Less
+-- the first stands before the second
+pub less_is : (o : Ordering) → is_lt o ≡ true → o ≡ Less
 less_is Less e = refl
 less_is Equal e = absurd (true≢false (sym e))
 less_is Greater e = absurd (true≢false (sym e))
