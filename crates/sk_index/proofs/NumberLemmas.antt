@@ -8,7 +8,9 @@ use Rattle.sk_base.specs.Documents.{has_term, wdf_of, has_value, value_in}
 use Rattle.sk_base.specs.Numbers.{Docs, length_of, greatest_of, some_has, slot_length_of}
 use Rattle.sk_lists.specs.Postings.{Postings, greatest_wdf}
 use Rattle.sk_model.specs.Documents.{Document}
+use Rattle.sk_dict.specs.Terms.{number_of}
 use Rattle.sk_index.specs.Indexed.{postings, slot_values}
+use Rattle.sk_index.specs.Listed.{Listed, list_of, list_under}
 use Rattle.sk_sorted.specs.Entries.{ids_of}
 use Rattle.sk_documents.specs.Removing.{ids_with}
 
@@ -63,6 +65,10 @@ none_has t (one ∷ more) e = by (has_term t one.1.terms) refl e (none_has t mor
 pub found_in : (t : List ℕ) (docs : Docs) (list : Postings) (P : ℕ → Type 0) (o : Option ℕ) → list ≡ postings t docs → Rattle.std.proofs.Common.MatchOption o (list ≡ []) P → Rattle.std.proofs.Common.MatchOption o (some_has t docs ≡ false) P
 found_in t docs list P None is e = none_has t docs (sym is ∙ e)
 found_in t docs list P (Some n) is h = h
+
+-- a term without a number has an empty list, and no document has it
+pub all_numbered : (listed : Listed) (docs : Docs) → ((t : List ℕ) → list_of t listed ≡ postings t docs) → (t : List ℕ) → number_of t listed.terms ≡ None → some_has t docs ≡ false
+all_numbered listed docs lists t e = none_has t docs (sym (lists t) ∙ ap (λ o. list_under o listed.lists) e)
 
 -- the ids in the list of a term are those of the documents that have it
 pub ids-postings : (t : List ℕ) (docs : Docs) → ids_of (postings t docs) ≡ ids_with t docs

@@ -1,12 +1,13 @@
 -- What an index holds, and what its readers give.
-use Rattle.std.specs.Prelude.{◌≡◌, ◌<◌, ℕ, true, List, [], length, map, sum_by, All, AllPairs, Option, Some, None, if◌then◌else◌}
+use Rattle.std.specs.Prelude.{◌≡◌, ◌<◌, ℕ, true, false, List, [], length, map, sum_by, All, AllPairs, Option, Some, None, if◌then◌else◌}
 use Rattle.std.specs.List.{filter_map, list_any}
 use Rattle.sk_lists.specs.Postings.{Postings}
 use Rattle.sk_values.specs.SlotValues.{SlotValues}
 use Rattle.sk_base.specs.declared.schema.Field.{Field}
 use Rattle.sk_base.specs.Documents.{has_term, wdf_of, positions_of, begins_with, has_value, value_in}
-use Rattle.sk_base.specs.Numbers.{Docs, length_of, greatest_of, terms_with}
-use Rattle.sk_dict.specs.Terms.{term_at, Precedes}
+use Rattle.sk_base.specs.declared.doc_entry.DocTerm.{DocTerm}
+use Rattle.sk_base.specs.Numbers.{Docs, length_of, greatest_of, some_has, terms_with}
+use Rattle.sk_dict.specs.Terms.{term_at, number_of, Precedes}
 use Rattle.sk_model.specs.Documents.{Document}
 use Rattle.sk_model.specs.Edits.{Live, document_at}
 use Rattle.sk_model.specs.Scores.{wild_wdf}
@@ -46,6 +47,14 @@ slot_value slot (Some document) = value_in slot document.values
 abbrev pub term_positions : List ℕ → Option Document → List ℕ
 term_positions t None = []
 term_positions t (Some document) = positions_of t document.terms
+
+-- These terms have the positions that the terms of the document have, and none where there is no document.
+abbrev pub HavePositions : List DocTerm → Option Document → Type 0
+HavePositions terms o = (t : List ℕ) → positions_of t terms ≡ term_positions t o
+
+-- No live document has a term without a number.
+abbrev pub AreNumbered : Indexed → Type 0
+AreNumbered i = (t : List ℕ) → number_of t i.terms ≡ None → some_has t i.live.documents ≡ false
 
 -- The numbers of all terms that begin with the prefix, in byte order. Over these terms a wildcard matches, weighs and is counted as over a document's own.
 pub record AreAllWith (prefix : List ℕ) (terms : List (List ℕ)) (docs : Docs) (ns : List ℕ) : Type 0 where

@@ -1,20 +1,22 @@
 //! The index: the live documents, with a list for each term and each slot.
-ghost use Rattle.std.specs.Prelude.{◌≡◌, ◌<◌, ◌+◌, [], length, true, false, All, IfOk, MatchOption, IsSome};
+ghost use Rattle.std.specs.Prelude.{◌≡◌, ◌<◌, ◌+◌, [], length, map, true, false, All, IfOk, MatchOption, IsSome};
 ghost use Rattle.std.specs.Option.{option_map};
 ghost use Rattle.sk_base.specs.Records.{FitsEdit};
+ghost use Rattle.sk_base.specs.Documents.{AreTerms};
 ghost use Rattle.sk_base.specs.Loads.{IsLight};
 ghost use Rattle.sk_base.specs.Numbers.{some_has};
 ghost use Rattle.sk_base.specs.Order.{ArePositions};
 ghost use Rattle.sk_dict.specs.Terms.{term_at, number_of};
 ghost use Rattle.sk_model.specs.Documents.{keeps_slot, has_slot};
 ghost use Rattle.sk_model.specs.Edits.{nothing_live, edited, reply_to, document_at, IsLive};
-ghost use Rattle.sk_index.specs.Indexed.{Indexed, postings, all_postings, slot_values, slot_value, term_positions, AreAllWith};
+ghost use Rattle.sk_index.specs.Indexed.{Indexed, postings, all_postings, slot_values, slot_value, term_positions, HavePositions, AreNumbered, AreAllWith};
 
+use crate::all_places::AllPlaces;
 use crate::lists::Lists;
 use crate::places::{Places, positions_in};
 use crate::slot_lists::SlotLists;
 use crate::term_lists::TermLists;
-use sk_base::{DocId, Edit, Field, FieldKind, Reply, Schema};
+use sk_base::{DocId, DocTerm, Edit, Field, FieldKind, Reply, Schema};
 use sk_documents::Documents;
 use sk_lists::List;
 use sk_steps::Steps;
@@ -69,7 +71,11 @@ impl Index {
         ensures value { result ≡ self.now.live.highest }
         ensures sound { IsLive self.now.live }
         ensures light { All IsLight self.now.live.documents }
+
+        // No live document has a term without a number.
+        ensures complete { AreNumbered self.now }
     {
+        let _lists = self.documents.beside();
         self.documents.highest()
     }
 
@@ -128,6 +134,13 @@ impl Index {
         }
     }
 
+    /// The values of a slot. No document has one in a slot that the schema has not.
+    pub fn values(&self, slot: u32) -> &SlotList
+        ensures { result.now ≡ slot_values slot self.now.live.documents }
+    {
+        self.documents.beside().slots.list(slot)
+    }
+
     /// The document's value in the slot, empty where it has none. It is one reading.
     pub fn value<L: Ledger>(&self, slot: u32, id: DocId, steps: &mut Steps<L>) -> &[u8]
         ensures value { result.now ≡ slot_value slot (document_at id self.now.live.documents) }
@@ -152,11 +165,52 @@ impl Index {
             ≡ term_positions (term_at self.now.terms places.now.0) (document_at places.now.1 self.now.live.documents) }
         ensures rising { ArePositions result.now }
     {
-        let term = self.documents.beside().terms.term(places.number);
-        match self.documents.document(places.id) {
-            Some(doc) => positions_in(doc.terms.as_slice(), term.as_bytes()),
+        positions_in(
+            self.terms_of(places.id),
+            self.term(places.number).as_bytes(),
+        )
+    }
+
+    /// The places of the terms with these numbers in the document. It is one reading for each.
+    pub fn all_places<'a, L: Ledger>(
+        &'a self,
+        numbers: &'a [usize],
+        id: DocId,
+        steps: &mut Steps<L>,
+    ) -> AllPlaces<'a>
+        requires there { All (λ n. n < length self.now.terms) numbers.now }
+        ensures value { result
+            ≡ map (λ n. term_positions (term_at self.now.terms n) (document_at id self.now.live.documents)) numbers.now }
+        ensures cost { steps.new ≡ steps.old + length numbers.now }
+    {
+        'readings: for _ in numbers {
+            steps.tick();
+        }
+        let terms = self.terms_of(id);
+        AllPlaces {
+            index: self,
+            numbers,
+            terms,
+        }
+    }
+
+    // The terms of the document, none where it is not live.
+    fn terms_of(&self, id: DocId) -> &[DocTerm]
+        ensures value { HavePositions result.now (document_at id self.now.live.documents) }
+        ensures rising { AreTerms result.now }
+    {
+        match self.documents.document(id) {
+            Some(doc) => doc.terms.as_slice(),
             None => &[],
         }
+    }
+
+    // The term with this number.
+    pub(crate) fn term(&self, number: usize) -> &str
+        requires there { number < length self.now.terms }
+        ensures { result.now ≡ term_at self.now.terms number }
+    {
+        self.documents.beside().terms.term(number)
     }
 
     /// The document's payload, none where it is not live. It is one reading.

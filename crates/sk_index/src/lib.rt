@@ -1,6 +1,7 @@
 //! The documents in memory, and what is read of them.
 #![tactic(auto)]
 
+mod all_places;
 mod index;
 mod lists;
 mod places;
@@ -8,5 +9,6 @@ mod slot_lists;
 mod stats;
 mod term_lists;
 
+pub use all_places::AllPlaces;
 pub use index::Index;
 pub use places::Places;
