@@ -1,8 +1,10 @@
 -- The words on the values of a slot, computed.
-use Rattle.std.proofs.Common.{◌≡◌, [], ◌∷◌, refl}
+use Rattle.std.proofs.Common.{◌≡◌, [], ◌∷◌, None, Some, refl}
 use Rattle.sk_sorted.specs.Entries.{put, without}
 use Rattle.sk_sorted.specs.Places.{id_at}
+use Rattle.sk_values.specs.declared.range_cursor.RangeCursor.{RangeCursor}
 use Rattle.sk_values.specs.SlotValues.{SlotValues, found_value, value_at}
+use Rattle.sk_values.specs.RangeCursor.{in_range, unread, left}
 
 abbrev two : SlotValues
 two = (1, 0 ∷ []) ∷ (4294967295, 97 ∷ 98 ∷ []) ∷ []
@@ -36,3 +38,34 @@ second_value = refl
 
 past_the_end : value_at two 2 ≡ []
 past_the_end = refl
+
+-- ---- ranges
+
+-- three documents with a value
+abbrev three : SlotValues
+three = (1, 97 ∷ []) ∷ (4, 98 ∷ 0 ∷ []) ∷ (7, 99 ∷ []) ∷ []
+
+-- both ends lie in the range, and a value is above its fronts
+ends_inside : in_range (Some (97 ∷ [])) (Some (98 ∷ 0 ∷ [])) three ≡ (1, 97 ∷ []) ∷ (4, 98 ∷ 0 ∷ []) ∷ []
+ends_inside = refl
+
+longer_outside : in_range None (Some (98 ∷ [])) three ≡ (1, 97 ∷ []) ∷ []
+longer_outside = refl
+
+-- open at both ends, all values lie in it
+open_ends : in_range None None three ≡ three
+open_ends = refl
+
+-- on the second entry, in a range from its value on
+abbrev second : RangeCursor
+second = record { read = 2; head = Some 4; lo = Some (98 ∷ []); hi = None }
+
+left_to_second : left second three ≡ (4, 98 ∷ 0 ∷ []) ∷ (7, 99 ∷ []) ∷ []
+left_to_second = refl
+
+unread_to_second : unread second three ≡ (7, 99 ∷ []) ∷ []
+unread_to_second = refl
+
+-- ended
+nothing_left : left (record { read = 3; head = None; lo = None; hi = Some [] }) three ≡ []
+nothing_left = refl

@@ -1,2 +1,4 @@
 pub mod ValueLaws
+pub mod RangeLaws
+mod PlaceLemmas
 mod Examples

@@ -1,1 +1,2 @@
 pub mod SlotValues
+pub mod RangeCursor

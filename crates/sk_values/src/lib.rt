@@ -1,8 +1,12 @@
-//! The values of one slot, by document; every reading of one is counted.
+//! The values of one slot, by document, and a cursor over those in a range; every reading of one is counted.
 #![tactic(auto)]
 
+mod place;
+mod range;
+mod range_cursor;
 mod slot_list;
 #[cfg(test)]
 mod tests;
 
+pub use range_cursor::RangeCursor;
 pub use slot_list::SlotList;

@@ -1,9 +1,10 @@
 //! The values of one slot, in order of the documents' ids.
-ghost use Rattle.std.specs.Prelude.{◌≡◌, ◌+◌, ◌≤◌, ◌<◌, [], length, true, IsOk, OnOk, OnErr};
-ghost use Rattle.sk_sorted.specs.Entries.{put, without, has};
+ghost use Rattle.std.specs.Prelude.{◌≡◌, ◌+◌, ◌≤◌, ◌<◌, [], length, drop, true, IsOk, OnOk, OnErr};
+ghost use Rattle.sk_sorted.specs.Entries.{put, without, has, from};
 ghost use Rattle.sk_sorted.specs.Places.{id_at};
 ghost use Rattle.sk_values.specs.SlotValues.{AreSlotValues, found_value, value_at};
 
+use crate::place::place_from;
 use sk_base::{Bytes, DocId};
 use sk_sorted::Sorted;
 use sk_steps::Steps;
@@ -89,6 +90,18 @@ impl SlotList {
         let entry = &self.entries.as_slice()[i as usize];
         steps.tick();
         (entry.0, entry.1.as_slice())
+    }
+
+    /// The place of the first entry from this place on whose id is at least `id`. It looks at ids alone, which is no
+    /// reading.
+    pub(crate) fn place_from(&self, place: u32, id: DocId) -> u32
+        requires { place ≤ length self.now }
+        ensures left { drop result self.now ≡ from id (drop place self.now) }
+        ensures behind { place ≤ result }
+        ensures within { result ≤ length self.now }
+    {
+        let passed = place_from(&self.entries.as_slice()[place as usize..], id);
+        place + passed as u32
     }
 }
 

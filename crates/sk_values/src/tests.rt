@@ -1,7 +1,7 @@
-//! What no clause says: that each call succeeds with memory, and what `Debug` tells.
+//! What no clause says: that each call succeeds with memory, and what `Debug` tells. Each generic call is made once.
 ghost use Rattle.std.specs.Prelude.{◌≡◌};
 
-use crate::SlotList;
+use crate::{RangeCursor, SlotList};
 use sk_base::{Bytes, DocId};
 use sk_steps::Steps;
 use std::marker::Brand;
@@ -18,6 +18,23 @@ fn read_one<L: Ledger>(blank: Blank, list: &SlotList, id: DocId) -> &[u8]
     list.get(id, &mut steps)
 }
 
+// The first id whose value is at least `lo`, and the first behind it.
+fn two_ids<L: Ledger>(
+    blank: Blank,
+    list: &SlotList,
+    lo: Option<Bytes>,
+) -> (Option<DocId>, Option<DocId>)
+    requires name { blank.name ≡ L.name }
+    requires parts { blank.parts ≡ L.parts }
+    requires one { blank.parts ≡ 1 }
+{
+    let mut steps = Steps::<L>::open(blank);
+    let mut cursor = RangeCursor::open(list, lo, None, &mut steps);
+    let first = cursor.head();
+    cursor.seek(list, first.unwrap_or(0).saturating_add(1), &mut steps);
+    (first, cursor.head())
+}
+
 #[test]
 fn each_call_succeeds_with_memory(rt: HostRuntime) -> Result<(), Fail> {
     let mut list = SlotList::new(rt.alloc());
@@ -27,6 +44,9 @@ fn each_call_succeeds_with_memory(rt: HostRuntime) -> Result<(), Fail> {
         list.set(id, value)?;
     }
     assert_eq!(rt; read_one::<Brand>(Blank::new(1), &list, 1), b"b".as_slice());
+    let lo = Bytes::new(rt.alloc(), b"b")?;
+    let ids = two_ids::<Brand>(Blank::new(1), &list, Some(lo));
+    assert_eq!(rt; ids, (Some(1), Some(4294967295)));
     assert!(rt; list.clear(1));
     let text = format!(in rt.alloc(); "{list:?}")?;
     assert_eq!(rt; text.as_str(), "SlotList of 1");
