@@ -6,3 +6,6 @@ pub mod ListLaws
 pub mod OpenLaws
 pub mod SynonymLaws
 pub mod OddLaws
+pub mod ProximityLaws
+pub mod StandingLaws
+pub mod WordLaws

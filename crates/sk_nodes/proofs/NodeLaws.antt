@@ -12,7 +12,8 @@ use Rattle.sk_nodes.specs.declared.top.Top.{Top}
 use Rattle.sk_nodes.specs.declared.node.Node.{Node, the_lemmas}
 use Rattle.sk_nodes.specs.declared.node.Node.TheVariants as Node
 use Rattle.sk_nodes.specs.Leaves.{AtMost}
-use Rattle.sk_nodes.specs.Shapes.{Shape, ended, pair, shape_of, size_of}
+use Rattle.sk_nodes.specs.declared.proximity.Proximity.{Proximity}
+use Rattle.sk_nodes.specs.Shapes.{Shape, ended, pair, tested, shape_of, size_of}
 use Rattle.sk_nodes.specs.Left.{rest, from_on, unread_of}
 use Rattle.sk_nodes.specs.Sound.{IsTop, IsPair, Sound, Decays}
 use Rattle.sk_nodes.proofs.LeafLaws.{from_on-at, from_on-below, from_cases, covers_none}
@@ -24,6 +25,9 @@ shape_of-Nothing = search (rules, the_lemmas)
 
 pub shape_of-Pair : (form : Form) (ta tb : Top) (a b : Box Node Global) → shape_of (Node.Pair form ta a tb b) ≡ pair form ta (shape_of a.value) tb (shape_of b.value)
 shape_of-Pair form ta tb a b = search (rules, the_lemmas)
+
+pub shape_of-Tested : (p : Proximity) (t : Top) (b : Box Node Global) → shape_of (Node.Tested p t b) ≡ tested p t (shape_of b.value)
+shape_of-Tested p t b = search (rules, the_lemmas)
 
 -- ---- one side
 
@@ -276,6 +280,10 @@ pair_shape node form ta tb a b x y e f g = ap shape_of e ∙ shape_of-Pair form 
 -- the same by what is read of its parts
 pub parts_shape : (node : Node) (form : Form) (ta tb : Top) (a b : Box Node Global) (f : Form) (va vb : Top) (x y : Node) → node ≡ Node.Pair form ta a tb b → f ≡ form → va ≡ ta → vb ≡ tb → x ≡ a.value → y ≡ b.value → shape_of node ≡ pair f va (shape_of x) vb (shape_of y)
 parts_shape node form ta tb a b f va vb x y e ef ea eb ex ey = pair_shape node form ta tb a b x y e ex ey ∙ (λ i. pair (sym ef i) (sym ea i) (shape_of x) (sym eb i) (shape_of y))
+
+-- a test of a node
+pub tested_shape : (node : Node) (p : Proximity) (t : Top) (b : Box Node Global) (q : Proximity) (u : Top) (x : Node) → node ≡ Node.Tested p t b → q ≡ p → u ≡ t → x ≡ b.value → shape_of node ≡ tested q u (shape_of x)
+tested_shape node p t b q u x e f g h = ap shape_of e ∙ shape_of-Tested p t b ∙ (λ i. tested (sym f i) (sym g i) (shape_of (sym h i)))
 
 -- a side alone, and the sides under another form
 pub decays_first : (i : Indexed) (need : ℕ) (form : Form) (ta : Top) (a : Shape) (tb : Top) (b : Shape) (a_ended b_ended : Bool) → (a_ended ≡ true → ta.head ≡ 2 ^ 32) → (b_ended ≡ true → tb.head ≡ 2 ^ 32)

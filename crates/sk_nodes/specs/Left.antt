@@ -1,11 +1,12 @@
 -- What a node still gives.
 use Rattle.std.specs.Prelude.{ℕ, ◌+◌, nat_le, List, [], ◌∷◌, Option, None, if◌then◌else◌}
 use Rattle.sk_query.specs.declared.form.Form.{Form}
-use Rattle.sk_model.specs.Combining.{combined}
+use Rattle.sk_model.specs.Combining.{combined, where_so}
 use Rattle.sk_index.specs.Indexed.{Indexed}
 use Rattle.sk_decay.specs.Sides.{paired, greatest_under}
 use Rattle.sk_nodes.specs.Leaves.{leaf_rest, leaf_unread}
-use Rattle.sk_nodes.specs.Shapes.{Shape, ended, leaf, pair, odd, Sides, no_sides, side}
+use Rattle.sk_nodes.specs.Shapes.{Shape, ended, leaf, pair, odd, tested, Sides, no_sides, side}
+use Rattle.sk_nodes.specs.Proximity.{holds, entries_from}
 
 abbrev mutual
   -- The weight that a node still gives at an id.
@@ -14,6 +15,7 @@ abbrev mutual
   rest i (leaf l) id = leaf_rest i l id
   rest i (pair form ta a tb b) id = paired form (rest i a id) (rest i b id)
   rest i (odd ss) id = combined Form.Xor (rests i ss id)
+  rest i (tested p t s) id = where_so (holds i p id) (rest i s id)
 
   -- The weights that sides still give at an id.
   pub rests : Indexed → Sides → ℕ → List (Option ℕ)
@@ -21,12 +23,13 @@ abbrev mutual
   rests i (side t s ss) id = rest i s id ∷ rests i ss id
 
 abbrev mutual
-  -- How many entries of its lists a node has not read.
+  -- How many entries of its lists a node has not read, and how many readings of positions are left.
   pub unread_of : Indexed → Shape → ℕ
   unread_of i ended = 0
   unread_of i (leaf l) = leaf_unread i l
   unread_of i (pair form ta a tb b) = unread_of i a + unread_of i b
   unread_of i (odd ss) = unread_in i ss
+  unread_of i (tested p t s) = unread_of i s + entries_from i p.next p.numbers.items
 
   -- How many entries of their lists sides have not read.
   pub unread_in : Indexed → Sides → ℕ
@@ -44,6 +47,7 @@ greatest_in ended = 0
 greatest_in (leaf l) = l.greatest
 greatest_in (pair form ta a tb b) = greatest_under form ta.greatest tb.greatest
 greatest_in (odd ss) = greatest_sum ss
+greatest_in (tested p t s) = t.greatest
 
 -- What is given from an id on.
 abbrev pub from_on : ℕ → (ℕ → Option ℕ) → ℕ → Option ℕ

@@ -1,5 +1,5 @@
 -- What a node is opened for.
-use Rattle.std.specs.Prelude.{◌≡◌, ◌≤◌, ◌<◌, ◌+◌, ℕ, nat_le, Bool, true, List, [], ◌∷◌, Option, None, Some}
+use Rattle.std.specs.Prelude.{◌≡◌, ◌≤◌, ◌<◌, ◌+◌, ℕ, nat_le, Bool, true, List, [], ◌∷◌, length, Option, None, Some}
 use Rattle.sk_base.specs.declared.find.Scheme.{Scheme}
 use Rattle.sk_query.specs.declared.form.Form.{Form}
 use Rattle.sk_query.specs.Trees as Query
@@ -58,15 +58,15 @@ pub record Opens (i : Indexed) (t : Top) (s : Shape) (f : Option Document → Op
   pub ceiling : t.greatest ≤ most
 
 abbrev mutual
-  -- How many queries there are in one, itself counted.
+  -- How many queries there are in one, itself counted. Near and phrase are opened as an and of terms.
   pub query_size : Query.Tree → ℕ
   query_size Query.nothing = 1
   query_size Query.all = 1
   query_size (Query.term t) = 1
   query_size (Query.wildcard prefix) = 1
   query_size (Query.parts form ts) = 1 + parts_size ts
-  query_size (Query.near window ts) = 1
-  query_size (Query.phrase window ts) = 1
+  query_size (Query.near window ts) = 3 + length ts
+  query_size (Query.phrase window ts) = 3 + length ts
   query_size (Query.synonym ts) = 1
   query_size (Query.scale f t) = 1 + query_size t
   query_size (Query.range slot lo hi) = 1
@@ -93,3 +93,8 @@ pub record OpensSides (i : Indexed) (ss : Sides) (f : Option Document → List (
   pub sound : AreSound i ss
   pub gives : (id : ℕ) → rests i ss id ≡ f (document_at id i.live.documents)
   pub ceiling : greatest_sum ss ≤ most
+
+-- Terms as queries, in order.
+abbrev pub term_trees : List (List ℕ) → Query.Trees
+term_trees [] = Query.no_trees
+term_trees (t ∷ ts) = Query.tree (Query.term t) (term_trees ts)

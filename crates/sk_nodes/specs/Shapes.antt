@@ -3,16 +3,18 @@ use Rattle.std.specs.Prelude.{ℕ, ◌+◌, List, [], ◌∷◌, map}
 use Rattle.sk_query.specs.declared.form.Form.{Form}
 use Rattle.sk_nodes.specs.declared.top.Top.{Top}
 use Rattle.sk_nodes.specs.declared.leaf.Leaf.{Leaf}
+use Rattle.sk_nodes.specs.declared.proximity.Proximity.{Proximity}
 use Rattle.sk_nodes.specs.declared.node.Node.{Node, fold-Node}
 use Rattle.sk_nodes.specs.declared.node.Node.TheOpen.{Node-F}
 
 mutual
-  -- A node: nothing, a leaf, two sides with their tops under a form, or the sides of an xor.
+  -- A node: nothing, a leaf, two sides with their tops under a form, the sides of an xor, or a test of what a node gives, with its top.
   pub data Shape : Type 0 where
     ended : Shape
     leaf : Leaf → Shape
     pair : Form → Top → Shape → Top → Shape → Shape
     odd : Sides → Shape
+    tested : Proximity → Top → Shape → Shape
 
   -- Sides in order, each with its top.
   pub data Sides : Type 0 where
@@ -31,6 +33,7 @@ node_step Node-F.Nothing = ended
 node_step (Node-F.Leaf l) = leaf l
 node_step (Node-F.Pair form ta a tb b) = pair form ta a.value tb b.value
 node_step (Node-F.Odd tops nodes) = odd (sides_of tops.items nodes.items)
+node_step (Node-F.Tested p t s) = tested p t s.value
 
 -- The shape of a node.
 abbrev pub shape_of : Node → Shape
@@ -47,6 +50,7 @@ abbrev mutual
   size_of (leaf l) = 1
   size_of (pair form ta a tb b) = 1 + (size_of a + size_of b)
   size_of (odd ss) = 1 + sizes_in ss
+  size_of (tested p t s) = 1 + size_of s
 
   -- How many there are in all sides, each side itself counted.
   pub sizes_in : Sides → ℕ

@@ -1,11 +1,13 @@
 -- That what nodes keep of their sides is so, and what a change of a node keeps.
-use Rattle.std.specs.Prelude.{◌≡◌, ◌≤◌, ◌<◌, ◌+◌, ◌^◌, ℕ}
+use Rattle.std.specs.Prelude.{◌≡◌, ◌≤◌, ◌<◌, ◌+◌, ◌^◌, ℕ, true, Some}
 use Rattle.sk_index.specs.Indexed.{Indexed}
 use Rattle.sk_model.specs.Covers.{Covers}
 use Rattle.sk_decay.specs.Heads.{IsHead}
 use Rattle.sk_nodes.specs.declared.top.Top.{Top}
 use Rattle.sk_nodes.specs.Leaves.{AtMost, IsLeafOn}
-use Rattle.sk_nodes.specs.Shapes.{Shape, ended, leaf, pair, odd, Sides, no_sides, side, size_of}
+use Rattle.sk_nodes.specs.declared.proximity.Proximity.{Proximity}
+use Rattle.sk_nodes.specs.Proximity.{holds, IsInAll, CanTest}
+use Rattle.sk_nodes.specs.Shapes.{Shape, ended, leaf, pair, odd, tested, Sides, no_sides, side, size_of}
 use Rattle.sk_nodes.specs.Left.{rest, unread_of, greatest_sum, greatest_in}
 
 -- A node's head, and how much it can weigh, are those of what it still gives.
@@ -34,6 +36,16 @@ pub record IsOdd (ss : Sides) (A : Type 0) : Type 0 where
   pub sides : A
   pub fits : greatest_sum ss < 2 ^ 63
 
+-- A test of what a node gives, which has all the terms, with its top, by what holds of it. Each document before `next` was tested: where the node stands before that, the terms stand so.
+pub record IsTested (i : Indexed) (p : Proximity) (t : Top) (s : Shape) (A : Type 0) : Type 0 where
+  pub test : CanTest i p
+  pub top : IsTop i t s
+  pub sound : A
+  pub within : (id w : ℕ) → rest i s id ≡ Some w → IsInAll i id p.numbers.items
+  pub ahead : p.next ≤ t.head + 1
+  pub small : p.next ≤ 2 ^ 32
+  pub known : t.head < p.next → holds i p t.head ≡ true
+
 abbrev mutual
   -- All that is kept in a node is so.
   pub Sound : Indexed → Shape → Type 0
@@ -41,6 +53,7 @@ abbrev mutual
   Sound i (leaf l) = IsLeafOn i l
   Sound i (pair form ta a tb b) = IsPair i ta a tb b (Sound i a) (Sound i b)
   Sound i (odd ss) = IsOdd ss (AreSound i ss)
+  Sound i (tested p t s) = IsTested i p t s (Sound i s)
 
   -- All that is kept in sides and beside them is so.
   pub AreSound : Indexed → Sides → Type 0

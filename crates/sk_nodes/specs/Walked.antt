@@ -8,15 +8,15 @@ count_in no_trees = 0
 count_in (tree t ts) = 1 + count_in ts
 
 abbrev mutual
-  -- All forms of a query but wildcard, near, phrase and range.
+  -- All forms of a query but range.
   pub is_walked : Tree → Bool
   is_walked nothing = true
   is_walked all = true
   is_walked (term t) = true
-  is_walked (wildcard prefix) = false
+  is_walked (wildcard prefix) = true
   is_walked (parts form ts) = are_walked ts
-  is_walked (near window ts) = false
-  is_walked (phrase window ts) = false
+  is_walked (near window ts) = true
+  is_walked (phrase window ts) = true
   is_walked (synonym ts) = true
   is_walked (scale f t) = is_walked t
   is_walked (range slot lo hi) = false

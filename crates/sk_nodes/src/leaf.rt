@@ -149,7 +149,8 @@ fn greatest_of(list: &List, scheme: Scheme, factor: u64) -> u64
 /// How long the list is.
 pub(crate) fn list_length(index: &Index, number: Option<usize>) -> u32
     requires { IsThere number index.now.terms }
-    ensures { result ≡ length (list_in index.now number) }
+    ensures value { result ≡ length (list_in index.now number) }
+    ensures sorted { AreSorted (list_in index.now number) }
 {
     list_of(index, number).length()
 }

@@ -6,10 +6,12 @@ mod moves;
 mod node;
 mod odd;
 mod opening;
+mod proximity;
 mod synonym;
 mod top;
 mod tree;
 mod walked;
+mod words;
 
 pub use tree::Tree;
 pub use walked::is_walked;

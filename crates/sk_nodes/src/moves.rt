@@ -2,13 +2,15 @@
 ghost use Rattle.std.specs.Prelude.{◌≡◌, ◌≤◌, ◌<◌, ◌+◌, ◌^◌, ℕ};
 ghost use Rattle.sk_model.specs.Covers.{Covers};
 ghost use Rattle.sk_decay.specs.Sides.{paired, greatest_under};
-ghost use Rattle.sk_nodes.specs.Shapes.{pair, odd, shape_of, size_of, sides_on, sizes_in};
+ghost use Rattle.sk_nodes.specs.Shapes.{pair, odd, tested, shape_of, size_of, sides_on, sizes_in};
 ghost use Rattle.sk_nodes.specs.Left.{rest, from_on, unread_of, unread_in, greatest_sum};
-ghost use Rattle.sk_nodes.specs.Sound.{IsTop, IsPair, IsOdd, Sound, AreSound};
+ghost use Rattle.sk_nodes.specs.Sound.{IsTop, IsPair, IsOdd, IsTested, Sound, AreSound};
 ghost use Rattle.sk_nodes.specs.Odd.{AreSought, AreFrom};
+ghost use Rattle.sk_nodes.specs.Proximity.{entries_from};
 
 use crate::node::{Node, settle};
 use crate::odd::{FEW, odd_greatest, odd_meeting};
+use crate::proximity::Proximity;
 use crate::top::{END, Top};
 use sk_decay::{Meeting, first_need, greatest_under, meeting_of, second_need, second_target};
 use sk_index::Index;
@@ -85,6 +87,9 @@ fn seek<L: Ledger>(
             top, *form, ta, a, tb, b, index, target, need, spent, steps,
         ),
         Node::Odd(tops, nodes) => seek_odd(top, tops, nodes, index, target, need, spent, steps),
+        Node::Tested(test, below, node) => seek_tested(
+            top, test, below, node, index, target, need, spent, steps,
+        ),
     }
 }
 
@@ -265,6 +270,53 @@ fn reach_few<L: Ledger>(
         if let Some((node, nodes)) = nodes.split_first_mut() {
             reach(top, node, index, target, 0, spent, steps);
             reach_few(tops, nodes, index, target, spent, steps);
+        }
+    }
+}
+
+/// Moves a node on to the first of what it gives from the target on that passes the test.
+#[cycle(seek)]
+pub(crate) fn seek_tested<L: Ledger>(
+    top: &mut Top,
+    test: &mut Proximity,
+    below: &mut Top,
+    node: &mut Node,
+    index: &Index,
+    target: u64,
+    need: u64,
+    spent: &mut u128,
+    steps: &mut Steps<L>,
+)
+    requires tested { IsTested index.now test.old below.old (shape_of node.old) (Sound index.now (shape_of node.old)) }
+    requires target { target < 2 ^ 32 }
+    requires room { spent.old + (unread_of index.now (shape_of node.old) + entries_from index.now test.old.next test.old.numbers.items) < 2 ^ 128 }
+    ensures top { IsTop index.now top.new (tested test.new below.new (shape_of node.new)) }
+    ensures sound { IsTested index.now test.new below.new (shape_of node.new) (Sound index.now (shape_of node.new)) }
+    ensures covers { Covers (from_on target (rest index.now (tested test.old below.old (shape_of node.old)))) (rest index.now (tested test.new below.new (shape_of node.new))) need }
+    ensures reached { target ≤ top.new.head }
+    ensures falls { top.new.greatest ≤ below.old.greatest }
+    ensures smaller { size_of (shape_of node.new) ≤ size_of (shape_of node.old) }
+    ensures paid { spent.new + (unread_of index.now (shape_of node.new) + entries_from index.now test.new.next test.new.numbers.items) ≤ spent.old + (unread_of index.now (shape_of node.old) + entries_from index.now test.old.next test.old.numbers.items) }
+    ensures counted { steps.new + spent.old ≡ steps.old + spent.new }
+    ensures later { spent.old ≤ spent.new }
+{
+    let mut from = target;
+    'tests: loop {
+        reach(below, node, index, from, need, spent, steps);
+        if below.head >= END {
+            *top = Top::ended();
+            return;
+        }
+        if test.holds(index, below.head, spent, steps) {
+            *top = *below;
+            return;
+        }
+        from = below.head + 1;
+        if from >= END {
+            *node = Node::Nothing;
+            *below = Top::ended();
+            *top = Top::ended();
+            return;
         }
     }
 }

@@ -4,20 +4,22 @@ ghost use Rattle.sk_nodes.specs.Shapes.{shape_of};
 ghost use Rattle.sk_nodes.specs.Sound.{Sound, Decays};
 
 use crate::leaf::Leaf;
+use crate::proximity::Proximity;
 use crate::top::{END, Top};
 use sk_decay::{Change, rule};
 use sk_index::Index;
 use sk_query::Form;
 use std::mem;
 
-/// A node. One of two sides keeps the tops of its sides, so that their heads are read without following a box; so does an
-/// xor of many sides.
+/// A node. One of two sides keeps the tops of its sides, so that their heads are read without following a box; so do an
+/// xor of many sides, and a test of what a node gives.
 #[derive(Drop)]
 pub(crate) enum Node {
     Nothing,
     Leaf(Leaf),
     Pair(Form, Top, Box<Node>, Top, Box<Node>),
     Odd(Vec<Top>, Vec<Node>),
+    Tested(Proximity, Top, Box<Node>),
 }
 
 /// Puts what is enough under the need in the node's place. The rule is asked only where it may say anything.
@@ -42,6 +44,7 @@ fn is_settled(node: &Node, need: u64) -> bool {
             ta.head < END && tb.head < END && need <= ta.greatest && need <= tb.greatest
         }
         Node::Odd(_, _) => true,
+        Node::Tested(_, _, _) => true,
     }
 }
 
@@ -54,6 +57,7 @@ fn decay(node: &mut Node, _index: &Index, need: u64)
         Node::Nothing => {}
         Node::Leaf(_) => {}
         Node::Odd(_, _) => {}
+        Node::Tested(_, _, _) => {}
         Node::Pair(form, ta, a, tb, b) => {
             let change = rule(
                 *form,

@@ -1,32 +1,36 @@
 //! How the node of a query is opened.
-ghost use Rattle.std.specs.Prelude.{◌≡◌, ◌≤◌, ◌<◌, ◌+◌, ◌^◌, ℕ, true, ◌++◌, All, IfOk, IfSome, IfNone, length, Option};
+ghost use Rattle.std.specs.Prelude.{◌≡◌, ◌≤◌, ◌<◌, ◌+◌, ◌^◌, ◌&&◌, ℕ, true, ◌++◌, All, IfOk, IfSome, IfNone, length, Option};
 ghost use Rattle.sk_base.specs.declared.find.Scheme.{Scheme};
 ghost use Rattle.sk_base.specs.Loads.{IsLight};
 ghost use Rattle.sk_base.specs.Numbers.{Docs, length_of};
 ghost use Rattle.sk_sorted.specs.Entries.{AreSorted};
+ghost use Rattle.sk_dict.specs.Terms.{term_at};
 ghost use Rattle.sk_query.specs.declared.form.Form.TheVariants as Form;
 ghost use Rattle.sk_query.specs.Trees as QueryTree;
 ghost use Rattle.sk_query.specs.Trees.{query_view, queries_view};
-ghost use Rattle.sk_query.specs.Fits.{is_sound, leaves_of};
+ghost use Rattle.sk_query.specs.Fits.{is_sound, leaves_of, is_window, are_given};
 ghost use Rattle.sk_model.specs.Documents.{Document};
-ghost use Rattle.sk_model.specs.Combining.{combined};
-ghost use Rattle.sk_model.specs.Bounds.{sum_in, ceil, ceils, ceil_of, term_ceil};
+ghost use Rattle.sk_model.specs.Combining.{combined, where_so};
+ghost use Rattle.sk_model.specs.Bounds.{sum_in, ceil, ceils, ceil_of, term_ceil, terms_ceil, lengths_of};
 ghost use Rattle.sk_model.specs.Allowance.{leaf_readings, leaves_readings};
 ghost use Rattle.sk_decay.specs.Sides.{paired, greatest_under};
 ghost use Rattle.sk_nodes.specs.Leaves.{IsThere, list_in, weighed, leaf_greatest};
 ghost use Rattle.sk_nodes.specs.Shapes.{odd, no_sides, side, shape_of, sides_on};
 ghost use Rattle.sk_nodes.specs.Left.{rest, rests, unread_of, unread_in, greatest_sum};
-ghost use Rattle.sk_nodes.specs.Sound.{IsTop, IsOdd, Sound, AreSound};
+ghost use Rattle.sk_nodes.specs.Sound.{IsTop, IsOdd, IsTested, Sound, AreSound};
 ghost use Rattle.sk_nodes.specs.Odd.{followed_by};
+ghost use Rattle.sk_nodes.specs.Proximity.{standing_query, holds, entries_from};
 ghost use Rattle.sk_nodes.specs.Walked.{is_walked, count_in};
 ghost use Rattle.sk_nodes.specs.Opened.{score_of, part_scores, is_nest, OpensSides, joint_score_of, others_of, query_size, parts_size, AreParts, Opens};
 
 use crate::leaf::{Leaf, list_length};
-use crate::moves::{seek_odd, seek_pair};
+use crate::moves::{seek_odd, seek_pair, seek_tested};
 use crate::node::Node;
-use crate::synonym::open_synonym;
+use crate::proximity::{Proximity, Standing};
+use crate::synonym::{open_synonym, open_wildcard};
 use crate::top::Top;
-use sk_base::{Scheme, Term};
+use crate::words::{add_lengths, all_of, numbers_of, raise};
+use sk_base::{Scheme, Term, Text};
 use sk_index::Index;
 use sk_query::{Form, Query};
 use sk_steps::Steps;
@@ -97,8 +101,117 @@ pub(crate) fn open_node<L: Ledger>(
                 steps,
             )
         }
+        Query::Near(window, words) => {
+            open_standing(
+                alloc,
+                index,
+                Standing::Near,
+                *window,
+                words.as_slice(),
+                scheme,
+                factor,
+                most,
+                spent,
+                steps,
+            )
+        }
+        Query::Phrase(window, words) => {
+            open_standing(
+                alloc,
+                index,
+                Standing::Phrase,
+                *window,
+                words.as_slice(),
+                scheme,
+                factor,
+                most,
+                spent,
+                steps,
+            )
+        }
+        Query::Wildcard(prefix) => {
+            open_wildcard(
+                alloc, index, query, prefix, scheme, factor, most, spent, steps,
+            )
+        }
         _ => Err(AllocError),
     }
+}
+
+/// The node of terms that stand near or as a phrase: an and of them, and a test of its documents.
+#[cycle(open_node)]
+fn open_standing<L: Ledger>(
+    alloc: Global,
+    index: &Index,
+    standing: Standing,
+    window: u32,
+    words: &[Text],
+    scheme: Scheme,
+    factor: u64,
+    most: &mut u128,
+    spent: &mut u128,
+    steps: &mut Steps<L>,
+) -> Result<(Top, Node), AllocError>
+    requires factor { factor ≤ 65536 }
+    requires sound { (is_window window && are_given words.now) ≡ true }
+    requires leaves { length words.now ≤ 1024 }
+    requires documents { AreSorted index.now.live.documents }
+    requires light { All IsLight index.now.live.documents }
+    requires room { spent.old ≤ most.old }
+    requires small { most.old < 2 ^ 128 }
+    ensures opens { IfOk result (λ p. Opens index.now p.0 (shape_of p.1) (score_of (standing_query standing window words.now) scheme factor) (terms_ceil scheme factor words.now index.now.live.documents)) }
+    ensures paid { IfOk result (λ p. spent.new + unread_of index.now (shape_of p.1) + most.old ≤ spent.old + most.new) }
+    ensures within { IfOk result (λ p. most.new ≤ most.old + (lengths_of words.now index.now.live.documents + lengths_of words.now index.now.live.documents)) }
+    ensures counted { steps.new + spent.old ≡ steps.old + spent.new }
+    ensures later { spent.old ≤ spent.new }
+    ensures room { IfOk result (λ p. spent.new ≤ most.new) }
+    ensures small { most.new < 2 ^ 128 }
+{
+    let numbers = numbers_of(alloc, index, words)?;
+    if numbers.len() < words.len() {
+        return Ok((Top::ended(), Node::Nothing));
+    }
+    let all = all_of(alloc, words)?;
+    let (below, node) = open_node(alloc, index, &all, scheme, factor, most, spent, steps)?;
+    add_lengths(index, numbers.as_slice(), most)?;
+    let marks = Vec::from_elem(alloc, 0, numbers.len())?;
+    let test = Proximity {
+        standing,
+        window,
+        numbers,
+        marks,
+        next: 0,
+    };
+    let (top, node) = tested_of(alloc, index, test, below, node, spent, steps)?;
+    Ok((top, node))
+}
+
+/// A test of what a node gives, moved on to the first that passes, and its top.
+fn tested_of<L: Ledger>(
+    alloc: Global,
+    index: &Index,
+    mut test: Proximity,
+    mut below: Top,
+    mut node: Node,
+    spent: &mut u128,
+    steps: &mut Steps<L>,
+) -> Result<(Top, Node), AllocError>
+    requires tested { IsTested index.now test below (shape_of node) (Sound index.now (shape_of node)) }
+    requires room { spent.old + (unread_of index.now (shape_of node) + entries_from index.now test.next test.numbers.items) < 2 ^ 128 }
+    ensures top { IfOk result (λ p. IsTop index.now p.0 (shape_of p.1)) }
+    ensures sound { IfOk result (λ p. Sound index.now (shape_of p.1)) }
+    ensures gives { IfOk result (λ p. (id : ℕ) → rest index.now (shape_of p.1) id ≡ where_so (holds index.now test id) (rest index.now (shape_of node) id)) }
+    ensures ceiling { IfOk result (λ p. p.0.greatest ≤ below.greatest) }
+    ensures paid { IfOk result (λ p. spent.new + unread_of index.now (shape_of p.1) ≤ spent.old + (unread_of index.now (shape_of node) + entries_from index.now test.next test.numbers.items)) }
+    ensures counted { steps.new + spent.old ≡ steps.old + spent.new }
+    ensures later { spent.old ≤ spent.new }
+{
+    let mut top = Top::ended();
+    seek_tested(
+        &mut top, &mut test, &mut below, &mut node, index, 0, 0, spent, steps,
+    );
+    let node = Box::new(alloc, node)?;
+    Ok((top, Node::Tested(test, below, node)))
 }
 
 /// The node of a form of several parts: two nodes, of the first parts and of the others.
@@ -444,7 +557,7 @@ fn open_all<L: Ledger>(
 }
 
 /// The leaf of a term, and nothing where no document has the term.
-pub(crate) fn open_term<L: Ledger>(
+fn open_term<L: Ledger>(
     index: &Index,
     word: &Term,
     scheme: Scheme,
@@ -468,10 +581,37 @@ pub(crate) fn open_term<L: Ledger>(
     match index.number_of(word.as_str().as_bytes()) {
         None => Ok((Top::ended(), Node::Nothing)),
         Some(number) => {
-            let (top, node) = open_leaf(index, Some(number), scheme, factor, most, spent, steps)?;
+            let (top, node) = open_numbered(index, number, scheme, factor, most, spent, steps)?;
             Ok((top, node))
         }
     }
+}
+
+/// The leaf of the term with this number.
+pub(crate) fn open_numbered<L: Ledger>(
+    index: &Index,
+    number: usize,
+    scheme: Scheme,
+    factor: u64,
+    most: &mut u128,
+    spent: &mut u128,
+    steps: &mut Steps<L>,
+) -> Result<(Top, Node), AllocError>
+    requires there { number < length index.now.terms }
+    requires factor { factor ≤ 65536 }
+    requires documents { AreSorted index.now.live.documents }
+    requires room { spent.old ≤ most.old }
+    requires small { most.old < 2 ^ 128 }
+    ensures opens { IfOk result (λ p. Opens index.now p.0 (shape_of p.1) (score_of (QueryTree.term (term_at index.now.terms number)) scheme factor) (term_ceil scheme factor (term_at index.now.terms number) index.now.live.documents)) }
+    ensures paid { IfOk result (λ p. spent.new + unread_of index.now (shape_of p.1) + most.old ≤ spent.old + most.new) }
+    ensures within { IfOk result (λ p. most.new ≡ most.old + length_of (term_at index.now.terms number) index.now.live.documents) }
+    ensures counted { steps.new + spent.old ≡ steps.old + spent.new }
+    ensures later { spent.old ≤ spent.new }
+    ensures room { IfOk result (λ p. spent.new ≤ most.new) }
+    ensures small { most.new < 2 ^ 128 }
+{
+    let (top, node) = open_leaf(index, Some(number), scheme, factor, most, spent, steps)?;
+    Ok((top, node))
 }
 
 /// A leaf, and its top.
@@ -500,11 +640,8 @@ fn open_leaf<L: Ledger>(
     ensures room { IfOk result (λ p. spent.new ≤ most.new) }
     ensures small { most.new < 2 ^ 128 }
 {
-    // As many entries as 128 bits cannot count are in no memory.
-    let all = most
-        .checked_add(u128::from(list_length(index, number)))
-        .ok_or(AllocError)?;
-    *most = all;
+    let length = list_length(index, number);
+    raise(most, length)?;
     let mut top = Top::ended();
     let leaf = Leaf::open(&mut top, index, number, scheme, factor, spent, steps);
     Ok((top, Node::Leaf(leaf)))

@@ -1,22 +1,26 @@
-//! How the node of terms that count as one is opened.
-ghost use Rattle.std.specs.Prelude.{◌≡◌, ◌≤◌, ◌<◌, ◌+◌, ◌*◌, ◌^◌, ℕ, true, All, IfOk, IfSome, IfNone, length, Option};
+//! How the node of terms that count as one is opened: those of a synonym, and those that begin with a prefix.
+ghost use Rattle.std.specs.Prelude.{◌≡◌, ◌≤◌, ◌<◌, ◌+◌, ◌^◌, ℕ, true, map, min, All, IfOk, length, Option};
 ghost use Rattle.sk_base.specs.declared.find.Scheme.{Scheme};
 ghost use Rattle.sk_base.specs.Loads.{IsLight};
-ghost use Rattle.sk_base.specs.Numbers.{Docs, length_of};
+ghost use Rattle.sk_base.specs.Numbers.{length_of};
 ghost use Rattle.sk_sorted.specs.Entries.{AreSorted};
+ghost use Rattle.sk_dict.specs.Terms.{term_at};
 ghost use Rattle.sk_query.specs.Trees as QueryTree;
 ghost use Rattle.sk_query.specs.Trees.{query_view};
-ghost use Rattle.sk_query.specs.Fits.{is_sound, leaves_of};
+ghost use Rattle.sk_query.specs.Fits.{is_sound, are_different};
 ghost use Rattle.sk_model.specs.Documents.{Document};
 ghost use Rattle.sk_model.specs.Bounds.{ceil, lengths_of, term_ceil};
+ghost use Rattle.sk_model.specs.Allowance.{leaf_readings};
 ghost use Rattle.sk_decay.specs.Sides.{paired};
 ghost use Rattle.sk_nodes.specs.Shapes.{shape_of};
 ghost use Rattle.sk_nodes.specs.Left.{unread_of};
+ghost use Rattle.sk_nodes.specs.Proximity.{AreThere};
 ghost use Rattle.sk_nodes.specs.Opened.{score_of, joint_form, Opens};
 
 use crate::node::Node;
-use crate::opening::{open_term, pair_of};
+use crate::opening::{open_numbered, pair_of};
 use crate::top::Top;
+use crate::words::numbers_of;
 use sk_base::{Scheme, Text};
 use sk_index::Index;
 use sk_query::{Form, Query};
@@ -25,7 +29,10 @@ use sk_weight::ceil;
 use std::alloc::{AllocError, Global};
 use std::sync::ledger::Ledger;
 
-/// The node of a synonym: its terms by halves, and no more weight than a synonym can have.
+// No document weighs more under terms that count as one: its wdfs are below 2^29 together, and a factor is at most 2^16.
+const MOST_WEIGHT: u64 = 35_184_372_088_832;
+
+/// The node of a synonym, which weighs no more than a synonym can.
 pub(crate) fn open_synonym<L: Ledger>(
     alloc: Global,
     index: &Index,
@@ -40,7 +47,6 @@ pub(crate) fn open_synonym<L: Ledger>(
     requires is { query_view query.now ≡ QueryTree.synonym words.now }
     requires factor { factor ≤ 65536 }
     requires sound { is_sound factor (query_view query.now) ≡ true }
-    requires leaves { leaves_of (query_view query.now) ≤ 1024 }
     requires documents { AreSorted index.now.live.documents }
     requires light { All IsLight index.now.live.documents }
     requires room { spent.old ≤ most.old }
@@ -53,79 +59,178 @@ pub(crate) fn open_synonym<L: Ledger>(
     ensures room { IfOk result (λ p. spent.new ≤ most.new) }
     ensures small { most.new < 2 ^ 128 }
 {
-    let (top, node) = open_words(alloc, index, words, scheme, factor, most, spent, steps)?;
+    let numbers = numbers_of(alloc, index, words)?;
+    let (top, node) = open_joint(
+        alloc,
+        index,
+        numbers.as_slice(),
+        scheme,
+        factor,
+        most,
+        spent,
+        steps,
+    )?;
     let bound = ceil(index, query, scheme, factor);
-    let capped = Top {
-        head: top.head,
-        weight: top.weight,
-        greatest: top.greatest.min(bound),
-    };
-    Ok((capped, node))
+    Ok((capped(top, bound), node))
 }
 
-/// The node of some terms.
-#[cycle(open_words)]
-fn open_words<L: Ledger>(
+/// The node of all terms that begin with a prefix, which weighs no more than a wildcard can.
+pub(crate) fn open_wildcard<L: Ledger>(
     alloc: Global,
     index: &Index,
-    words: &[Text],
+    query: &Query,
+    prefix: &Text,
     scheme: Scheme,
     factor: u64,
     most: &mut u128,
     spent: &mut u128,
     steps: &mut Steps<L>,
 ) -> Result<(Top, Node), AllocError>
-    requires some { 0 < length words.now }
-    requires few { length words.now ≤ 1024 }
+    requires is { query_view query.now ≡ QueryTree.wildcard prefix.now }
     requires factor { factor ≤ 65536 }
     requires documents { AreSorted index.now.live.documents }
     requires light { All IsLight index.now.live.documents }
     requires room { spent.old ≤ most.old }
     requires small { most.old < 2 ^ 128 }
-    ensures opens { IfOk result (λ p. Opens index.now p.0 (shape_of p.1) (score_of (QueryTree.synonym words.now) scheme factor) (length words.now * 2 ^ 45)) }
+    ensures opens { IfOk result (λ p. Opens index.now p.0 (shape_of p.1) (score_of (query_view query.now) scheme factor) (ceil (query_view query.now) scheme factor index.now.live.documents)) }
     ensures paid { IfOk result (λ p. spent.new + unread_of index.now (shape_of p.1) + most.old ≤ spent.old + most.new) }
-    ensures within { IfOk result (λ p. most.new ≤ most.old + lengths_of words.now index.now.live.documents) }
+    ensures within { IfOk result (λ p. most.new ≤ most.old + leaf_readings (QueryTree.wildcard prefix.now) index.now.live.documents) }
     ensures counted { steps.new + spent.old ≡ steps.old + spent.new }
     ensures later { spent.old ≤ spent.new }
     ensures room { IfOk result (λ p. spent.new ≤ most.new) }
     ensures small { most.new < 2 ^ 128 }
 {
-    if let Some(word) = only_word(words, scheme, factor) {
-        return open_term(index, word, scheme, factor, most, spent, steps);
-    }
-    let (front, back) = split_words(words, scheme, factor);
-    let (ta, a) = open_words(alloc, index, front, scheme, factor, most, spent, steps)?;
-    let (tb, b) = open_words(alloc, index, back, scheme, factor, most, spent, steps)?;
-    pair_of(alloc, index, joint_form(scheme), ta, a, tb, b, spent, steps)
+    let numbers = index.with_prefix(prefix.as_str().as_bytes())?;
+    let (top, node) = open_joint(
+        alloc,
+        index,
+        numbers.as_slice(),
+        scheme,
+        factor,
+        most,
+        spent,
+        steps,
+    )?;
+    let bound = ceil(index, query, scheme, factor);
+    Ok((capped(top, bound), node))
 }
 
-/// The term, where there is one alone.
-fn only_word(words: &[Text], scheme: Scheme, _factor: u64) -> Option<&Text>
-    requires some { 0 < length words.now }
-    requires factor { _factor ≤ 65536 }
-    ensures many { IfNone result (2 ≤ length words.now) }
-    ensures scores { IfSome result (λ word. (o : Option Document) → score_of (QueryTree.synonym words.now) scheme _factor o ≡ score_of (QueryTree.term word.now) scheme _factor o) }
-    ensures ceiling { IfSome result (λ word. (docs : Docs) → All IsLight docs → term_ceil scheme _factor word.now docs ≤ length words.now * 2 ^ 45) }
-    ensures readings { IfSome result (λ word. (docs : Docs) → lengths_of words.now docs ≡ length_of word.now docs) }
+/// The node of terms that count as one, by their numbers: of two halves, so that a document is looked for in few of them.
+#[cycle(open_joint)]
+fn open_joint<L: Ledger>(
+    alloc: Global,
+    index: &Index,
+    numbers: &[usize],
+    scheme: Scheme,
+    factor: u64,
+    most: &mut u128,
+    spent: &mut u128,
+    steps: &mut Steps<L>,
+) -> Result<(Top, Node), AllocError>
+    requires there { AreThere index.now numbers.now }
+    requires apart { are_different (map (term_at index.now.terms) numbers.now) ≡ true }
+    requires factor { factor ≤ 65536 }
+    requires documents { AreSorted index.now.live.documents }
+    requires light { All IsLight index.now.live.documents }
+    requires room { spent.old ≤ most.old }
+    requires small { most.old < 2 ^ 128 }
+    ensures opens { IfOk result (λ p. Opens index.now p.0 (shape_of p.1) (score_of (QueryTree.synonym (map (term_at index.now.terms) numbers.now)) scheme factor) (2 ^ 45)) }
+    ensures paid { IfOk result (λ p. spent.new + unread_of index.now (shape_of p.1) + most.old ≤ spent.old + most.new) }
+    ensures within { IfOk result (λ p. most.new ≤ most.old + lengths_of (map (term_at index.now.terms) numbers.now) index.now.live.documents) }
+    ensures counted { steps.new + spent.old ≡ steps.old + spent.new }
+    ensures later { spent.old ≤ spent.new }
+    ensures room { IfOk result (λ p. spent.new ≤ most.new) }
+    ensures small { most.new < 2 ^ 128 }
 {
-    if words.len() == 1 {
-        Some(&words[0])
-    } else {
-        None
+    if numbers.is_empty() {
+        return Ok((Top::ended(), Node::Nothing));
     }
+    if numbers.len() == 1 {
+        return open_one(index, numbers, scheme, factor, most, spent, steps);
+    }
+    let (front, back) = split_numbers(index, numbers, scheme, factor);
+    let (ta, a) = open_joint(
+        alloc, index, front, scheme, factor, most, spent, steps,
+    )?;
+    let (tb, b) = open_joint(alloc, index, back, scheme, factor, most, spent, steps)?;
+    let (top, node) = pair_of(
+        alloc,
+        index,
+        joint_form(scheme),
+        ta,
+        a,
+        tb,
+        b,
+        spent,
+        steps,
+    )?;
+    Ok((capped(top, MOST_WEIGHT), node))
+}
+
+/// The leaf of the one term.
+fn open_one<L: Ledger>(
+    index: &Index,
+    numbers: &[usize],
+    scheme: Scheme,
+    factor: u64,
+    most: &mut u128,
+    spent: &mut u128,
+    steps: &mut Steps<L>,
+) -> Result<(Top, Node), AllocError>
+    requires one { length numbers.now ≡ 1 }
+    requires there { AreThere index.now numbers.now }
+    requires factor { factor ≤ 65536 }
+    requires documents { AreSorted index.now.live.documents }
+    requires light { All IsLight index.now.live.documents }
+    requires room { spent.old ≤ most.old }
+    requires small { most.old < 2 ^ 128 }
+    ensures opens { IfOk result (λ p. Opens index.now p.0 (shape_of p.1) (score_of (QueryTree.synonym (map (term_at index.now.terms) numbers.now)) scheme factor) (2 ^ 45)) }
+    ensures paid { IfOk result (λ p. spent.new + unread_of index.now (shape_of p.1) + most.old ≤ spent.old + most.new) }
+    ensures within { IfOk result (λ p. most.new ≤ most.old + lengths_of (map (term_at index.now.terms) numbers.now) index.now.live.documents) }
+    ensures counted { steps.new + spent.old ≡ steps.old + spent.new }
+    ensures later { spent.old ≤ spent.new }
+    ensures room { IfOk result (λ p. spent.new ≤ most.new) }
+    ensures small { most.new < 2 ^ 128 }
+{
+    let number = numbers[0];
+    let (top, node) = open_numbered(index, number, scheme, factor, most, spent, steps)?;
+    Ok((top, node))
 }
 
 /// The two halves.
-fn split_words(words: &[Text], scheme: Scheme, _factor: u64) -> (&[Text], &[Text])
-    requires many { 2 ≤ length words.now }
-    ensures front_some { 0 < length result.0.now }
-    ensures back_some { 0 < length result.1.now }
-    ensures sum { length result.0.now + length result.1.now ≡ length words.now }
-    ensures scores { (o : Option Document) → score_of (QueryTree.synonym words.now) scheme _factor o ≡ paired (joint_form scheme) (score_of (QueryTree.synonym result.0.now) scheme _factor o) (score_of (QueryTree.synonym result.1.now) scheme _factor o) }
-    ensures readings { (docs : Docs) → lengths_of words.now docs ≡ lengths_of result.0.now docs + lengths_of result.1.now docs }
+fn split_numbers<'a>(
+    index: &Index,
+    numbers: &'a [usize],
+    scheme: Scheme,
+    _factor: u64,
+) -> (&'a [usize], &'a [usize])
+    requires many { 2 ≤ length numbers.now }
+    requires there { AreThere index.now numbers.now }
+    requires apart { are_different (map (term_at index.now.terms) numbers.now) ≡ true }
+    ensures front_there { AreThere index.now result.0.now }
+    ensures back_there { AreThere index.now result.1.now }
+    ensures front_apart { are_different (map (term_at index.now.terms) result.0.now) ≡ true }
+    ensures back_apart { are_different (map (term_at index.now.terms) result.1.now) ≡ true }
+    ensures front_shorter { length result.0.now < length numbers.now }
+    ensures back_shorter { length result.1.now < length numbers.now }
+    ensures scores { (o : Option Document) → score_of (QueryTree.synonym (map (term_at index.now.terms) numbers.now)) scheme _factor o ≡ paired (joint_form scheme) (score_of (QueryTree.synonym (map (term_at index.now.terms) result.0.now)) scheme _factor o) (score_of (QueryTree.synonym (map (term_at index.now.terms) result.1.now)) scheme _factor o) }
+    ensures readings { lengths_of (map (term_at index.now.terms) numbers.now) index.now.live.documents ≡ lengths_of (map (term_at index.now.terms) result.0.now) index.now.live.documents + lengths_of (map (term_at index.now.terms) result.1.now) index.now.live.documents }
 {
-    let count = words.len();
-    words.split_at(count / 2)
+    let count = numbers.len();
+    numbers.split_at(count / 2)
+}
+
+/// A top that can weigh no more than this.
+fn capped(top: Top, bound: u64) -> Top
+    ensures head { result.head ≡ top.head }
+    ensures weight { result.weight ≡ top.weight }
+    ensures greatest { result.greatest ≡ min top.greatest bound }
+{
+    Top {
+        head: top.head,
+        weight: top.weight,
+        greatest: top.greatest.min(bound),
+    }
 }
 
 /// What the terms are put together by.

@@ -12,9 +12,8 @@ pub fn is_walked(query: &Query) -> bool
 {
     match query {
         Query::Nothing | Query::All | Query::Term(_) | Query::Synonym(_) => true,
-        Query::Wildcard(_) | Query::Near(_, _) | Query::Phrase(_, _) | Query::Range(_, _, _) => {
-            false
-        },
+        Query::Wildcard(_) | Query::Near(_, _) | Query::Phrase(_, _) => true,
+        Query::Range(_, _, _) => false,
         Query::And(parts)
         | Query::Or(parts)
         | Query::Xor(parts)

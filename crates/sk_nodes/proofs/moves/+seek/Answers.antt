@@ -1,15 +1,18 @@
 -- Two sides, how far they have come and where they meet.
-use Rattle.std.proofs.Common.{◌++◌, sym, subst, ap, ◌∙◌, Box, Global, arith}
+use Rattle.std.proofs.Common.{◌≡◌, ◌^◌, ◌++◌, refl, sym, subst, ap, ◌∙◌, Box, Global, arith}
 use Rattle.sk_model.specs.Covers.{Covers}
 use Rattle.sk_nodes.specs.declared.top.Top.{Top}
 use Rattle.sk_nodes.specs.declared.node.Node.{Node}
-use Rattle.sk_nodes.specs.Shapes.{Shape, Sides, pair, shape_of, sides_on, sizes_in}
+use Rattle.sk_nodes.specs.declared.node.Node.TheVariants as Node
+use Rattle.sk_nodes.specs.Shapes.{Shape, Sides, ended, pair, tested, shape_of, sides_on, sizes_in}
 use Rattle.sk_nodes.specs.Left.{rest, from_on, greatest_sum, unread_in}
 use Rattle.sk_nodes.specs.Sound.{IsTop, Sound, AreSound}
 use Rattle.sk_nodes.specs.Odd.{AreFrom, AreSought, followed_by}
 use Rattle.sk_nodes.proofs.LeafLaws.{AtMost-covers}
-use Rattle.sk_nodes.proofs.NodeLaws.{covers_more, capped_top, shape_of-Pair, parts_shape, covers_along, weight_le, target_ended, head_reached, pair_top, pair_top_ended, sides_covers, sides_covers_ended, sides_begun, sides_more, size_along, paid_along}
+use Rattle.sk_nodes.proofs.NodeLaws.{covers_more, capped_top, shape_of-Nothing, shape_of-Pair, shape_of-Tested, tested_shape, parts_shape, covers_along, weight_le, target_ended, head_reached, pair_top, pair_top_ended, sides_covers, sides_covers_ended, sides_begun, sides_more, size_along, paid_along}
 use Rattle.sk_nodes.proofs.OddLaws.{weights_fit, odd_covers, odd_more, odd_top, sides_split, sides_append, both_sound, sound_behind, from_behind, sought_behind, greatest_behind, unread_behind, sizes_behind, some_sizes}
+use Rattle.sk_nodes.specs.Proximity.{entries_from}
+use Rattle.sk_nodes.proofs.ProximityLaws.{test_begun, moved_all, moved_covers, passed_top, passed_sound, passed_covers, none_top, failed_ended_covers, failed_more}
 use Rattle.sk_nodes.proofs.moves.+seek.Goals as goal
 
 pub reach-returns-clause-covers : goal.reach-returns-clause-covers
@@ -228,3 +231,92 @@ reach_all-returns-clause-paid g t c =
     let whole = sides_split _ c.args.tops.now _ _ c.args.nodes.now _ _ c.split_at_mut-front_tops.ensures.front c.split_at_mut-front_tops.ensures.back c.split_at_mut-front_nodes.ensures.front c.split_at_mut-front_nodes.ensures.back in
     let new = sides_append c.reach_all.new.tops c.reach_all-2.new.tops c.reach_all.new.nodes c.reach_all-2.new.nodes (omega (arith, c.reach_all.auto.tops, c.reach_all.auto.nodes, c.split_at_mut-front_tops.ensures.front_len, c.split_at_mut-front_nodes.ensures.front_len)) in
     omega (arith, ap (unread_in i) whole, ap (unread_in i) new, unread_behind i (sides_on c.split_at_mut-front_tops.result.0.now c.split_at_mut-front_nodes.result.0.now) (sides_on c.split_at_mut-front_tops.result.1.now c.split_at_mut-front_nodes.result.1.now), unread_behind i (sides_on c.reach_all.new.tops c.reach_all.new.nodes) (sides_on c.reach_all-2.new.tops c.reach_all-2.new.nodes), c.reach_all.ensures.paid, c.reach_all-2.ensures.paid)
+
+pub seek_tested-tests-init : goal.seek_tested-tests-init
+seek_tested-tests-init g t c =
+    record {
+      far = test_begun c.args.index.now c.args.target c.args.need c.args.test.now c.args.below.now (shape_of c.args.node.now) c.requires.target c.requires.tested;
+      paid = omega arith;
+      counted = omega arith;
+      later = omega arith;
+    }
+
+pub seek_tested-holds-requires-clause-all : goal.seek_tested-holds-requires-clause-all
+seek_tested-holds-requires-clause-all g t c =
+    let i = c.args.index.now in
+    moved_all i c.args.target c.args.need c.tests.from c.args.test.now c.args.below.now (shape_of c.args.node.now) c.tests.test c.tests.below (shape_of c.tests.node) c.reach.new.top (shape_of c.reach.new.node)
+    c.tests.invariant.far c.reach.ensures.top c.reach.ensures.sound c.reach.ensures.reached c.reach.ensures.falls c.reach.ensures.smaller c.reach.ensures.covers (omega (arith, c.if-below-ge-END.false))
+
+pub seek_tested-returns-then-below-ge-END-clause-covers : goal.seek_tested-returns-then-below-ge-END-clause-covers
+seek_tested-returns-then-below-ge-END-clause-covers g t c =
+    let i = c.args.index.now in
+    moved_covers i c.args.target c.args.need c.tests.from c.args.test.now c.args.below.now (shape_of c.args.node.now) c.tests.test c.tests.below (shape_of c.tests.node) c.reach.new.top (shape_of c.reach.new.node)
+    c.tests.invariant.far c.reach.ensures.top c.reach.ensures.sound c.reach.ensures.reached c.reach.ensures.falls c.reach.ensures.smaller c.reach.ensures.covers
+
+pub seek_tested-returns-then-holds-clause-top : goal.seek_tested-returns-then-holds-clause-top
+seek_tested-returns-then-holds-clause-top g t c =
+    let i = c.args.index.now in
+    passed_top i c.args.target c.args.need c.tests.from c.args.test.now c.args.below.now (shape_of c.args.node.now) c.tests.test c.tests.below (shape_of c.tests.node) c.reach.new.top (shape_of c.reach.new.node)
+    c.tests.invariant.far c.reach.ensures.top c.reach.ensures.sound c.reach.ensures.reached c.reach.ensures.falls c.reach.ensures.smaller c.reach.ensures.covers c.holds.new.self c.holds.ensures.same c.holds.ensures.next (omega (arith, c.if-below-ge-END.false)) (sym c.holds.ensures.value ∙ c.if-holds.true)
+
+pub seek_tested-returns-then-holds-clause-sound : goal.seek_tested-returns-then-holds-clause-sound
+seek_tested-returns-then-holds-clause-sound g t c =
+    let i = c.args.index.now in
+    passed_sound i c.args.target c.args.need c.tests.from c.args.test.now c.args.below.now (shape_of c.args.node.now) c.tests.test c.tests.below (shape_of c.tests.node) c.reach.new.top (shape_of c.reach.new.node)
+    c.tests.invariant.far c.reach.ensures.top c.reach.ensures.sound c.reach.ensures.reached c.reach.ensures.falls c.reach.ensures.smaller c.reach.ensures.covers c.holds.new.self c.holds.ensures.same c.holds.ensures.next (omega (arith, c.if-below-ge-END.false)) (sym c.holds.ensures.value ∙ c.if-holds.true)
+
+pub seek_tested-returns-then-holds-clause-covers : goal.seek_tested-returns-then-holds-clause-covers
+seek_tested-returns-then-holds-clause-covers g t c =
+    let i = c.args.index.now in
+    passed_covers i c.args.target c.args.need c.tests.from c.args.test.now c.args.below.now (shape_of c.args.node.now) c.tests.test c.tests.below (shape_of c.tests.node) c.reach.new.top (shape_of c.reach.new.node)
+    c.tests.invariant.far c.reach.ensures.top c.reach.ensures.sound c.reach.ensures.reached c.reach.ensures.falls c.reach.ensures.smaller c.reach.ensures.covers c.holds.new.self c.holds.ensures.same c.holds.ensures.next (omega (arith, c.if-below-ge-END.false))
+
+pub seek_tested-returns-then-from-ge-END-clause-top : goal.seek_tested-returns-then-from-ge-END-clause-top
+seek_tested-returns-then-from-ge-END-clause-top g t c =
+    let i = c.args.index.now in
+    subst (λ (u : Top). IsTop i u (tested c.holds.new.self c.ended-then-from-ge-END.result (shape_of Node.Nothing))) (sym c.ended-then-from-ge-END-2.ensures)
+    (subst (λ (s : Shape). IsTop i (record { head = 2 ^ 32; weight = 0; greatest = 0 }) (tested c.holds.new.self c.ended-then-from-ge-END.result s)) (sym shape_of-Nothing)
+    (none_top i c.holds.new.self c.ended-then-from-ge-END.result ended (λ id. refl)))
+
+pub seek_tested-returns-then-from-ge-END-clause-covers : goal.seek_tested-returns-then-from-ge-END-clause-covers
+seek_tested-returns-then-from-ge-END-clause-covers g t c =
+    let i = c.args.index.now in
+    subst (λ (s : Shape). Covers (from_on c.args.target (rest i (tested c.args.test.now c.args.below.now (shape_of c.args.node.now)))) (rest i (tested c.holds.new.self c.ended-then-from-ge-END.result s)) c.args.need) (sym shape_of-Nothing)
+    (failed_ended_covers i c.args.target c.args.need c.tests.from c.args.test.now c.args.below.now (shape_of c.args.node.now) c.tests.test c.tests.below (shape_of c.tests.node) c.reach.new.top (shape_of c.reach.new.node)
+    c.tests.invariant.far c.reach.ensures.top c.reach.ensures.sound c.reach.ensures.reached c.reach.ensures.falls c.reach.ensures.smaller c.reach.ensures.covers c.holds.new.self c.holds.ensures.same c.holds.ensures.next (omega (arith, c.if-below-ge-END.false)) (sym c.holds.ensures.value ∙ c.if-holds.false) (omega (arith, c.if-from-ge-END.true)) c.ended-then-from-ge-END.result)
+
+pub seek_tested-tests-preserved : goal.seek_tested-tests-preserved
+seek_tested-tests-preserved g t c =
+    let i = c.args.index.now in
+    let same : entries_from i c.holds.new.self.next c.holds.new.self.numbers.items ≡ entries_from i c.holds.new.self.next c.tests.test.numbers.items = ap (entries_from i c.holds.new.self.next) c.holds.ensures.same.numbers in
+    record {
+      far = failed_more i c.args.target c.args.need c.tests.from c.args.test.now c.args.below.now (shape_of c.args.node.now) c.tests.test c.tests.below (shape_of c.tests.node) c.reach.new.top (shape_of c.reach.new.node)
+    c.tests.invariant.far c.reach.ensures.top c.reach.ensures.sound c.reach.ensures.reached c.reach.ensures.falls c.reach.ensures.smaller c.reach.ensures.covers c.holds.new.self c.holds.ensures.same c.holds.ensures.next (omega (arith, c.if-below-ge-END.false)) (sym c.holds.ensures.value ∙ c.if-holds.false) (omega (arith, c.if-from-ge-END.false));
+      paid = omega (arith, same, c.reach.ensures.paid, c.holds.ensures.paid, c.tests.invariant.paid);
+      counted = omega (arith, c.reach.ensures.counted, c.holds.ensures.counted, c.tests.invariant.counted);
+      later = omega (arith, c.reach.ensures.later, c.holds.ensures.later, c.tests.invariant.later);
+    }
+
+pub seek-returns-in-Tested-clause-top : goal.seek-returns-in-Tested-clause-top
+seek-returns-in-Tested-clause-top g t c = subst (λ (s : Shape). IsTop c.args.index.now c.seek_tested.new.top s) (sym (shape_of-Tested _ _ _)) c.seek_tested.ensures.top
+
+pub seek-returns-in-Tested-clause-sound : goal.seek-returns-in-Tested-clause-sound
+seek-returns-in-Tested-clause-sound g t c = subst (λ (s : Shape). Sound c.args.index.now s) (sym (shape_of-Tested _ _ _)) c.seek_tested.ensures.sound
+
+pub seek-returns-in-Tested-clause-covers : goal.seek-returns-in-Tested-clause-covers
+seek-returns-in-Tested-clause-covers g t c =
+    covers_along c.args.index.now c.args.target c.args.need _ _ _ _
+    (tested_shape c.args.node.now c.in-Tested.test c.in-Tested.below c.in-Tested.node _ _ _ c.in-Tested.is c.in-Tested.test-is c.in-Tested.below-is (c.deref_mut-in-Tested.ensures.value ∙ ap (λ (x : Box Node Global). x.value) c.in-Tested.node-is))
+    (shape_of-Tested _ _ _) c.seek_tested.ensures.covers
+
+pub seek-returns-in-Tested-clause-smaller : goal.seek-returns-in-Tested-clause-smaller
+seek-returns-in-Tested-clause-smaller g t c =
+    size_along _ _ _ _
+    (tested_shape c.args.node.now c.in-Tested.test c.in-Tested.below c.in-Tested.node _ _ _ c.in-Tested.is c.in-Tested.test-is c.in-Tested.below-is (c.deref_mut-in-Tested.ensures.value ∙ ap (λ (x : Box Node Global). x.value) c.in-Tested.node-is))
+    (shape_of-Tested _ _ _) (omega (arith, c.seek_tested.ensures.smaller))
+
+pub seek-returns-in-Tested-clause-paid : goal.seek-returns-in-Tested-clause-paid
+seek-returns-in-Tested-clause-paid g t c =
+    paid_along c.args.index.now _ _ _ _ c.args.spent.now c.seek_tested.new.spent
+    (tested_shape c.args.node.now c.in-Tested.test c.in-Tested.below c.in-Tested.node _ _ _ c.in-Tested.is c.in-Tested.test-is c.in-Tested.below-is (c.deref_mut-in-Tested.ensures.value ∙ ap (λ (x : Box Node Global). x.value) c.in-Tested.node-is))
+    (shape_of-Tested _ _ _) c.seek_tested.ensures.paid

@@ -3,7 +3,9 @@ use Rattle.std.proofs.Common.{◌≡◌, ◌≤◌, ◌+◌, ◌^◌, ◌-◌, �
 use Rattle.sk_nodes.specs.Shapes.{shape_of, size_of, sides_on, sizes_in}
 use Rattle.sk_nodes.specs.Left.{unread_of, unread_in}
 use Rattle.sk_nodes.proofs.NodeLaws.{SidesSoFar}
+use Rattle.sk_nodes.specs.Proximity.{entries_from}
 use Rattle.sk_nodes.proofs.OddLaws.{OddSoFar}
+use Rattle.sk_nodes.proofs.ProximityLaws.{TestSoFar}
 use Rattle.sk_nodes.proofs.moves.+seek.Given as goal
 
 abbrev pub decreases-reach : goal.decreases-reach
@@ -45,3 +47,17 @@ invariant-seek_odd-all g l = record {
 
 abbrev pub decreases-seek_odd-all : goal.decreases-seek_odd-all
 decreases-seek_odd-all g l = 2 ^ 32 - l.from
+
+abbrev pub decreases-seek_tested : goal.decreases-seek_tested
+decreases-seek_tested g l = 3 * size_of (shape_of l.node.now) + 3
+
+abbrev pub invariant-seek_tested-tests : goal.invariant-seek_tested-tests
+invariant-seek_tested-tests g l = record {
+  far : TestSoFar l.index l.target l.need l.from l.fn.test l.fn.below (shape_of l.fn.node) l.test l.below (shape_of l.node);
+  paid : l.spent + (unread_of l.index (shape_of l.node) + entries_from l.index l.test.next l.test.numbers.items) ≤ l.fn.spent + (unread_of l.index (shape_of l.fn.node) + entries_from l.index l.fn.test.next l.fn.test.numbers.items);
+  counted : l.steps + l.fn.spent ≡ l.fn.steps + l.spent;
+  later : l.fn.spent ≤ l.spent;
+}
+
+abbrev pub decreases-seek_tested-tests : goal.decreases-seek_tested-tests
+decreases-seek_tested-tests g l = 2 ^ 32 - l.from

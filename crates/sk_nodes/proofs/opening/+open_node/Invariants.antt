@@ -1,5 +1,5 @@
 -- How large what is opened is.
-use Rattle.std.proofs.Common.{◌+◌, ◌*◌}
+use Rattle.std.proofs.Common.{◌+◌, ◌*◌, length}
 use Rattle.sk_query.specs.Trees.{query_view, queries_view}
 use Rattle.sk_nodes.specs.Opened.{query_size, parts_size}
 use Rattle.sk_nodes.proofs.opening.+open_node.Given as goal
@@ -12,3 +12,6 @@ decreases-open_parts g l = 3 * parts_size (queries_view l.parts.now) + 2
 
 abbrev pub decreases-open_sides : goal.decreases-open_sides
 decreases-open_sides g l = 3 * parts_size (queries_view l.parts.now) + 1
+
+abbrev pub decreases-open_standing : goal.decreases-open_standing
+decreases-open_standing g l = 3 * length l.words.now + 8

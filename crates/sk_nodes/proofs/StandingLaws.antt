@@ -1,0 +1,261 @@
+-- Terms that stand near or as a phrase are an and of them, and a test.
+use Rattle.std.proofs.Common.{◌≡◌, ◌≤◌, ◌<◌, ◌+◌, ◌^◌, ◌&&◌, ℕ, Bool, true, false, List, [], ◌∷◌, ◌++◌, length, map, filter, cond, Option, None, Some, is_some, refl, sym, subst, ap, ◌∙◌, arith, if◌then◌else◌, inl, inr}
+use mathlib.Core.Bool.{true≢false}
+use Rattle.std.specs.List.{list_all}
+use Rattle.std.proofs.lemmas.Bool.{cases_lt}
+use Rattle.std.proofs.lemmas.Bool.Decides.{nat_tests}
+use Rattle.sk_base.specs.declared.find.Scheme.{Scheme}
+use Rattle.sk_base.specs.declared.doc_entry.DocTerm.{DocTerm}
+use Rattle.sk_base.specs.Documents.{has_term, wdf_of, positions_of}
+use Rattle.sk_base.specs.Numbers.{Docs, length_of, some_has}
+use Rattle.sk_sorted.specs.Entries.{AreSorted, from, found, has}
+use Rattle.sk_sorted.proofs.EntryLaws.{from-at, found-here, found-other}
+use Rattle.sk_dict.specs.Terms.{term_at, number_of}
+use Rattle.sk_lists.specs.Postings.{Postings}
+use Rattle.sk_query.specs.declared.form.Form.{Form}
+use Rattle.sk_query.specs.Trees as Query
+use Rattle.sk_query.specs.Fits.{is_given, are_given, is_window, is_sound, are_sound, leaves_in}
+use Rattle.sk_model.specs.Documents.{Document}
+use Rattle.sk_model.specs.Edits.{document_at}
+use Rattle.sk_model.specs.Weights.{weigh_by}
+use Rattle.sk_model.specs.Combining.{both, sum_of_all, where_so, combined}
+use Rattle.sk_model.specs.Scores.{score, scores, term_score, terms_weight, weight_if, places_of}
+use Rattle.sk_model.specs.Bounds.{sum_in, term_ceil, terms_ceil, lengths_of, ceil, ceils}
+use Rattle.sk_model.specs.Allowance.{leaf_readings, leaves_readings}
+use Rattle.sk_model.proofs.HeldLaws.{Have, near_have, phrase_have}
+use Rattle.sk_index.specs.Indexed.{Indexed, postings, term_positions}
+use Rattle.sk_nodes.specs.declared.top.Top.{Top}
+use Rattle.sk_nodes.specs.declared.proximity.Standing.{Standing}
+use Rattle.sk_nodes.specs.declared.proximity.Proximity.{Proximity}
+use Rattle.sk_nodes.specs.Leaves.{list_in}
+use Rattle.sk_nodes.specs.Shapes.{Shape}
+use Rattle.sk_nodes.specs.Left.{rest}
+use Rattle.sk_nodes.specs.Sound.{Sound, IsTested}
+use Rattle.sk_nodes.specs.Opened.{score_of, joint_score_of, parts_size, term_trees, Opens}
+use Rattle.sk_nodes.specs.Proximity.{standing_query, stand, positions_at, holds, entries_from, numbered, AreThere, AreInOrder, IsInAll, CanTest}
+use Rattle.sk_nodes.proofs.ListLaws.{wdf_at, found-postings, length-postings}
+
+-- ---- terms as parts
+
+both_true : (a b : Bool) → (a && b) ≡ true → (a ≡ true) × (b ≡ true)
+both_true true b e = (refl, e)
+both_true false b e = cc
+
+true_both : (a b : Bool) → a ≡ true → b ≡ true → (a && b) ≡ true
+true_both true b e f = f
+true_both false b e f = cc
+
+given_sound : (factor : ℕ) (ts : List (List ℕ)) → list_all is_given ts ≡ true → are_sound factor (term_trees ts) ≡ true
+given_sound factor [] e = refl
+given_sound factor (t ∷ ts) e = let here = both_true (is_given t) (list_all is_given ts) e in true_both (is_given t) (are_sound factor (term_trees ts)) here.0 (given_sound factor ts here.1)
+
+pub terms_sound : (factor window : ℕ) (ts : List (List ℕ)) → (is_window window && are_given ts) ≡ true → is_sound factor (Query.parts Form.And (term_trees ts)) ≡ true
+terms_sound factor window [] e = cc_empty (both_true (is_window window) false e).1
+  where
+    cc_empty : false ≡ true → is_sound factor (Query.parts Form.And Query.no_trees) ≡ true
+    cc_empty e = e
+terms_sound factor window (t ∷ ts) e =
+    let given = (both_true (is_window window) (are_given (t ∷ ts)) e).1 in
+    given_sound factor (t ∷ ts) (both_true true (list_all is_given (t ∷ ts)) given).1
+
+pub terms_some : (window : ℕ) (ts : List (List ℕ)) → (is_window window && are_given ts) ≡ true → 1 ≤ length ts
+terms_some window [] e = absurd (true≢false (sym (both_true (is_window window) false e).1))
+terms_some window (t ∷ ts) e = omega arith
+
+pub terms_wide : (window : ℕ) (ts : List (List ℕ)) → (is_window window && are_given ts) ≡ true → 1 ≤ window
+terms_wide window ts e = least (both_true (is_window window) (are_given ts) e).0
+  where
+    least : is_window window ≡ true → 1 ≤ window
+    least e = grind (arith, nat_tests)
+
+pub terms_leaves : (ts : List (List ℕ)) → leaves_in (term_trees ts) ≡ length ts
+terms_leaves [] = refl
+terms_leaves (t ∷ ts) = let more = terms_leaves ts in omega (arith, more)
+
+pub terms_size : (ts : List (List ℕ)) → parts_size (term_trees ts) ≡ length ts
+terms_size [] = refl
+terms_size (t ∷ ts) = let more = terms_size ts in omega (arith, more)
+
+pub terms_readings : (ts : List (List ℕ)) (docs : Docs) → leaves_readings (term_trees ts) docs ≡ lengths_of ts docs
+terms_readings [] docs = refl
+terms_readings (t ∷ ts) docs = let more = terms_readings ts docs in omega (arith, more)
+
+pub terms_ceils : (ts : List (List ℕ)) (scheme : Scheme) (factor : ℕ) (docs : Docs) → sum_in (ceils (term_trees ts) scheme factor docs) ≡ terms_ceil scheme factor ts docs
+terms_ceils [] scheme factor docs = refl
+terms_ceils (t ∷ ts) scheme factor docs = let more = terms_ceils ts scheme factor docs in omega (arith, more)
+
+pub walked_terms : (ts : List (List ℕ)) → Rattle.sk_nodes.specs.Walked.are_walked (term_trees ts) ≡ true
+walked_terms [] = refl
+walked_terms (t ∷ ts) = walked_terms ts
+
+-- ---- scores
+
+both_of : (b : Bool) (w : ℕ) (o : Option ℕ) (v : ℕ) → b ≡ true → o ≡ Some v → both (weight_if b w) o ≡ Some (w + v)
+both_of true w None v e f = cc
+both_of true w (Some u) v e f = cc
+both_of false w o v e f = cc
+
+all_scores : (scheme : Scheme) (factor : ℕ) (d : Document) (ts : List (List ℕ)) → Have d.terms ts → sum_of_all (scores (term_trees ts) scheme factor d) ≡ Some (terms_weight scheme factor ts d.terms)
+all_scores scheme factor d [] have = refl
+all_scores scheme factor d (t ∷ ts) have =
+    both_of (has_term t d.terms) (weigh_by factor scheme (wdf_of t d.terms)) (sum_of_all (scores (term_trees ts) scheme factor d)) (terms_weight scheme factor ts d.terms) have.0 (all_scores scheme factor d ts have.1)
+
+both_some : (b : Bool) (w : ℕ) (o : Option ℕ) (v : ℕ) → both (weight_if b w) o ≡ Some v → (b ≡ true) × (u : ℕ) × (o ≡ Some u)
+both_some true w None v e = cc
+both_some true w (Some u) v e = (refl, u, refl)
+both_some false w o v e = cc
+
+all_have : (scheme : Scheme) (factor v : ℕ) (d : Document) (ts : List (List ℕ)) → sum_of_all (scores (term_trees ts) scheme factor d) ≡ Some v → Have d.terms ts
+all_have scheme factor v d [] e = tt
+all_have scheme factor v d (t ∷ ts) e =
+    let some = both_some (has_term t d.terms) (weigh_by factor scheme (wdf_of t d.terms)) (sum_of_all (scores (term_trees ts) scheme factor d)) v e in
+    (some.0, all_have scheme factor some.1 d ts some.2)
+
+stand_have : (standing : Standing) (window : ℕ) (terms : List DocTerm) (ts : List (List ℕ)) → stand standing window (places_of ts terms) ≡ true → Have terms ts
+stand_have Standing.Near window terms ts e = near_have window terms ts e
+stand_have Standing.Phrase window terms ts e = phrase_have window terms ts e
+
+standing_score : (standing : Standing) (window : ℕ) (ts : List (List ℕ)) (scheme : Scheme) (factor : ℕ) (d : Document)
+    → score (standing_query standing window ts) scheme factor d ≡ weight_if (stand standing window (places_of ts d.terms)) (terms_weight scheme factor ts d.terms)
+standing_score Standing.Near window ts scheme factor d = refl
+standing_score Standing.Phrase window ts scheme factor d = refl
+
+tested_if : (b : Bool) (o : Option ℕ) (w : ℕ) → (b ≡ true → o ≡ Some w) → where_so b o ≡ weight_if b w
+tested_if true o w h = h refl
+tested_if false o w h = refl
+
+places_named : (f : ℕ → List ℕ) (ns : List ℕ) (d : Document) → map (λ n. term_positions (f n) (Some d)) ns ≡ places_of (map f ns) d.terms
+places_named f [] d = refl
+places_named f (n ∷ ns) d = ap (λ (ps : List (List ℕ)). positions_of (f n) d.terms ∷ ps) (places_named f ns d)
+
+-- an and of the terms, and a test of their positions
+pub standing_scores : (i : Indexed) (p : Proximity) (ts : List (List ℕ)) (scheme : Scheme) (factor id : ℕ) → map (term_at i.terms) p.numbers.items ≡ ts
+    → where_so (holds i p id) (joint_score_of Form.And (term_trees ts) scheme factor (document_at id i.live.documents)) ≡ score_of (standing_query p.standing p.window ts) scheme factor (document_at id i.live.documents)
+standing_scores i p ts scheme factor id named = by (document_at id i.live.documents)
+  where
+    none : (b : Bool) → where_so b None ≡ None
+    none true = refl
+    none false = refl
+
+    by : (o : Option Document) → where_so (stand p.standing p.window (map (λ n. term_positions (term_at i.terms n) o) p.numbers.items)) (joint_score_of Form.And (term_trees ts) scheme factor o)
+        ≡ score_of (standing_query p.standing p.window ts) scheme factor o
+    by None = none (stand p.standing p.window (map (λ n. term_positions (term_at i.terms n) None) p.numbers.items))
+    by (Some d) =
+        ap (λ (ps : List (List ℕ)). where_so (stand p.standing p.window ps) (sum_of_all (scores (term_trees ts) scheme factor d)))
+        (places_named (term_at i.terms) p.numbers.items d ∙ ap (λ (us : List (List ℕ)). places_of us d.terms) named)
+        ∙ tested_if (stand p.standing p.window (places_of ts d.terms)) (sum_of_all (scores (term_trees ts) scheme factor d)) (terms_weight scheme factor ts d.terms)
+        (λ e. all_scores scheme factor d ts (stand_have p.standing p.window d.terms ts e))
+        ∙ sym (standing_score p.standing p.window ts scheme factor d)
+
+-- ---- lists of terms that all are there
+
+has_at : (t : List ℕ) (o : Option Document) (d : Document) → o ≡ Some d → has_term t d.terms ≡ true → is_some (wdf_at t o) ≡ true
+has_at t None d e h = cc
+has_at t (Some c) d e h = by (has_term t c.terms) refl
+  where
+    same : c ≡ d
+    same = cc
+
+    by : (b : Bool) → has_term t c.terms ≡ b → is_some (if b then Some (wdf_of t c.terms) else None) ≡ true
+    by true g = refl
+    by false g = absurd (true≢false (sym h ∙ ap (λ (x : Document). has_term t x.terms) (sym same) ∙ g))
+
+in_all : (i : Indexed) (id : ℕ) (d : Document) (ns : List ℕ) → AreSorted i.live.documents → document_at id i.live.documents ≡ Some d → Have d.terms (map (term_at i.terms) ns) → IsInAll i id ns
+in_all i id d [] sorted e have = tt
+in_all i id d (n ∷ ns) sorted e have = (
+  ap is_some (found-postings (term_at i.terms n) 0 id i.live.documents sorted.rise) ∙ has_at (term_at i.terms n) (document_at id i.live.documents) d e have.0,
+  in_all i id d ns sorted e have.1,
+)
+
+-- what an and of the terms gives is in all their lists
+pub and_within : (i : Indexed) (ns : List ℕ) (ts : List (List ℕ)) (scheme : Scheme) (factor id w : ℕ) → AreSorted i.live.documents → map (term_at i.terms) ns ≡ ts
+    → joint_score_of Form.And (term_trees ts) scheme factor (document_at id i.live.documents) ≡ Some w → IsInAll i id ns
+and_within i ns ts scheme factor id w sorted named e = by (document_at id i.live.documents) refl e
+  where
+    by : (o : Option Document) → document_at id i.live.documents ≡ o → joint_score_of Form.And (term_trees ts) scheme factor o ≡ Some w → IsInAll i id ns
+    by None at g = cc
+    by (Some d) at g = in_all i id d ns sorted at (subst (λ (us : List (List ℕ)). Have d.terms us) (sym named) (all_have scheme factor w d ts g))
+
+-- ---- terms without a number
+
+some_number : (i : Indexed) (t : List ℕ) → is_some (number_of t i.terms) ≡ false → number_of t i.terms ≡ None
+some_number i t e = by (number_of t i.terms) refl
+  where
+    by : (o : Option ℕ) → number_of t i.terms ≡ o → o ≡ None
+    by None g = refl
+    by (Some n) g = absurd (true≢false (sym (ap is_some g) ∙ e))
+
+has_none : (t : List ℕ) (docs : Docs) (id : ℕ) (d : Document) → some_has t docs ≡ false → document_at id docs ≡ Some d → has_term t d.terms ≡ false
+has_none t [] id d none e = cc
+has_none t (one ∷ more) id d none e = by (Rattle.std.proofs.lemmas.Bool.cases_eq one.0 id)
+  where
+    front : (a b : Bool) → (Rattle.std.proofs.Common.cond a true b) ≡ false → (a ≡ false) × (b ≡ false)
+    front true b e = cc
+    front false b e = (refl, e)
+
+    parts : (has_term t one.1.terms ≡ false) × (some_has t more ≡ false)
+    parts = front (has_term t one.1.terms) (some_has t more) none
+
+    same_doc : Some one.1 ≡ Some d → one.1 ≡ d
+    same_doc g = cc
+
+    by : (one.0 ≡ id) Rattle.std.proofs.Common.⊎ (one.0 Rattle.std.proofs.Common.≢ id) → has_term t d.terms ≡ false
+    by (inl same) = ap (λ (x : Document). has_term t x.terms) (sym (same_doc (sym (found-here id one more same) ∙ e))) ∙ parts.0
+    by (inr other) = has_none t more id d parts.1 (sym (found-other id one more other) ∙ e)
+
+-- terms that a document has all have a number
+have_numbers : (i : Indexed) (id : ℕ) (d : Document) (ts : List (List ℕ)) → ((t : List ℕ) → number_of t i.terms ≡ None → some_has t i.live.documents ≡ false) → document_at id i.live.documents ≡ Some d
+    → Have d.terms ts → length (numbered i ts) ≡ length ts
+have_numbers i id d [] complete at have = refl
+have_numbers i id d (t ∷ ts) complete at have = by (is_some (number_of t i.terms)) refl
+  where
+    more : length (numbered i ts) ≡ length ts
+    more = have_numbers i id d ts complete at have.1
+
+    by : (b : Bool) → is_some (number_of t i.terms) ≡ b → length (cond b (t ∷ numbered i ts) (numbered i ts)) ≡ length (t ∷ ts)
+    by true e = omega (arith, more)
+    by false e = absurd (true≢false (sym have.0 ∙ has_none t i.live.documents id d (complete t (some_number i t e)) at))
+
+pub missing_none : (i : Indexed) (standing : Standing) (window : ℕ) (ts : List (List ℕ)) (scheme : Scheme) (factor id : ℕ) → ((t : List ℕ) → number_of t i.terms ≡ None → some_has t i.live.documents ≡ false)
+    → length (numbered i ts) < length ts → None ≡ score_of (standing_query standing window ts) scheme factor (document_at id i.live.documents)
+missing_none i standing window ts scheme factor id complete less = by (document_at id i.live.documents) refl
+  where
+    if_none : (b : Bool) (w : ℕ) → (b ≡ true → ⊥) → None ≡ weight_if b w
+    if_none true w h = absurd (h refl)
+    if_none false w h = refl
+
+    by : (o : Option Document) → document_at id i.live.documents ≡ o → None ≡ score_of (standing_query standing window ts) scheme factor o
+    by None at = refl
+    by (Some d) at =
+        if_none (stand standing window (places_of ts d.terms)) (terms_weight scheme factor ts d.terms)
+        (λ e. let all = have_numbers i id d ts complete at (stand_have standing window d.terms ts e) in omega (arith, all, less))
+        ∙ sym (standing_score standing window ts scheme factor d)
+
+numbered_less : (i : Indexed) (ts : List (List ℕ)) → length (numbered i ts) ≤ length ts
+numbered_less i [] = omega arith
+numbered_less i (t ∷ ts) = by (is_some (number_of t i.terms))
+  where
+    by : (b : Bool) → length (cond b (t ∷ numbered i ts) (numbered i ts)) ≤ length (t ∷ ts)
+    by true = omega (arith, numbered_less i ts)
+    by false = omega (arith, numbered_less i ts)
+
+pub numbered_all : (i : Indexed) (ts : List (List ℕ)) → length ts ≤ length (numbered i ts) → numbered i ts ≡ ts
+numbered_all i [] le = refl
+numbered_all i (t ∷ ts) le = by (is_some (number_of t i.terms)) le
+  where
+    by : (b : Bool) → length (t ∷ ts) ≤ length (cond b (t ∷ numbered i ts) (numbered i ts)) → cond b (t ∷ numbered i ts) (numbered i ts) ≡ t ∷ ts
+    by true h = ap (λ (us : List (List ℕ)). t ∷ us) (numbered_all i ts (omega (arith, h)))
+    by false h = absurd (omega (arith, h, numbered_less i ts))
+
+-- ---- lengths
+
+from_zero : (es : Postings) → from 0 es ≡ es
+from_zero [] = refl
+from_zero (e ∷ es) = from-at 0 e es (omega arith)
+
+pub entries_all : (i : Indexed) (ns : List ℕ) → entries_from i 0 ns ≡ lengths_of (map (term_at i.terms) ns) i.live.documents
+entries_all i [] = refl
+entries_all i (n ∷ ns) =
+    let more = entries_all i ns in
+    let one : length (from 0 (list_in i (Some n))) ≡ length_of (term_at i.terms n) i.live.documents = ap length (from_zero (list_in i (Some n))) ∙ length-postings (term_at i.terms n) i.live.documents in
+    omega (arith, more, one)

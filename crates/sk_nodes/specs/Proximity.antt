@@ -1,0 +1,68 @@
+-- Terms that have to stand near, or as a phrase.
+use Rattle.std.specs.Prelude.{◌≡◌, ◌≤◌, ◌<◌, ◌+◌, ◌^◌, ℕ, Bool, true, List, [], ◌∷◌, length, map, filter, is_some, Option, None, Some}
+use Rattle.sk_sorted.specs.Entries.{AreSorted, from, has}
+use Rattle.sk_dict.specs.Terms.{term_at, number_of}
+use Rattle.sk_query.specs.Trees as Query
+use Rattle.sk_model.specs.Edits.{document_at}
+use Rattle.sk_model.specs.Positions.{is_near, is_phrase}
+use Rattle.sk_index.specs.Indexed.{Indexed, term_positions}
+use Rattle.sk_nodes.specs.declared.proximity.Standing.{Standing}
+use Rattle.sk_nodes.specs.declared.proximity.Proximity.{Proximity}
+use Rattle.sk_nodes.specs.Leaves.{list_in}
+
+-- The query of terms that stand so.
+abbrev pub standing_query : Standing → ℕ → List (List ℕ) → Query.Tree
+standing_query Standing.Near window ts = Query.near window ts
+standing_query Standing.Phrase window ts = Query.phrase window ts
+
+-- Whether these positions stand so.
+abbrev pub stand : Standing → ℕ → List (List ℕ) → Bool
+stand Standing.Near window places = is_near window places
+stand Standing.Phrase window places = is_phrase window places
+
+-- The positions of the terms with these numbers in a document.
+abbrev pub positions_at : Indexed → List ℕ → ℕ → List (List ℕ)
+positions_at i ns id = map (λ n. term_positions (term_at i.terms n) (document_at id i.live.documents)) ns
+
+-- Whether the terms stand so in a document.
+abbrev pub holds : Indexed → Proximity → ℕ → Bool
+holds i p id = stand p.standing p.window (positions_at i p.numbers.items id)
+
+-- How many entries the lists of these terms have from an id on.
+abbrev pub entries_from : Indexed → ℕ → List ℕ → ℕ
+entries_from i next [] = 0
+entries_from i next (n ∷ ns) = length (from next (list_in i (Some n))) + entries_from i next ns
+
+-- The numbers were given for terms.
+abbrev pub AreThere : Indexed → List ℕ → Type 0
+AreThere i [] = Unit {0}
+AreThere i (n ∷ ns) = (n < length i.terms) × AreThere i ns
+
+-- The lists of these terms are in order.
+abbrev pub AreInOrder : Indexed → List ℕ → Type 0
+AreInOrder i [] = Unit {0}
+AreInOrder i (n ∷ ns) = AreSorted (list_in i (Some n)) × AreInOrder i ns
+
+-- The document is in the lists of all these terms.
+abbrev pub IsInAll : Indexed → ℕ → List ℕ → Type 0
+IsInAll i id [] = Unit {0}
+IsInAll i id (n ∷ ns) = (has id (list_in i (Some n)) ≡ true) × IsInAll i id ns
+
+-- Documents can be tested.
+pub record CanTest (i : Indexed) (p : Proximity) : Type 0 where
+  pub some : 1 ≤ length p.numbers.items
+  pub wide : 1 ≤ p.window
+  pub marks : length p.numbers.items ≤ length p.marks.items
+  pub there : AreThere i p.numbers.items
+  pub sorted : AreInOrder i p.numbers.items
+
+-- The test is the same.
+pub record IsSameTest (old new : Proximity) : Type 0 where
+  pub standing : new.standing ≡ old.standing
+  pub window : new.window ≡ old.window
+  pub numbers : new.numbers.items ≡ old.numbers.items
+  pub marks : length new.marks.items ≡ length old.marks.items
+
+-- Those of these terms that have a number.
+abbrev pub numbered : Indexed → List (List ℕ) → List (List ℕ)
+numbered i ts = filter (λ t. is_some (number_of t i.terms)) ts

@@ -1,0 +1,90 @@
+//! Terms that have to stand near, or as a phrase.
+ghost use Rattle.std.specs.Prelude.{◌≡◌, ◌≤◌, ◌<◌, ◌+◌, ◌^◌, true, max, length};
+ghost use Rattle.sk_nodes.specs.Proximity.{stand, positions_at, holds, entries_from, AreThere, IsInAll, CanTest, IsSameTest};
+
+use sk_base::DocId;
+use sk_index::Index;
+use sk_near::{near, phrase};
+use sk_steps::Steps;
+use std::sync::ledger::Ledger;
+
+/// How terms have to stand.
+#[derive(Clone, Copy, Debug)]
+pub(crate) enum Standing {
+    Near,
+    Phrase,
+}
+
+/// A test of documents that have all of some terms, by their numbers: whether these stand so. All documents before `next`
+/// were tested. The marks are memory for a place of each term.
+#[derive(Drop)]
+pub(crate) struct Proximity {
+    pub standing: Standing,
+    pub window: u32,
+    pub numbers: Vec<usize>,
+    pub marks: Vec<u32>,
+    pub next: u64,
+}
+
+impl Proximity {
+    /// Whether the terms stand so in the document, which has them all. It reads the positions of each term once, and
+    /// those of a document before `next` not again.
+    pub fn holds<L: Ledger>(
+        &mut self,
+        index: &Index,
+        head: u64,
+        spent: &mut u128,
+        steps: &mut Steps<L>,
+    ) -> bool
+        requires test { CanTest index.now self.old }
+        requires head { head < 2 ^ 32 }
+        requires all { IsInAll index.now head self.old.numbers.items }
+        requires known { head < self.old.next → holds index.now self.old head ≡ true }
+        requires room { spent.old + entries_from index.now self.old.next self.old.numbers.items < 2 ^ 128 }
+        ensures value { result ≡ holds index.now self.old head }
+        ensures same { IsSameTest self.old self.new }
+        ensures next { self.new.next ≡ max self.old.next (head + 1) }
+        ensures paid { spent.new + entries_from index.now self.new.next self.old.numbers.items ≤ spent.old + entries_from index.now self.old.next self.old.numbers.items }
+        ensures counted { steps.new + spent.old ≡ steps.old + spent.new }
+        ensures later { spent.old ≤ spent.new }
+    {
+        if head < self.next {
+            return true;
+        }
+        self.next = head + 1;
+        *spent += self.numbers.len() as u128;
+        stand_so(
+            self.standing,
+            self.window,
+            self.numbers.as_slice(),
+            self.marks.as_mut_slice(),
+            index,
+            head as DocId,
+            steps,
+        )
+    }
+}
+
+// Whether the terms stand so in the document, by their positions, which are read once.
+fn stand_so<L: Ledger>(
+    standing: Standing,
+    window: u32,
+    numbers: &[usize],
+    marks: &mut [u32],
+    index: &Index,
+    id: DocId,
+    steps: &mut Steps<L>,
+) -> bool
+    requires some { 1 ≤ length numbers.now }
+    requires wide { 1 ≤ window }
+    requires marks { length numbers.now ≤ length marks.old }
+    requires there { AreThere index.now numbers.now }
+    ensures value { result ≡ stand standing window (positions_at index.now numbers.now id) }
+    ensures cost { steps.new ≡ steps.old + length numbers.now }
+{
+    let places = index.all_places(numbers, id, steps);
+    match standing {
+        Standing::Near => near(&places, window, marks),
+        Standing::Phrase => phrase(&places, window, marks),
+    }
+}
