@@ -29,7 +29,7 @@ use crate::node::Node;
 use crate::proximity::{Proximity, Standing};
 use crate::synonym::{open_synonym, open_wildcard};
 use crate::top::Top;
-use crate::words::{add_lengths, all_of, numbers_of, raise};
+use crate::words::{add_lengths, numbers_of, raise, terms_of};
 use sk_base::{Scheme, Term, Text};
 use sk_index::Index;
 use sk_query::{Form, Query};
@@ -171,8 +171,18 @@ fn open_standing<L: Ledger>(
     if numbers.len() < words.len() {
         return Ok((Top::ended(), Node::Nothing));
     }
-    let all = all_of(alloc, words)?;
-    let (below, node) = open_node(alloc, index, &all, scheme, factor, most, spent, steps)?;
+    let terms = terms_of(alloc, words)?;
+    let (below, node) = open_parts(
+        alloc,
+        index,
+        Form::And,
+        terms.as_slice(),
+        scheme,
+        factor,
+        most,
+        spent,
+        steps,
+    )?;
     add_lengths(index, numbers.as_slice(), most)?;
     let marks = Vec::from_elem(alloc, 0, numbers.len())?;
     let test = Proximity {
