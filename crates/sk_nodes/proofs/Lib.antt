@@ -3,6 +3,7 @@ pub mod NodeLaws
 pub mod TreeLaws
 pub mod WalkedLaws
 pub mod ListLaws
+pub mod SpanLaws
 pub mod OpenLaws
 pub mod SynonymLaws
 pub mod OddLaws

@@ -52,12 +52,12 @@ abbrev pub wdf_at : List ℕ → Option Document → Option ℕ
 wdf_at t None = None
 wdf_at t (Some d) = if has_term t d.terms then Some (wdf_of t d.terms) else None
 
-found_cons : (id : ℕ) (one : ℕ × Document) (w : ℕ) (b : Bool) (es : Postings) → found id es ≡ None → one.0 ≡ id
+pub found_cons : (id : ℕ) (one : ℕ × Document) (w : ℕ) (b : Bool) (es : Postings) → found id es ≡ None → one.0 ≡ id
     → found id (cons_option (if b then Some (one.0, w) else None) es) ≡ (if b then Some w else None)
 found_cons id one w true es none same = found-here id (one.0, w) es same
 found_cons id one w false es none same = none
 
-found_skip : (id : ℕ) (one : ℕ × Document) (w : ℕ) (b : Bool) (es : Postings) → one.0 ≢ id → found id (cons_option (if b then Some (one.0, w) else None) es) ≡ found id es
+pub found_skip : (id : ℕ) (one : ℕ × Document) (w : ℕ) (b : Bool) (es : Postings) → one.0 ≢ id → found id (cons_option (if b then Some (one.0, w) else None) es) ≡ found id es
 found_skip id one w true es other = found-other id (one.0, w) es other
 found_skip id one w false es other = refl
 

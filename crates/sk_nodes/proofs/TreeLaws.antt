@@ -17,7 +17,7 @@ use Rattle.sk_decay.proofs.SideLaws.{paired-none}
 use Rattle.sk_decay.specs.Sides.{paired}
 use Rattle.sk_nodes.specs.declared.top.Top.{Top}
 use Rattle.sk_nodes.specs.Proximity.{holds}
-use Rattle.sk_nodes.specs.Shapes.{Shape, ended, leaf, pair, odd, tested, Sides, no_sides, side}
+use Rattle.sk_nodes.specs.Shapes.{Shape, ended, leaf, span, pair, odd, tested, Sides, no_sides, side}
 use Rattle.sk_nodes.specs.Left.{rest, rests, from_on}
 use Rattle.sk_nodes.specs.Sound.{IsTop, Sound, AreSound}
 use Rattle.sk_nodes.specs.Built.{weighed_ids, first_weight}
@@ -72,6 +72,7 @@ mutual
   pub rest-live : (i : Indexed) (s : Shape) → Sound i s → (id : ℕ) → document_at id i.live.documents ≡ None → rest i s id ≡ None
   rest-live i ended sound id none = refl
   rest-live i (leaf l) sound id none = sound.live id none
+  rest-live i (span r) sound id none = sound.live id none
   rest-live i (pair form ta a tb b) sound id none =
       ap (λ o. paired form o (rest i b id)) (rest-live i a sound.first_sound id none) ∙ ap (paired form None) (rest-live i b sound.second_sound id none) ∙ paired-none form
   rest-live i (odd ss) sound id none = none_odd (rests i ss id) (rests-live i ss sound.sides id none)

@@ -5,7 +5,8 @@ use Rattle.sk_model.specs.Combining.{combined, where_so}
 use Rattle.sk_index.specs.Indexed.{Indexed}
 use Rattle.sk_decay.specs.Sides.{paired, greatest_under}
 use Rattle.sk_nodes.specs.Leaves.{leaf_rest, leaf_unread}
-use Rattle.sk_nodes.specs.Shapes.{Shape, ended, leaf, pair, odd, tested, Sides, no_sides, side}
+use Rattle.sk_nodes.specs.Span.{span_rest, span_unread}
+use Rattle.sk_nodes.specs.Shapes.{Shape, ended, leaf, span, pair, odd, tested, Sides, no_sides, side}
 use Rattle.sk_nodes.specs.Proximity.{holds, entries_from}
 
 abbrev mutual
@@ -13,6 +14,7 @@ abbrev mutual
   pub rest : Indexed → Shape → ℕ → Option ℕ
   rest i ended id = None
   rest i (leaf l) id = leaf_rest i l id
+  rest i (span r) id = span_rest i r id
   rest i (pair form ta a tb b) id = paired form (rest i a id) (rest i b id)
   rest i (odd ss) id = combined Form.Xor (rests i ss id)
   rest i (tested p t s) id = where_so (holds i p id) (rest i s id)
@@ -27,6 +29,7 @@ abbrev mutual
   pub unread_of : Indexed → Shape → ℕ
   unread_of i ended = 0
   unread_of i (leaf l) = leaf_unread i l
+  unread_of i (span r) = span_unread i r
   unread_of i (pair form ta a tb b) = unread_of i a + unread_of i b
   unread_of i (odd ss) = unread_in i ss
   unread_of i (tested p t s) = unread_of i s + entries_from i p.next p.numbers.items
@@ -45,6 +48,7 @@ greatest_sum (side t s ss) = t.greatest + greatest_sum ss
 abbrev pub greatest_in : Shape → ℕ
 greatest_in ended = 0
 greatest_in (leaf l) = l.greatest
+greatest_in (span r) = 0
 greatest_in (pair form ta a tb b) = greatest_under form ta.greatest tb.greatest
 greatest_in (odd ss) = greatest_sum ss
 greatest_in (tested p t s) = t.greatest

@@ -3,15 +3,17 @@ use Rattle.std.specs.Prelude.{ℕ, ◌+◌, List, [], ◌∷◌, map}
 use Rattle.sk_query.specs.declared.form.Form.{Form}
 use Rattle.sk_nodes.specs.declared.top.Top.{Top}
 use Rattle.sk_nodes.specs.declared.leaf.Leaf.{Leaf}
+use Rattle.sk_nodes.specs.declared.span.Span.{Span}
 use Rattle.sk_nodes.specs.declared.proximity.Proximity.{Proximity}
 use Rattle.sk_nodes.specs.declared.node.Node.{Node, fold-Node}
 use Rattle.sk_nodes.specs.declared.node.Node.TheOpen.{Node-F}
 
 mutual
-  -- A node: nothing, a leaf, two sides with their tops under a form, the sides of an xor, or a test of what a node gives, with its top.
+  -- A node: nothing, a leaf, the values in a range, two sides with their tops under a form, the sides of an xor, or a test of what a node gives, with its top.
   pub data Shape : Type 0 where
     ended : Shape
     leaf : Leaf → Shape
+    span : Span → Shape
     pair : Form → Top → Shape → Top → Shape → Shape
     odd : Sides → Shape
     tested : Proximity → Top → Shape → Shape
@@ -31,6 +33,7 @@ sides_of (t ∷ ts) (s ∷ ss) = side t s (sides_of ts ss)
 abbrev pub node_step : Node-F Shape → Shape
 node_step Node-F.Nothing = ended
 node_step (Node-F.Leaf l) = leaf l
+node_step (Node-F.Span r) = span r
 node_step (Node-F.Pair form ta a tb b) = pair form ta a.value tb b.value
 node_step (Node-F.Odd tops nodes) = odd (sides_of tops.items nodes.items)
 node_step (Node-F.Tested p t s) = tested p t s.value
@@ -48,6 +51,7 @@ abbrev mutual
   pub size_of : Shape → ℕ
   size_of ended = 1
   size_of (leaf l) = 1
+  size_of (span r) = 1
   size_of (pair form ta a tb b) = 1 + (size_of a + size_of b)
   size_of (odd ss) = 1 + sizes_in ss
   size_of (tested p t s) = 1 + size_of s

@@ -5,9 +5,10 @@ use Rattle.sk_model.specs.Covers.{Covers}
 use Rattle.sk_decay.specs.Heads.{IsHead}
 use Rattle.sk_nodes.specs.declared.top.Top.{Top}
 use Rattle.sk_nodes.specs.Leaves.{AtMost, IsLeafOn}
+use Rattle.sk_nodes.specs.Span.{IsSpanOn}
 use Rattle.sk_nodes.specs.declared.proximity.Proximity.{Proximity}
 use Rattle.sk_nodes.specs.Proximity.{holds, IsInAll, CanTest}
-use Rattle.sk_nodes.specs.Shapes.{Shape, ended, leaf, pair, odd, tested, Sides, no_sides, side, size_of}
+use Rattle.sk_nodes.specs.Shapes.{Shape, ended, leaf, span, pair, odd, tested, Sides, no_sides, side, size_of}
 use Rattle.sk_nodes.specs.Left.{rest, unread_of, greatest_sum, greatest_in}
 
 -- A node's head, and how much it can weigh, are those of what it still gives.
@@ -51,6 +52,7 @@ abbrev mutual
   pub Sound : Indexed → Shape → Type 0
   Sound i ended = Unit {0}
   Sound i (leaf l) = IsLeafOn i l
+  Sound i (span r) = IsSpanOn i r
   Sound i (pair form ta a tb b) = IsPair i ta a tb b (Sound i a) (Sound i b)
   Sound i (odd ss) = IsOdd ss (AreSound i ss)
   Sound i (tested p t s) = IsTested i p t s (Sound i s)

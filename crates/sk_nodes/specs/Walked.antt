@@ -8,7 +8,7 @@ count_in no_trees = 0
 count_in (tree t ts) = 1 + count_in ts
 
 abbrev mutual
-  -- All forms of a query but range.
+  -- Each form of a query.
   pub is_walked : Tree → Bool
   is_walked nothing = true
   is_walked all = true
@@ -19,7 +19,7 @@ abbrev mutual
   is_walked (phrase window ts) = true
   is_walked (synonym ts) = true
   is_walked (scale f t) = is_walked t
-  is_walked (range slot lo hi) = false
+  is_walked (range slot lo hi) = true
 
   pub are_walked : Trees → Bool
   are_walked no_trees = true

@@ -7,6 +7,8 @@ mod node;
 mod odd;
 mod opening;
 mod proximity;
+mod ranges;
+mod span;
 mod synonym;
 mod top;
 mod tree;

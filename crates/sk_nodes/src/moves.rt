@@ -83,6 +83,7 @@ fn seek<L: Ledger>(
     match node {
         Node::Nothing => *top = Top::ended(),
         Node::Leaf(leaf) => leaf.seek(top, index, target, need, spent, steps),
+        Node::Span(span) => span.seek(top, index, target, spent, steps),
         Node::Pair(form, ta, a, tb, b) => seek_pair(
             top, *form, ta, a, tb, b, index, target, need, spent, steps,
         ),

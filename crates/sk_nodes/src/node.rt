@@ -5,6 +5,7 @@ ghost use Rattle.sk_nodes.specs.Sound.{Sound, Decays};
 
 use crate::leaf::Leaf;
 use crate::proximity::Proximity;
+use crate::span::Span;
 use crate::top::{END, Top};
 use sk_decay::{Change, rule};
 use sk_index::Index;
@@ -17,6 +18,7 @@ use std::mem;
 pub(crate) enum Node {
     Nothing,
     Leaf(Leaf),
+    Span(Span),
     Pair(Form, Top, Box<Node>, Top, Box<Node>),
     Odd(Vec<Top>, Vec<Node>),
     Tested(Proximity, Top, Box<Node>),
@@ -40,6 +42,7 @@ fn is_settled(node: &Node, need: u64) -> bool {
     match node {
         Node::Nothing => true,
         Node::Leaf(_) => true,
+        Node::Span(_) => true,
         Node::Pair(_, ta, _, tb, _) => {
             ta.head < END && tb.head < END && need <= ta.greatest && need <= tb.greatest
         }
@@ -56,6 +59,7 @@ fn decay(node: &mut Node, _index: &Index, need: u64)
     match node {
         Node::Nothing => {}
         Node::Leaf(_) => {}
+        Node::Span(_) => {}
         Node::Odd(_, _) => {}
         Node::Tested(_, _, _) => {}
         Node::Pair(form, ta, a, tb, b) => {

@@ -27,6 +27,7 @@ use crate::leaf::{Leaf, list_length};
 use crate::moves::{seek_odd, seek_pair, seek_tested};
 use crate::node::Node;
 use crate::proximity::{Proximity, Standing};
+use crate::ranges::open_range;
 use crate::synonym::{open_synonym, open_wildcard};
 use crate::top::Top;
 use crate::words::{add_lengths, numbers_of, raise, terms_of};
@@ -134,6 +135,9 @@ pub(crate) fn open_node<L: Ledger>(
                 alloc, index, query, prefix, scheme, factor, most, spent, steps,
             )
         }
+        Query::Range(slot, lo, hi) => open_range(
+            alloc, index, *slot, lo, hi, scheme, factor, most, spent, steps,
+        ),
         _ => Err(AllocError),
     }
 }

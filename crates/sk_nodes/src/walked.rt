@@ -13,7 +13,7 @@ pub fn is_walked(query: &Query) -> bool
     match query {
         Query::Nothing | Query::All | Query::Term(_) | Query::Synonym(_) => true,
         Query::Wildcard(_) | Query::Near(_, _) | Query::Phrase(_, _) => true,
-        Query::Range(_, _, _) => false,
+        Query::Range(_, _, _) => true,
         Query::And(parts)
         | Query::Or(parts)
         | Query::Xor(parts)

@@ -74,6 +74,13 @@ impl RangeCursor {
         self.head
     }
 
+    /// How many entries it has come past, be it by reading them or by passing over them.
+    pub fn passed(&self) -> u32
+        ensures { (list : SlotValues) → IsOn self.now list → result + length (unread self.now list) ≡ length list }
+    {
+        self.read
+    }
+
     fn is_below(&self, target: DocId) -> bool
         ensures { result ≡ is_head_below target self.now.head }
     {

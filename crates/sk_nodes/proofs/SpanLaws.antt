@@ -1,0 +1,323 @@
+-- The values of a slot that lie in a range, as what documents score.
+use Rattle.std.proofs.Common.{◌≡◌, ◌≢◌, ◌<◌, ◌≤◌, ◌+◌, ◌^◌, ℕ, Bool, true, false, not, cond, if◌then◌else◌, ◌||◌, ◌&&◌, ◌==◌, nat_lt, List, [], ◌∷◌, length, map, filter, count_by, Option, Some, None, unwrap_or, option_map, inl, inr, refl, sym, subst, ap, ◌∙◌, arith, rules, true≢false, le_refl}
+use Rattle.std.specs.List.{cons_option}
+use Rattle.std.specs.Cmp.{upto}
+use Rattle.std.specs.Cmp.Lexicographic.{slice_cmp, nat_list_cmp_total}
+use Rattle.std.specs.Ordering.{nat_cmp, is_le, is_gt}
+use Rattle.std.specs.declared.cmp.Ordering.{Ordering}
+use Rattle.std.specs.declared.cmp.Ordering.TheVariants.{Less, Equal, Greater}
+use Rattle.std.proofs.lemmas.Bool.{cases_eq, cases_lt}
+use Rattle.std.proofs.lemmas.List.Sums.{sum_by-cons}
+use Rattle.sk_base.specs.declared.doc_entry.SlotValue.{SlotValue}
+use Rattle.sk_base.specs.declared.find.Scheme.{Scheme}
+use Rattle.sk_base.specs.Documents.{value_in, has_value}
+use Rattle.sk_base.specs.Numbers.{Docs, slot_length_of}
+use Rattle.sk_sorted.specs.Entries.{RiseAbove, LieBelow, AreSorted, found, from, first_id}
+use Rattle.sk_sorted.proofs.EntryLaws.{RiseAbove-lower, from-below, from-at, found-here, found-other, found-below}
+use Rattle.sk_lists.specs.Postings.{Postings, first_wdf}
+use Rattle.sk_values.specs.SlotValues.{SlotValues}
+use Rattle.sk_values.specs.RangeCursor.{in_range, left, IsOn}
+use Rattle.sk_query.specs.Trees as Query
+use Rattle.sk_model.specs.Ranges.{end_of, is_from, is_to, is_within, is_crossed}
+use Rattle.sk_model.specs.Documents.{Document}
+use Rattle.sk_model.specs.Edits.{document_at}
+use Rattle.sk_model.specs.Weights.{weigh_by}
+use Rattle.sk_model.specs.Scores.{weight_if}
+use Rattle.sk_model.specs.Covers.{Covers}
+use Rattle.sk_index.specs.Indexed.{Indexed, slot_values}
+use Rattle.sk_decay.specs.Heads.{IsHead}
+use Rattle.sk_nodes.specs.declared.top.Top.{Top}
+use Rattle.sk_nodes.specs.declared.span.Span.{Span}
+use Rattle.sk_nodes.specs.declared.node.Node.{the_lemmas}
+use Rattle.sk_nodes.specs.declared.node.Node.TheVariants as Node
+use Rattle.sk_nodes.specs.Leaves.{weighed, head_of, AtMost}
+use Rattle.sk_nodes.specs.Shapes.{Shape, span, shape_of}
+use Rattle.sk_nodes.specs.Left.{from_on}
+use Rattle.sk_nodes.specs.Sound.{IsTop}
+use Rattle.sk_nodes.specs.Span.{unweighed, span_entries, span_rest, IsSpanOn}
+use Rattle.sk_nodes.specs.Opened.{score_of, Opens}
+use Rattle.sk_nodes.specs.Passes.{Passes}
+use Rattle.sk_nodes.proofs.LeafLaws.{weighed-head, weighed-none, Passes-covers, Passes-from, head_of-Some, head_of-reached, RiseAbove-behind, from_on-none, covers_none}
+use Rattle.sk_nodes.proofs.ListLaws.{found_cons, found_skip}
+
+-- ---- entries without weight
+
+first_unweighed : (es : SlotValues) → first_id (unweighed es) ≡ first_id es
+first_unweighed [] = refl
+first_unweighed (e ∷ es) = refl
+
+first_zero : (es : SlotValues) → 0 ≡ first_wdf (unweighed es)
+first_zero [] = refl
+first_zero (e ∷ es) = refl
+
+from_unweighed : (target : ℕ) (es : SlotValues) → unweighed (from target es) ≡ from target (unweighed es)
+from_unweighed target [] = refl
+from_unweighed target (e ∷ es) = by (nat_lt e.0 target) (from_unweighed target es)
+  where
+    by : (b : Bool) → unweighed (from target es) ≡ from target (unweighed es) → unweighed (if b then from target es else e ∷ es) ≡ (if b then from target (unweighed es) else (e.0, 0) ∷ unweighed es)
+    by true more = more
+    by false more = refl
+
+rise_in : (lo hi : Option (List ℕ)) (low : ℕ) (es : SlotValues) → RiseAbove low es → RiseAbove low (unweighed (in_range lo hi es))
+rise_in lo hi low [] up = tt
+rise_in lo hi low (e ∷ es) up = by (is_within lo hi e.1) (rise_in lo hi e.0 es up.1)
+  where
+    by : (b : Bool) → RiseAbove e.0 (unweighed (in_range lo hi es)) → RiseAbove low (unweighed (cond b (e ∷ in_range lo hi es) (in_range lo hi es)))
+    by true more = (up.0, more)
+    by false more = RiseAbove-lower low e.0 (unweighed (in_range lo hi es)) (omega (arith, up.0)) more
+
+below_in : (lo hi : Option (List ℕ)) (high : ℕ) (es : SlotValues) → LieBelow high es → LieBelow high (unweighed (in_range lo hi es))
+below_in lo hi high [] lie = tt
+below_in lo hi high (e ∷ es) lie = by (is_within lo hi e.1) (below_in lo hi high es lie.1)
+  where
+    by : (b : Bool) → LieBelow high (unweighed (in_range lo hi es)) → LieBelow high (unweighed (cond b (e ∷ in_range lo hi es) (in_range lo hi es)))
+    by true more = (lie.0, more)
+    by false more = more
+
+pub sorted_in : (lo hi : Option (List ℕ)) (es : SlotValues) → AreSorted es → AreSorted (unweighed (in_range lo hi es))
+sorted_in lo hi es sorted = record { rise = rise_in lo hi 0 es sorted.rise; small = below_in lo hi (2 ^ 32) es sorted.small }
+
+below_from : (target high : ℕ) (es : Postings) → LieBelow high es → LieBelow high (from target es)
+below_from target high [] lie = tt
+below_from target high (e ∷ es) lie = by (nat_lt e.0 target) (below_from target high es lie.1)
+  where
+    by : (b : Bool) → LieBelow high (from target es) → LieBelow high (if b then from target es else e ∷ es)
+    by true more = more
+    by false more = lie
+
+sorted_from : (target : ℕ) (es : Postings) → AreSorted es → AreSorted (from target es)
+sorted_from target es sorted =
+    let passes = Passes-from target 0 es in
+    record {
+      rise = RiseAbove-behind 0 passes.passed (from target es) (subst (λ (ps : Postings). RiseAbove 0 ps) passes.is sorted.rise);
+      small = below_from target (2 ^ 32) es sorted.small;
+    }
+
+-- ---- the values of a slot, by rising ids
+
+rise_slot : (slot low : ℕ) (docs : Docs) → RiseAbove low docs → RiseAbove low (slot_values slot docs)
+rise_slot slot low [] up = tt
+rise_slot slot low (one ∷ more) up = by (has_value slot one.1.values) (rise_slot slot one.0 more up.1)
+  where
+    by : (b : Bool) → RiseAbove one.0 (slot_values slot more) → RiseAbove low (cons_option (if b then Some (one.0, value_in slot one.1.values) else None) (slot_values slot more))
+    by true rise = (up.0, rise)
+    by false rise = RiseAbove-lower low one.0 (slot_values slot more) (omega (arith, up.0)) rise
+
+below_slot : (slot high : ℕ) (docs : Docs) → LieBelow high docs → LieBelow high (slot_values slot docs)
+below_slot slot high [] lie = tt
+below_slot slot high (one ∷ more) lie = by (has_value slot one.1.values) (below_slot slot high more lie.1)
+  where
+    by : (b : Bool) → LieBelow high (slot_values slot more) → LieBelow high (cons_option (if b then Some (one.0, value_in slot one.1.values) else None) (slot_values slot more))
+    by true below = (lie.0, below)
+    by false below = below
+
+sorted_slot : (slot : ℕ) (docs : Docs) → AreSorted docs → AreSorted (slot_values slot docs)
+sorted_slot slot docs sorted = record { rise = rise_slot slot 0 docs sorted.rise; small = below_slot slot (2 ^ 32) docs sorted.small }
+
+-- ---- documents whose value lies in the range
+
+-- a value that is not empty stands in its slot
+valued : (slot : ℕ) (values : List SlotValue) → nat_lt 0 (length (value_in slot values)) ≡ true → has_value slot values ≡ true
+valued slot [] e = absurd (true≢false (sym e))
+valued slot (one ∷ more) e =
+    elim (one.slot == slot) as (λ b. nat_lt 0 (length (if b then one.value else value_in slot more)) ≡ true → (b || has_value slot more) ≡ true) [
+      | true ↦ λ h. refl
+      | false ↦ λ h. valued slot more h
+    ] e
+
+first_so : (a b : Bool) → (a && b) ≡ true → a ≡ true
+first_so true b e = refl
+first_so false b e = cc
+
+valued_within : (lo hi : Option (List ℕ)) (slot : ℕ) (values : List SlotValue) → is_within lo hi (value_in slot values) ≡ true → has_value slot values ≡ true
+valued_within lo hi slot values e = valued slot values (first_so (nat_lt 0 (length (value_in slot values))) (is_from lo (value_in slot values) && is_to hi (value_in slot values)) e)
+
+abbrev range_at : Option (List ℕ) → Option (List ℕ) → ℕ → Option Document → Option ℕ
+range_at lo hi slot None = None
+range_at lo hi slot (Some d) = if is_within lo hi (value_in slot d.values) then Some 0 else None
+
+one_in : (lo hi : Option (List ℕ)) (slot : ℕ) (one : ℕ × Document) (es : SlotValues)
+    → unweighed (in_range lo hi (cons_option (if has_value slot one.1.values then Some (one.0, value_in slot one.1.values) else None) es))
+    ≡ cons_option (if is_within lo hi (value_in slot one.1.values) then Some (one.0, 0) else None) (unweighed (in_range lo hi es))
+one_in lo hi slot one es = by (has_value slot one.1.values) (is_within lo hi (value_in slot one.1.values)) refl refl
+  where
+    v : List ℕ
+    v = value_in slot one.1.values
+
+    cut : (w : Bool) → unweighed (cond w ((one.0, v) ∷ in_range lo hi es) (in_range lo hi es)) ≡ cons_option (if w then Some (one.0, 0) else None) (unweighed (in_range lo hi es))
+    cut true = refl
+    cut false = refl
+
+    by : (b w : Bool) → has_value slot one.1.values ≡ b → is_within lo hi v ≡ w
+        → unweighed (in_range lo hi (cons_option (if b then Some (one.0, v) else None) es)) ≡ cons_option (if is_within lo hi v then Some (one.0, 0) else None) (unweighed (in_range lo hi es))
+    by true w e f = cut (is_within lo hi v)
+    by false true e f = absurd (true≢false (sym (valued_within lo hi slot one.1.values f) ∙ e))
+    by false false e f = sym (ap (λ (c : Bool). cons_option (if c then Some (one.0, 0) else None) (unweighed (in_range lo hi es))) f)
+
+range_found : (lo hi : Option (List ℕ)) (slot low id : ℕ) (docs : Docs) → RiseAbove low docs → found id (unweighed (in_range lo hi (slot_values slot docs))) ≡ range_at lo hi slot (document_at id docs)
+range_found lo hi slot low id [] up = refl
+range_found lo hi slot low id (one ∷ more) up =
+    ap (found id) (one_in lo hi slot one (slot_values slot more))
+    ∙ elim (cases_eq one.0 id) as (λ _. found id (cons_option (if is_within lo hi (value_in slot one.1.values) then Some (one.0, 0) else None) (unweighed (in_range lo hi (slot_values slot more)))) ≡ range_at lo hi slot (document_at id (one ∷ more))) [
+      | inl same ↦
+          found_cons id one 0 (is_within lo hi (value_in slot one.1.values)) (unweighed (in_range lo hi (slot_values slot more)))
+          (range_found lo hi slot one.0 id more up.1 ∙ ap (range_at lo hi slot) (found-below one.0 id more (omega (arith, same)) up.1)) same
+          ∙ sym (ap (range_at lo hi slot) (found-here id one more same))
+      | inr other ↦
+          found_skip id one 0 (is_within lo hi (value_in slot one.1.values)) (unweighed (in_range lo hi (slot_values slot more))) other
+          ∙ range_found lo hi slot one.0 id more up.1 ∙ sym (ap (range_at lo hi slot) (found-other id one more other))
+    ]
+
+no_weight : (w : ℕ) → weigh_by 0 Scheme.Bool w ≡ 0
+no_weight w = omega arith
+
+-- the entries in the range give what the documents score
+pub range_scores : (lo hi : Query.Limit) (slot : ℕ) (scheme : Scheme) (factor id : ℕ) (docs : Docs) → AreSorted docs
+    → weighed 0 Scheme.Bool (unweighed (in_range (end_of lo) (end_of hi) (slot_values slot docs))) id ≡ score_of (Query.range slot lo hi) scheme factor (document_at id docs)
+range_scores lo hi slot scheme factor id docs sorted =
+    ap (option_map (weigh_by 0 Scheme.Bool)) (range_found (end_of lo) (end_of hi) slot 0 id docs sorted.rise) ∙ by (document_at id docs)
+  where
+    if_so : (b : Bool) → option_map (weigh_by 0 Scheme.Bool) (if b then Some 0 else None) ≡ weight_if b 0
+    if_so true = ap Some (no_weight 0)
+    if_so false = refl
+
+    by : (o : Option Document) → option_map (weigh_by 0 Scheme.Bool) (range_at (end_of lo) (end_of hi) slot o) ≡ score_of (Query.range slot lo hi) scheme factor o
+    by None = refl
+    by (Some d) = if_so (is_within (end_of lo) (end_of hi) (value_in slot d.values))
+
+pub range_live : (lo hi : Option (List ℕ)) (slot id : ℕ) (docs : Docs) → AreSorted docs → document_at id docs ≡ None → weighed 0 Scheme.Bool (unweighed (in_range lo hi (slot_values slot docs))) id ≡ None
+range_live lo hi slot id docs sorted none =
+    weighed-none 0 Scheme.Bool id (unweighed (in_range lo hi (slot_values slot docs))) (range_found lo hi slot 0 id docs sorted.rise ∙ ap (range_at lo hi slot) none)
+
+counted : {P : Type 0} (b : Bool) (p : P) (ps : List P) (n : ℕ) → length ps ≡ n → length (cons_option (if b then Some p else None) ps) ≡ cond b 1 0 + n
+counted true p ps n e = omega (arith, e)
+counted false p ps n e = omega (arith, e)
+
+pub length-slot : (slot : ℕ) (docs : Docs) → length (slot_values slot docs) ≡ slot_length_of slot docs
+length-slot slot [] = refl
+length-slot slot (one ∷ more) =
+    counted (has_value slot one.1.values) (one.0, value_in slot one.1.values) (slot_values slot more) (slot_length_of slot more) (length-slot slot more)
+    ∙ sym (sum_by-cons (λ (x : ℕ × Document). cond (has_value slot x.1.values) 1 0) one more)
+
+-- ---- ends that are crossed
+
+le_not_gt : (r : Ordering) → is_le r ≡ true → is_gt r ≡ false
+le_not_gt Less e = refl
+le_not_gt Equal e = refl
+le_not_gt Greater e = absurd (true≢false (sym e))
+
+not_gt_le : (r : Ordering) → is_gt r ≡ false → is_le r ≡ true
+not_gt_le Less e = refl
+not_gt_le Equal e = refl
+not_gt_le Greater e = absurd (true≢false e)
+
+from_through : (lo : Option (List ℕ)) (v b : List ℕ) → is_from lo v ≡ true → is_le (slice_cmp nat_cmp v b) ≡ true → is_from lo b ≡ true
+from_through None v b h g = refl
+from_through (Some lo) v b h g = not_gt_le (slice_cmp nat_cmp lo b) (upto nat_list_cmp_total lo v b (le_not_gt (slice_cmp nat_cmp lo v) h) (le_not_gt (slice_cmp nat_cmp v b) g))
+
+crossed_none : (lo hi : Option (List ℕ)) (v : List ℕ) → is_crossed lo hi ≡ true → is_within lo hi v ≡ false
+crossed_none lo None v e = absurd (true≢false (sym e))
+crossed_none lo (Some hi) v e = by (is_within lo (Some hi) v) refl
+  where
+    parts : (a b c : Bool) → (a && (b && c)) ≡ true → (b ≡ true) × (c ≡ true)
+    parts true true c g = (refl, g)
+    parts true false c g = cc
+    parts false b c g = cc
+
+    by : (w : Bool) → is_within lo (Some hi) v ≡ w → w ≡ false
+    by false g = refl
+    by true g =
+        let both = parts (nat_lt 0 (length v)) (is_from lo v) (is_le (slice_cmp nat_cmp v hi)) g in
+        absurd (true≢false (sym e ∙ ap not (from_through lo v hi both.0 both.1)))
+
+pub crossed_scores : (lo hi : Query.Limit) (slot : ℕ) (scheme : Scheme) (factor : ℕ) (o : Option Document) → is_crossed (end_of lo) (end_of hi) ≡ true → None ≡ score_of (Query.range slot lo hi) scheme factor o
+crossed_scores lo hi slot scheme factor None e = refl
+crossed_scores lo hi slot scheme factor (Some d) e = sym (ap (λ b. weight_if b 0) (crossed_none (end_of lo) (end_of hi) (value_in slot d.values) e))
+
+-- ---- a span
+
+none_past : (es : Postings) (id : ℕ) → None ≡ first_id es → found id es ≡ None
+none_past [] id e = refl
+none_past (p ∷ ps) id e = cc
+
+zero_bound : (es : Postings) → AtMost 0 (weighed 0 Scheme.Bool es)
+zero_bound es id = by (found id es)
+  where
+    by : (o : Option ℕ) → unwrap_or (option_map (weigh_by 0 Scheme.Bool) o) 0 ≤ 0
+    by None = omega arith
+    by (Some w) = omega (arith, no_weight w)
+
+pub span_top : (i : Indexed) (r : Span) (head : ℕ) → IsHead head 0 (span_rest i r) → IsTop i (record { head = head; weight = 0; greatest = 0 }) (span r)
+span_top i r head is = record {
+  head = is;
+  bound = zero_bound (span_entries i r);
+  summed = λ lt. omega arith;
+  closed = λ end. refl;
+}
+
+pub span_head : (i : Indexed) (r : Span) (id : ℕ) → IsSpanOn i r → Some id ≡ first_id (left r.cursor (slot_values r.slot i.live.documents)) → IsHead id 0 (span_rest i r)
+span_head i r id on e =
+    let es = left r.cursor (slot_values r.slot i.live.documents) in
+    subst (λ w. IsHead id w (span_rest i r)) (no_weight 0) (weighed-head 0 Scheme.Bool id 0 (span_entries i r) on.sorted (e ∙ sym (first_unweighed es)) (first_zero es))
+
+pub span_ended : (i : Indexed) (r : Span) → None ≡ first_id (left r.cursor (slot_values r.slot i.live.documents)) → IsHead (2 ^ 32) 0 (span_rest i r)
+span_ended i r e =
+    let es = left r.cursor (slot_values r.slot i.live.documents) in
+    let gone : (id : ℕ) → span_rest i r id ≡ None = λ id. weighed-none 0 Scheme.Bool id (span_entries i r) (none_past (span_entries i r) id (e ∙ sym (first_unweighed es))) in
+    record { within = le_refl (2 ^ 32); below = λ id lt. gone id; at = λ lt. absurd (omega (arith, lt)); past = λ id le. gone id; ended = λ same. refl }
+
+pub span_at : (i : Indexed) (r : Span) (id : ℕ) → Some id ≡ first_id (left r.cursor (slot_values r.slot i.live.documents)) → id ≡ head_of (span_entries i r)
+span_at i r id e = head_of-Some id (span_entries i r) (e ∙ sym (first_unweighed (left r.cursor (slot_values r.slot i.live.documents))))
+
+pub span_at_end : (i : Indexed) (r : Span) → None ≡ first_id (left r.cursor (slot_values r.slot i.live.documents)) → 2 ^ 32 ≡ head_of (span_entries i r)
+span_at_end i r e = by (span_entries i r) (e ∙ sym (first_unweighed (left r.cursor (slot_values r.slot i.live.documents))))
+  where
+    by : (es : Postings) → None ≡ first_id es → 2 ^ 32 ≡ head_of es
+    by [] f = refl
+    by (p ∷ ps) f = cc
+
+-- the cursor moved on
+module _ (i : Indexed) (old new : Span) (target : ℕ) (slot : new.slot ≡ old.slot) (on : IsSpanOn i old) (moved : IsOn new.cursor (slot_values old.slot i.live.documents))
+    (e : left new.cursor (slot_values old.slot i.live.documents) ≡ from target (left old.cursor (slot_values old.slot i.live.documents))) where
+  entries : span_entries i new ≡ from target (span_entries i old)
+  entries = ap (λ s. unweighed (left new.cursor (slot_values s i.live.documents))) slot ∙ ap unweighed e ∙ from_unweighed target (left old.cursor (slot_values old.slot i.live.documents))
+
+  pub span_covers : (need : ℕ) → Covers (from_on target (span_rest i old)) (span_rest i new) need
+  span_covers need =
+      subst (λ (es : Postings). Covers (from_on target (span_rest i old)) (weighed 0 Scheme.Bool es) need) (sym entries)
+      (Passes-covers 0 Scheme.Bool 0 need target (span_entries i old) (from target (span_entries i old)) (λ w lt. absurd (omega (arith, lt))) on.sorted (Passes-from target 0 (span_entries i old)))
+
+  pub span_moved : IsSpanOn i new
+  span_moved = record {
+    on = subst (λ s. IsOn new.cursor (slot_values s i.live.documents)) (sym slot) moved;
+    sorted = subst (λ (es : Postings). AreSorted es) (sym entries) (sorted_from target (span_entries i old) on.sorted);
+    live = λ id none. covers_none (from_on target (span_rest i old) id) (span_rest i new id) 0 (from_on-none target (span_rest i old) id (on.live id none)) (span_covers 0 id);
+  }
+
+  pub span_reached : target < 2 ^ 32 → target ≤ head_of (span_entries i new)
+  span_reached lt =
+      subst (λ (es : Postings). target ≤ head_of es) (sym entries) (head_of-reached target (from target (span_entries i old)) lt (Passes-from target 0 (span_entries i old)).reached)
+
+pub span_opened : (i : Indexed) (r : Span) (lo hi : Option (List ℕ)) → IsOn r.cursor (slot_values r.slot i.live.documents) → left r.cursor (slot_values r.slot i.live.documents) ≡ in_range lo hi (slot_values r.slot i.live.documents)
+    → AreSorted i.live.documents → IsSpanOn i r
+span_opened i r lo hi on e documents = record {
+  on = on;
+  sorted = subst (λ (es : SlotValues). AreSorted (unweighed es)) (sym e) (sorted_in lo hi (slot_values r.slot i.live.documents) (sorted_slot r.slot i.live.documents documents));
+  live = λ id none. ap (λ (es : SlotValues). weighed 0 Scheme.Bool (unweighed es) id) e ∙ range_live lo hi r.slot id i.live.documents documents none;
+}
+
+pub shape_of-Span : (r : Span) → shape_of (Node.Span r) ≡ span r
+shape_of-Span r = search (rules, the_lemmas)
+
+-- a span that gives the entries in the range gives what the documents score
+pub span_opens : (i : Indexed) (t : Top) (r : Span) (s : Shape) (lo hi : Query.Limit) (slot : ℕ) (scheme : Scheme) (factor : ℕ) → s ≡ span r → IsTop i t (span r) → IsSpanOn i r → t.greatest ≡ 0 → AreSorted i.live.documents
+    → ((id : ℕ) → span_rest i r id ≡ weighed 0 Scheme.Bool (unweighed (in_range (end_of lo) (end_of hi) (slot_values slot i.live.documents))) id)
+    → Opens i t s (score_of (Query.range slot lo hi) scheme factor) 0
+span_opens i t r s lo hi slot scheme factor shape top on greatest documents gives =
+    subst (λ (u : Shape). Opens i t u (score_of (Query.range slot lo hi) scheme factor) 0) (sym shape)
+    (record {
+      top = top;
+      sound = on;
+      gives = λ id. gives id ∙ range_scores lo hi slot scheme factor id i.live.documents documents;
+      ceiling = omega (arith, greatest);
+    })

@@ -1,0 +1,35 @@
+-- The entries in the range give what the documents score.
+use Rattle.std.proofs.Common.{◌≡◌, ◌≤◌, ◌+◌, ℕ, length, refl, sym, subst, ap, ◌∙◌, arith, Option, List}
+use Rattle.sk_base.specs.declared.find.Scheme.{Scheme}
+use Rattle.sk_base.specs.Numbers.{slot_length_of}
+use Rattle.sk_values.specs.RangeCursor.{in_range}
+use Rattle.sk_query.specs.Trees.{limit_of}
+use Rattle.sk_model.specs.Ranges.{end_of}
+use Rattle.sk_model.specs.Edits.{document_at}
+use Rattle.sk_index.specs.Indexed.{slot_values}
+use Rattle.sk_nodes.specs.Leaves.{weighed}
+use Rattle.sk_nodes.specs.Span.{unweighed, span_rest}
+use Rattle.sk_nodes.proofs.NodeLaws.{shape_of-Nothing}
+use Rattle.sk_nodes.proofs.ListLaws.{nothing_opened}
+use Rattle.sk_nodes.proofs.SpanLaws.{length-slot, crossed_scores, shape_of-Span, span_opens}
+use Rattle.sk_nodes.proofs.ranges.open_range.Goals as goal
+
+pub returns-then-is_crossed-clause-opens : goal.returns-then-is_crossed-clause-opens
+returns-then-is_crossed-clause-opens g c =
+    nothing_opened c.args.index.now c.ended.result _ _ _ c.ended.ensures shape_of-Nothing
+    (λ id. crossed_scores (limit_of c.args.lo.now) (limit_of c.args.hi.now) c.args.slot c.args.scheme c.args._factor (document_at id c.args.index.now.live.documents) (sym c.is_crossed.ensures ∙ c.if-is_crossed.true))
+
+pub returns-clause-opens : goal.returns-clause-opens
+returns-clause-opens g c =
+    let i = c.args.index.now in
+    let r = c.open-span.result in
+    span_opens i c.open-span.new.top r _ (limit_of c.args.lo.now) (limit_of c.args.hi.now) c.args.slot c.args.scheme c.args._factor (shape_of-Span r)
+    c.open-span.ensures.top c.open-span.ensures.sound c.open-span.ensures.ceiling c.requires.documents
+    (λ id. subst (λ (hi : Option (List ℕ)). span_rest i r id ≡ weighed 0 Scheme.Bool (unweighed (in_range (end_of (limit_of c.args.lo.now)) hi (slot_values c.args.slot i.live.documents))) id) c.in_ok-hi.ensures
+    (subst (λ (lo : Option (List ℕ)). span_rest i r id ≡ weighed 0 Scheme.Bool (unweighed (in_range lo c.in_ok-hi.hi (slot_values c.args.slot i.live.documents))) id) c.in_ok-lo.ensures (c.open-span.ensures.gives id)))
+
+pub returns-clause-within : goal.returns-clause-within
+returns-clause-within g c =
+    let i = c.args.index.now in
+    let long : length c.values.result.now ≡ slot_length_of c.args.slot i.live.documents = ap length c.values.ensures ∙ length-slot c.args.slot i.live.documents in
+    omega (arith, long, c.length.ensures.value, c.in_ok-raise.ensures.ok)

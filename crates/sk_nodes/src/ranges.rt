@@ -1,0 +1,74 @@
+//! How the node of a range is opened.
+ghost use Rattle.std.specs.Prelude.{◌≡◌, ◌≤◌, ◌<◌, ◌+◌, ◌^◌, IfOk};
+ghost use Rattle.sk_base.specs.Numbers.{slot_length_of};
+ghost use Rattle.sk_sorted.specs.Entries.{AreSorted};
+ghost use Rattle.sk_query.specs.Trees as QueryTree;
+ghost use Rattle.sk_query.specs.Trees.{limit_of};
+ghost use Rattle.sk_model.specs.Ranges.{end_of};
+ghost use Rattle.sk_nodes.specs.Shapes.{shape_of};
+ghost use Rattle.sk_nodes.specs.Left.{unread_of};
+ghost use Rattle.sk_nodes.specs.Opened.{score_of, Opens};
+
+use crate::node::Node;
+use crate::span::Span;
+use crate::top::Top;
+use crate::words::raise;
+use sk_base::{Bytes, Scheme, number_bytes};
+use sk_index::Index;
+use sk_query::Bound;
+use sk_steps::Steps;
+use sk_weight::is_crossed;
+use std::alloc::{AllocError, Global};
+use std::sync::ledger::Ledger;
+
+/// The node of a range: nothing, and no step, where the lower end lies above the upper one.
+pub(crate) fn open_range<L: Ledger>(
+    alloc: Global,
+    index: &Index,
+    slot: u32,
+    lo: &Bound,
+    hi: &Bound,
+    scheme: Scheme,
+    _factor: u64,
+    most: &mut u128,
+    spent: &mut u128,
+    steps: &mut Steps<L>,
+) -> Result<(Top, Node), AllocError>
+    requires documents { AreSorted index.now.live.documents }
+    requires room { spent.old ≤ most.old }
+    requires small { most.old < 2 ^ 128 }
+    ensures opens { IfOk result (λ p. Opens index.now p.0 (shape_of p.1) (score_of (QueryTree.range slot (limit_of lo.now) (limit_of hi.now)) scheme _factor) 0) }
+    ensures paid { IfOk result (λ p. spent.new + unread_of index.now (shape_of p.1) + most.old ≤ spent.old + most.new) }
+    ensures within { IfOk result (λ p. most.new ≤ most.old + slot_length_of slot index.now.live.documents) }
+    ensures counted { steps.new + spent.old ≡ steps.old + spent.new }
+    ensures later { spent.old ≤ spent.new }
+    ensures room { IfOk result (λ p. spent.new ≤ most.new) }
+    ensures small { most.new < 2 ^ 128 }
+{
+    if is_crossed(lo, hi) {
+        return Ok((Top::ended(), Node::Nothing));
+    }
+    let lo = end_bytes(alloc, lo)?;
+    let hi = end_bytes(alloc, hi)?;
+    raise(most, index.values(slot).length())?;
+    let mut top = Top::ended();
+    let span = Span::open(&mut top, index, slot, lo, hi, spent, steps);
+    Ok((top, Node::Span(span)))
+}
+
+/// The bytes of an end that is not open.
+fn end_bytes(alloc: Global, bound: &Bound) -> Result<Option<Bytes>, AllocError>
+    ensures { IfOk result (λ b. b ≡ end_of (limit_of bound.now)) }
+{
+    match bound {
+        Bound::Unbounded => Ok(None),
+        Bound::Number(n) => {
+            let bytes = Bytes::new(alloc, &number_bytes(*n))?;
+            Ok(Some(bytes))
+        }
+        Bound::Text(text) => {
+            let bytes = Bytes::new(alloc, text.as_str().as_bytes())?;
+            Ok(Some(bytes))
+        }
+    }
+}

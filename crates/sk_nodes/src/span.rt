@@ -1,0 +1,101 @@
+//! The documents whose value in a slot lies in a range.
+ghost use Rattle.std.specs.Prelude.{◌≡◌, ◌≤◌, ◌<◌, ◌+◌, ◌^◌, ℕ, length};
+ghost use Rattle.sk_base.specs.declared.find.Scheme.{Scheme};
+ghost use Rattle.sk_sorted.specs.Entries.{AreSorted};
+ghost use Rattle.sk_values.specs.RangeCursor.{in_range};
+ghost use Rattle.sk_model.specs.Covers.{Covers};
+ghost use Rattle.sk_index.specs.Indexed.{Indexed, slot_values};
+ghost use Rattle.sk_nodes.specs.Leaves.{weighed, head_of};
+ghost use Rattle.sk_nodes.specs.Shapes as Shapes;
+ghost use Rattle.sk_nodes.specs.Left.{from_on};
+ghost use Rattle.sk_nodes.specs.Sound.{IsTop};
+ghost use Rattle.sk_nodes.specs.Span.{unweighed, span_entries, span_rest, span_unread, IsSpanOn};
+
+use crate::top::{END, Top};
+use sk_base::Bytes;
+use sk_index::Index;
+use sk_steps::Steps;
+use sk_values::RangeCursor;
+use std::sync::ledger::Ledger;
+
+/// The list of a slot, and a place in it.
+#[derive(Drop)]
+pub(crate) struct Span {
+    slot: u32,
+    cursor: RangeCursor,
+}
+
+impl Span {
+    /// A span on the first value in its range, with its top.
+    pub fn open<L: Ledger>(
+        top: &mut Top,
+        index: &Index,
+        slot: u32,
+        lo: Option<Bytes>,
+        hi: Option<Bytes>,
+        spent: &mut u128,
+        steps: &mut Steps<L>,
+    ) -> Span
+        requires documents { AreSorted index.now.live.documents }
+        requires room { spent.old + length (slot_values slot index.now.live.documents) < 2 ^ 128 }
+        ensures sound { IsSpanOn index.now result }
+        ensures top { IsTop index.now top.new (Shapes.span result) }
+        ensures gives { (id : ℕ) → span_rest index.now result id ≡ weighed 0 Scheme.Bool (unweighed (in_range lo hi (slot_values slot index.now.live.documents))) id }
+        ensures ceiling { top.new.greatest ≡ 0 }
+        ensures paid { spent.new + span_unread index.now result ≤ spent.old + length (slot_values slot index.now.live.documents) }
+        ensures counted { steps.new + spent.old ≡ steps.old + spent.new }
+        ensures later { spent.old ≤ spent.new }
+    {
+        let list = index.values(slot);
+        let span = Span {
+            slot,
+            cursor: RangeCursor::open(list, lo, hi, steps),
+        };
+        *spent += u128::from(span.cursor.passed());
+        span.show(top);
+        span
+    }
+
+    /// Moves on to the first value in the range from the target on.
+    pub fn seek<L: Ledger>(
+        &mut self,
+        top: &mut Top,
+        index: &Index,
+        target: u64,
+        spent: &mut u128,
+        steps: &mut Steps<L>,
+    )
+        requires sound { IsSpanOn index.now self.old }
+        requires target { target < 2 ^ 32 }
+        requires room { spent.old + span_unread index.now self.old < 2 ^ 128 }
+        ensures sound { IsSpanOn index.now self.new }
+        ensures top { IsTop index.now top.new (Shapes.span self.new) }
+        ensures covers { (need : ℕ) → Covers (from_on target (span_rest index.now self.old)) (span_rest index.now self.new) need }
+        ensures reached { target ≤ top.new.head }
+        ensures paid { spent.new + span_unread index.now self.new ≤ spent.old + span_unread index.now self.old }
+        ensures counted { steps.new + spent.old ≡ steps.old + spent.new }
+        ensures later { spent.old ≤ spent.new }
+    {
+        let list = index.values(self.slot);
+        let read = self.cursor.seek(list, target as u32, steps);
+        *spent += u128::from(read);
+        self.show(top);
+    }
+
+    // Writes where it stands.
+    fn show(&self, top: &mut Top)
+        ensures top { (i : Indexed) → IsSpanOn i self.now → IsTop i top.new (Shapes.span self.now) }
+        ensures at { (i : Indexed) → IsSpanOn i self.now → top.new.head ≡ head_of (span_entries i self.now) }
+        ensures ceiling { top.new.greatest ≡ 0 }
+    {
+        let head = match self.cursor.head() {
+            Some(id) => u64::from(id),
+            None => END,
+        };
+        *top = Top {
+            head,
+            weight: 0,
+            greatest: 0,
+        };
+    }
+}
