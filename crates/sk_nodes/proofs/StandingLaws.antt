@@ -31,7 +31,7 @@ use Rattle.sk_nodes.specs.Leaves.{list_in}
 use Rattle.sk_nodes.specs.Shapes.{Shape}
 use Rattle.sk_nodes.specs.Left.{rest}
 use Rattle.sk_nodes.specs.Sound.{IsTop, Sound, IsTested}
-use Rattle.sk_nodes.specs.Opened.{score_of, joint_score_of, parts_size, term_trees, AreParts, Opens}
+use Rattle.sk_nodes.specs.Opened.{count_in, score_of, joint_score_of, parts_size, term_trees, AreParts, Opens}
 use Rattle.sk_nodes.specs.Proximity.{standing_query, stand, positions_at, holds, entries_from, numbered, AreThere, AreInOrder, IsInAll, CanTest}
 use Rattle.sk_nodes.proofs.ListLaws.{wdf_at, found-postings, length-postings}
 
@@ -75,11 +75,7 @@ pub terms_ceils : (ts : List (List ℕ)) (scheme : Scheme) (factor : ℕ) (docs 
 terms_ceils [] scheme factor docs = refl
 terms_ceils (t ∷ ts) scheme factor docs = let more = terms_ceils ts scheme factor docs in omega (arith, more)
 
-walked_terms : (ts : List (List ℕ)) → Rattle.sk_nodes.specs.Walked.are_walked (term_trees ts) ≡ true
-walked_terms [] = refl
-walked_terms (t ∷ ts) = walked_terms ts
-
-count_terms : (ts : List (List ℕ)) → Rattle.sk_nodes.specs.Walked.count_in (term_trees ts) ≡ length ts
+count_terms : (ts : List (List ℕ)) → count_in (term_trees ts) ≡ length ts
 count_terms [] = refl
 count_terms (t ∷ ts) = let more = count_terms ts in omega (arith, more)
 
@@ -88,7 +84,6 @@ terms_are factor window ts e few = record {
   some = omega (arith, count_terms ts, terms_some window ts e);
   sound = sound ts e;
   leaves = omega (arith, terms_leaves ts, few);
-  walked = walked_terms ts;
 }
   where
     sound : (ts : List (List ℕ)) → (is_window window && are_given ts) ≡ true → are_sound factor (term_trees ts) ≡ true
