@@ -114,7 +114,12 @@ pub record TestSoFar (i : Indexed) (target need from : ℕ) (p0 : Proximity) (t0
 
 pub test_begun : (i : Indexed) (target need : ℕ) (p : Proximity) (t : Top) (s : Shape) → target < 2 ^ 32 → IsTested i p t s (Sound i s) → TestSoFar i target need target p t s p t s
 test_begun i target need p t s lt is = record {
-  test = is.test; top = is.top; sound = is.sound; within = is.within; ahead = is.ahead; small = is.small;
+  test = is.test;
+  top = is.top;
+  sound = is.sound;
+  within = is.within;
+  ahead = is.ahead;
+  small = is.small;
   known = λ le. is.known;
   covers = λ id. covers_itself (from_on target (rest i (tested p t s)) id) need;
   bound = lt;
@@ -163,7 +168,10 @@ module _ (i : Indexed) (target need from : ℕ) (p0 : Proximity) (t0 : Top) (s0 
     -- it passed the test
     pub passed_sound : holds i p t2.head ≡ true → IsTested i q t2 s2 (Sound i s2)
     passed_sound passes = record {
-      test = same_can i p q same far.test; top = top; sound = sound; within = q_all;
+      test = same_can i p q same far.test;
+      top = top;
+      sound = sound;
+      within = q_all;
       ahead = omega (arith, next, moved_ahead);
       small = omega (arith, next, far.small, lt);
       known = λ less. same_holds i p q t2.head same ∙ passes;
@@ -200,7 +208,10 @@ module _ (i : Indexed) (target need from : ℕ) (p0 : Proximity) (t0 : Top) (s0 
 
     pub failed_more : holds i p t2.head ≡ false → t2.head + 1 < 2 ^ 32 → TestSoFar i target need (t2.head + 1) p0 t0 s0 q t2 s2
     failed_more fails less = record {
-      test = same_can i p q same far.test; top = top; sound = sound; within = q_all;
+      test = same_can i p q same far.test;
+      top = top;
+      sound = sound;
+      within = q_all;
       ahead = omega (arith, next, moved_ahead);
       small = omega (arith, next, far.small, lt);
       known = λ le. absurd (omega (arith, le));

@@ -152,21 +152,9 @@ fn open_joint<L: Ledger>(
         return open_one(index, numbers, scheme, factor, most, spent, steps);
     }
     let (front, back) = split_numbers(index, numbers, scheme, factor);
-    let (ta, a) = open_joint(
-        alloc, index, front, scheme, factor, most, spent, steps,
-    )?;
+    let (ta, a) = open_joint(alloc, index, front, scheme, factor, most, spent, steps)?;
     let (tb, b) = open_joint(alloc, index, back, scheme, factor, most, spent, steps)?;
-    let (top, node) = pair_of(
-        alloc,
-        index,
-        joint_form(scheme),
-        ta,
-        a,
-        tb,
-        b,
-        spent,
-        steps,
-    )?;
+    let (top, node) = pair_of(alloc, index, joint_form(scheme), ta, a, tb, b, spent, steps)?;
     Ok((capped(top, MOST_WEIGHT), node))
 }
 

@@ -291,7 +291,7 @@ seek_tested-tests-preserved g t c =
     let same : entries_from i c.holds.new.self.next c.holds.new.self.numbers.items ≡ entries_from i c.holds.new.self.next c.tests.test.numbers.items = ap (entries_from i c.holds.new.self.next) c.holds.ensures.same.numbers in
     record {
       far = failed_more i c.args.target c.args.need c.tests.from c.args.test.now c.args.below.now (shape_of c.args.node.now) c.tests.test c.tests.below (shape_of c.tests.node) c.reach.new.top (shape_of c.reach.new.node)
-    c.tests.invariant.far c.reach.ensures.top c.reach.ensures.sound c.reach.ensures.reached c.reach.ensures.falls c.reach.ensures.smaller c.reach.ensures.covers c.holds.new.self c.holds.ensures.same c.holds.ensures.next (omega (arith, c.if-below-ge-END.false)) (sym c.holds.ensures.value ∙ c.if-holds.false) (omega (arith, c.if-from-ge-END.false));
+          c.tests.invariant.far c.reach.ensures.top c.reach.ensures.sound c.reach.ensures.reached c.reach.ensures.falls c.reach.ensures.smaller c.reach.ensures.covers c.holds.new.self c.holds.ensures.same c.holds.ensures.next (omega (arith, c.if-below-ge-END.false)) (sym c.holds.ensures.value ∙ c.if-holds.false) (omega (arith, c.if-from-ge-END.false));
       paid = omega (arith, same, c.reach.ensures.paid, c.holds.ensures.paid, c.tests.invariant.paid);
       counted = omega (arith, c.reach.ensures.counted, c.holds.ensures.counted, c.tests.invariant.counted);
       later = omega (arith, c.reach.ensures.later, c.holds.ensures.later, c.tests.invariant.later);
