@@ -5,13 +5,12 @@
 ghost use Rattle.std.specs.Prelude.{◌≡◌, ◌≤◌, true};
 ghost use Rattle.sk_query.specs.Trees.{query_view};
 ghost use Rattle.sk_query.specs.Fits.{fits_tree};
-ghost use Rattle.sk_nodes.specs.Walked.{is_walked};
 
 use sk_base::{
     Edit, Entry, Field, FieldKind, FieldValue, Items, Record, Schema, Scheme, Term, Text,
 };
 use sk_index::Index;
-use sk_nodes::{Tree, is_walked};
+use sk_nodes::Tree;
 use sk_query::Query;
 use sk_steps::Steps;
 use std::alloc::{AllocError, Global};
@@ -95,7 +94,6 @@ fn walk<L: Ledger>(
     steps: &mut Steps<L>,
 ) -> Result<u64, AllocError>
     requires fits { fits_tree (query_view query.now) ≡ true }
-    requires walked { is_walked (query_view query.now) ≡ true }
 {
     let mut tree = Tree::open(alloc, index, query, Scheme::Nnn, steps)?;
     let mut sum = 0u64;
@@ -128,9 +126,6 @@ fn rounds_of<L: Ledger>(
     let index = filled(alloc, n)?;
     let query = query(alloc, form)?;
     if !query.fits() {
-        return Err(AllocError);
-    }
-    if !is_walked(&query) {
         return Err(AllocError);
     }
     let mut sum = 0u64;

@@ -21,4 +21,4 @@ FoundFor false query find live answer = answer ≡ Response.Refused Refusal.BadS
 
 -- What a find is answered under these fields and over these live documents: a report that it may have, where its text or its tree is a query of a form that is built, and else a refusal.
 abbrev pub Shows : List Field → Find → Live → Response FindAnswer → Type 0
-Shows fields find live answer = AnswersAsk (λ query found. FoundFor (is_built query find) query find live found) (asked fields find.ask) answer
+Shows fields find live answer = AnswersAsk (λ query found. FoundFor (is_built find) query find live found) (asked fields find.ask) answer

@@ -1,17 +1,16 @@
 //! A program: from its arguments to the number that it ends with.
 ghost use Rattle.std.specs.Prelude.{◌≡◌};
-ghost use Rattle.sk_run.specs.Started.{Around, RanFrom, Started};
+ghost use Rattle.sk_run.specs.Started.{Around, Started};
 ghost use Rattle.sk_engine.specs.SessionRan.{SessionRan};
 
-use crate::{Status, run};
+use crate::{Session, Status};
 use sk_io::{Sink, Source};
-use sk_run::{conclude, words_of};
-use sk_steps::Steps;
 use std::alloc::Global;
 use std::sync::ledger::{Blank, Ledger};
 
-/// Runs what the arguments of a program ask for, under a counter of its own, and answers the number that the program ends
-/// with. Why a run did not come to its end is said on `errors`; `usage` is said of words that are no form.
+/// Runs what the arguments of a program ask for, under a counter of its own, and answers the number that the
+/// program ends with. Why a run did not come to its end is said on `errors`; `usage` is said of words that are no
+/// form.
 pub fn start<S: Source, R: Source, K: Sink, E: Sink, L: Ledger>(
     blank: Blank,
     alloc: Global,
@@ -31,35 +30,5 @@ pub fn start<S: Source, R: Source, K: Sink, E: Sink, L: Ledger>(
         (E.held errors.old) (E.faults errors.old) (E.held errors.new) (E.faults errors.new) }
     ensures records { records.new ≡ records.old }
 {
-    let mut steps = Steps::<L>::open(blank);
-    let status = status_of(alloc, arguments, input, records, output, &mut steps);
-    conclude(status, usage, errors)
-}
-
-/// The status of a run, where the arguments were read.
-fn status_of<S: Source, R: Source, K: Sink, L: Ledger>(
-    alloc: Global,
-    arguments: Result<Vec<String>, Status>,
-    input: &mut S,
-    records: &mut R,
-    output: &mut K,
-    steps: &mut Steps<L>,
-) -> Status
-    requires { steps.old ≡ 0 }
-    ensures ran { RanFrom SessionRan arguments result
-        (record { left = S.left input.old; read_faults = S.faults input.old; held = K.held output.old; write_faults = K.faults output.old; settled = K.settled output.old; finishes = K.finishes output.old })
-        (record { left = S.left input.new; read_faults = S.faults input.new; held = K.held output.new; write_faults = K.faults output.new; settled = K.settled output.new; finishes = K.finishes output.new }) }
-    ensures records { records.new ≡ records.old }
-{
-    match arguments {
-        Ok(arguments) => run(
-            alloc,
-            words_of(arguments.as_slice()),
-            input,
-            records,
-            output,
-            steps,
-        ),
-        Err(status) => status,
-    }
+    sk_run::start::<Session, _, _, _, L>(blank, alloc, usage, arguments, input, output, errors)
 }

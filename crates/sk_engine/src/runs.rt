@@ -20,7 +20,8 @@ pub fn run<S: Source, R: Source, K: Sink, L: Ledger>(
     output: &mut K,
     steps: &mut Steps<L>,
 ) -> Status
-    // The main theorem: `Ran` of `sk_run`, over what a session may answer (`SessionRan`), says what each status means, and what was read, put, settled and counted by then.
+    // The main theorem: `Ran` of `sk_run`, over what a session may answer (`SessionRan`), says what each status
+    // means, and what was read, put, settled and counted by then.
     ensures ran { SessionRan (map string_bytes words.now) result
         (record { left = S.left input.old; read_faults = S.faults input.old; held = K.held output.old; write_faults = K.faults output.old; settled = K.settled output.old; finishes = K.finishes output.old; steps = steps.old })
         (record { left = S.left input.new; read_faults = S.faults input.new; held = K.held output.new; write_faults = K.faults output.new; settled = K.settled output.new; finishes = K.finishes output.new; steps = steps.new }) }

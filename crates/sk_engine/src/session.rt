@@ -85,11 +85,11 @@ impl Session {
         steps: &mut Steps<L>,
     ) -> Result<Answer, AllocError>
         requires { fits_tree (query_view query.now) ≡ true }
-        ensures answer { IfOk result (λ answer. (live : Live) → SessionHolds self.now live → FoundFor (is_built (query_view query.now) find.now) (query_view query.now) find.now live (response_of find.now.options.first answer)) }
+        ensures answer { IfOk result (λ answer. (live : Live) → SessionHolds self.now live → FoundFor (is_built find.now) (query_view query.now) find.now live (response_of find.now.options.first answer)) }
         ensures cost { IfOk result (λ answer. steps.new ≡ steps.old + steps_in answer) }
         ensures later { steps.old ≤ steps.new }
     {
-        if !is_built(query, find) {
+        if !is_built(find) {
             return Ok(Answer::NotBuilt);
         }
         let report = search(self.index.allocator(), &self.index, find, query, steps)?;

@@ -24,7 +24,6 @@ use Rattle.sk_model.specs.Reports.{ReportsFor}
 use Rattle.sk_model.proofs.OrderLaws.{both_so}
 use Rattle.sk_model.proofs.StaticLaws.{matches_within}
 use Rattle.sk_index.specs.Indexed.{Indexed}
-use Rattle.sk_nodes.specs.Walked.{is_walked}
 use Rattle.sk_nodes.specs.Built.{weighed_ids, gives, left, scored, first_weight, IsTree, Built}
 use Rattle.sk_match.specs.declared.turns.Search.{Search}
 use Rattle.sk_match.specs.Asking.{is_relevance, is_built}
@@ -124,9 +123,9 @@ none_is None e = refl
 none_is (Some c) e = absurd (true≢false (sym e))
 
 -- a search that is built is by relevance, and collapses nothing
-by_relevance : (query : Tree) (find : Find) → is_built query find ≡ true → (find.order ≡ Order.Relevance) × (find.collapse ≡ None)
-by_relevance query find e =
-    let b = both_so (is_relevance find.order) (is_none find.collapse) (both_so (is_walked query) (is_relevance find.order && is_none find.collapse) e).1 in
+by_relevance : (find : Find) → is_built find ≡ true → (find.order ≡ Order.Relevance) × (find.collapse ≡ None)
+by_relevance find e =
+    let b = both_so (is_relevance find.order) (is_none find.collapse) e in
     (relevance_is find.order b.0, none_is find.collapse b.1)
 
 pub opened_on : (i : Indexed) (s : Search) → IsTree i s.tree → s.tree.need ≡ 0 → s.seen.items ≡ [] → IsOn s i
@@ -142,10 +141,10 @@ opened_on i s tree free none =
 
 pub opened_stands : (i : Indexed) (s : Search) (find : Find) (query : Tree) → Built s.tree i query find.options.scheme → s.seen.items ≡ []
     → left i s.tree ≡ scored query find.options.scheme 1 i.live.documents
-    → is_built query find ≡ true → fits_tree query ≡ true
+    → is_built find ≡ true → fits_tree query ≡ true
     → s.options ≡ find.options → s.greatest ≡ ceil query find.options.scheme 1 i.live.documents → Stands s i find query
 opened_stands i s find query built none all asked fits options greatest =
-    let so = by_relevance query find asked in
+    let so = by_relevance find asked in
     record {
       built = built;
       sound = (both_so (is_sound 1 query) (nat_le (leaves_of query) 1024) (both_so (is_sound 1 query && nat_le (leaves_of query) 1024) (nat_le (depth_of query) 1000) fits).0).0;

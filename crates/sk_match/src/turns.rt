@@ -52,7 +52,7 @@ impl Search {
         steps: &mut Steps<L>,
     ) -> Result<Search, AllocError>
         requires fits { fits_tree (query_view query.now) ≡ true }
-        requires built { is_built (query_view query.now) find.now ≡ true }
+        requires built { is_built find.now ≡ true }
         ensures on { IfOk result (λ search. IsOn search index.now) }
         ensures stands { IfOk result (λ search. Stands search index.now find.now (query_view query.now)) }
         ensures cost { IfOk result (λ search. steps.new ≡ steps.old + search.tree.spent) }

@@ -22,7 +22,7 @@ pub fn search<L: Ledger>(
     steps: &mut Steps<L>,
 ) -> Result<Report, AllocError>
     requires fits { fits_tree (query_view query.now) ≡ true }
-    requires built { is_built (query_view query.now) find.now ≡ true }
+    requires built { is_built find.now ≡ true }
     ensures report { IfOk result (λ report. ReportsFor (query_view query.now) find.now index.now.live.documents report) }
     ensures cost { IfOk result (λ report. steps.new ≡ steps.old + report.steps) }
     ensures later { steps.old ≤ steps.new }

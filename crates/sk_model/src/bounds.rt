@@ -13,8 +13,8 @@ ghost use Rattle.sk_model.specs.Matches.{matches};
 ghost use Rattle.sk_model.specs.Bounds.{ceil, static_count};
 
 /// A law: no document of a list weighs more than `ceil` says, under any scheme and factor. The documents have each of
-/// their terms once, in byte order, and are light (their wdfs are below 2^29 together). The query is sound (it keeps the
-/// conditions on trees), whatever the product of the factors above it.
+/// their terms once, in byte order, and are light (their wdfs are below 2^29 together). The query is sound (it keeps
+/// the conditions on trees), whatever the product of the factors above it.
 pub fn score_within_ceil()
     ensures { (query : Tree) (scheme : Scheme) (above factor : ℕ) (docs : Docs)
         → is_sound above query ≡ true
@@ -35,8 +35,8 @@ pub fn static_within_live()
     ensures { (query : Tree) (docs : Docs) → static_count query docs ≤ live_of docs }
 {}
 
-/// Laws: weights fit. Under a sound query and a factor of at most 65,536, over light documents, nothing weighs more than
-/// 2^45 a leaf: neither a document nor the bound. So with at most 1,024 leaves no weight is above 2^55.
+/// Laws: weights fit. Under a sound query and a factor of at most 65,536, over light documents, nothing weighs more
+/// than 2^45 a leaf: neither a document nor the bound. So with at most 1,024 leaves no weight is above 2^55.
 pub fn weights_fit()
     ensures ceil { (query : Tree) (scheme : Scheme) (factor : ℕ) (docs : Docs) → is_sound factor query ≡ true → factor ≤ 65536
         → All IsLight docs → ceil query scheme factor docs ≤ leaves_of query * 2 ^ 45 }

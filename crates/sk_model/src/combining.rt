@@ -22,8 +22,9 @@ pub fn scores_in_any_order()
     ensures behind { (form : Form) (s : Option ℕ) (xs ys : List (Option ℕ)) → IsPermutation xs ys → combined form (s ∷ ys) ≡ combined form (s ∷ xs) }
 {}
 
-/// Laws: a score that is not there adds nothing, where one need be there. None is there exactly where the sum over any is
-/// none, and all are there exactly where the sum over all is one; it is then the sum over any, if there is a score at all.
+/// Laws: a score that is not there adds nothing, where one need be there. None is there exactly where the sum over
+/// any is none, and all are there exactly where the sum over all is one; it is then the sum over any, if there is a
+/// score at all.
 pub fn scores_that_are_there()
     ensures any { (xs : List (Option ℕ)) → sum_of_any (filter is_some xs) ≡ sum_of_any xs }
     ensures greatest { (xs : List (Option ℕ)) → greatest_score (filter is_some xs) ≡ greatest_score xs }
@@ -35,7 +36,8 @@ pub fn scores_that_are_there()
     ensures as_any { (s : Option ℕ) (xs : List (Option ℕ)) → sum_of_all (s ∷ xs) ≡ where_so (list_all is_some (s ∷ xs)) (sum_of_any (s ∷ xs)) }
 {}
 
-/// Laws: a query of a first part and others is made of the first and one query of the others: none of them, any, or all.
+/// Laws: a query of a first part and others is made of the first and one query of the others: none of them, any, or
+/// all.
 pub fn first_and_others()
     ensures not { (s : Option ℕ) (xs : List (Option ℕ)) → combined Form.AndNot (s ∷ xs) ≡ where_so (is_none (combined Form.Or xs)) s }
     ensures maybe { (s : Option ℕ) (xs : List (Option ℕ)) → combined Form.AndMaybe (s ∷ xs) ≡ with_more s (combined Form.Or xs) }

@@ -12,8 +12,8 @@ pub fn slots_of_schema()
         → has_value slot (document_of fields given).values ≡ true → has_slot slot fields ≡ true }
 {}
 
-/// Laws: a document has the terms that are mentioned, in byte order, each once. The wdf of a term is the sum of the wdfs
-/// of its mentions, and its positions are theirs, one after the other.
+/// Laws: a document has the terms that are mentioned, in byte order, each once. The wdf of a term is the sum of the
+/// wdfs of its mentions, and its positions are theirs, one after the other.
 pub fn terms_of_mentions()
     ensures rising { (ms : List DocTerm) → AreTerms (terms_of ms) }
     ensures all { (t : List ℕ) (ms : List DocTerm) → has_term t (terms_of ms) ≡ has_term t ms }

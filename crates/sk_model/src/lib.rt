@@ -1,4 +1,5 @@
-//! The definitions that every answer of the engine is proved against, and their laws; the order and the page of matches.
+//! The definitions that every answer of the engine is proved against, and their laws; the order and the page of
+//! matches.
 #![tactic(auto)]
 
 mod bounds;

@@ -16,8 +16,9 @@ pub fn slice(ranks: &[Rank], first: u32, size: u32) -> &[Rank]
     &rest[..rest.len().min(size as usize)]
 }
 
-/// Laws: under collapsing all matches of the empty key are kept, and of each other key as many as there are, or the most
-/// that may be kept. So how many are kept hangs on how often each key occurs, and neither on weights nor on the order.
+/// Laws: under collapsing all matches of the empty key are kept, and of each other key as many as there are, or the
+/// most that may be kept. So how many are kept hangs on how often each key occurs, and neither on weights nor on the
+/// order.
 pub fn kept_by_keys()
     ensures each { (order : Order) (collapse : Collapse) (key : Rank → List ℕ) (k : List ℕ) (ranks : List Rank)
         → count_key key k (kept order (Some collapse) key ranks) ≡ kept_number collapse.max k (count_key key k ranks) }

@@ -3,8 +3,8 @@ ghost use Rattle.std.specs.Prelude.{◌≡◌, ◌≤◌, ℕ, true, List, lengt
 ghost use Rattle.sk_model.specs.Positions.{is_near};
 ghost use Rattle.sk_model.specs.Laws.{stand_within};
 
-/// Laws: near holds exactly where some window holds a position of each operand. The window is one position wide at least,
-/// and there is an operand.
+/// Laws: near holds exactly where some window holds a position of each operand. The window is one position wide at
+/// least, and there is an operand.
 pub fn near_is_a_window()
     ensures found { (window : ℕ) (places : List (List ℕ)) → 1 ≤ window → is_near window places ≡ true
         → (p : ℕ) × (stand_within window p places ≡ true) }

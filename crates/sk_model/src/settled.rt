@@ -11,8 +11,9 @@ ghost use Rattle.sk_model.specs.Matches.{matches};
 ghost use Rattle.sk_model.specs.Settled.{settled, seen_up_to, heavy_up_to};
 ghost use Rattle.sk_model.specs.Sharp.{stop_number, rare_number, decay_number, sharp};
 
-/// Laws: `settled` is the least id up to which there are as many matches as a find wants to see, and as many of at least
-/// the weight as its page needs. The matches stand by rising id.
+/// Laws: `settled` is the least id up to which there are as many matches as a find wants to see, and as many of at
+/// least the weight as its page needs, where there are as many up to an id below the last. The matches stand by rising
+/// id.
 pub fn settled_is_least()
     ensures least { (find : Find) (ranks : List Rank) (weight id : ℕ) → AllPairs (λ x y. x.id < y.id) ranks
         → wanted find ≤ seen_up_to id ranks → find.options.first + find.options.size ≤ heavy_up_to weight id ranks

@@ -1,7 +1,7 @@
 pub mod LeafLaws
 pub mod NodeLaws
 pub mod TreeLaws
-pub mod WalkedLaws
+pub mod CountLaws
 pub mod ListLaws
 pub mod SpanLaws
 pub mod OpenLaws

@@ -21,8 +21,7 @@ use Rattle.sk_model.proofs.WeightLaws.{ceil_small}
 use Rattle.sk_decay.specs.Sides.{paired, greatest_under}
 use Rattle.sk_decay.proofs.SideLaws.{paired-none}
 use Rattle.sk_nodes.proofs.OddLaws.{none_odd}
-use Rattle.sk_nodes.specs.Walked.{count_in, is_walked, are_walked}
-use Rattle.sk_nodes.specs.Opened.{joint_score_of, others_of, query_size, parts_size, is_nest, part_scores, score_of, AreParts}
+use Rattle.sk_nodes.specs.Opened.{count_in, joint_score_of, others_of, query_size, parts_size, is_nest, part_scores, score_of, AreParts}
 
 -- ---- parts, one behind the other
 
@@ -64,13 +63,6 @@ are_sound-joined (tree t ts) us factor e =
     let here = both_true (is_sound factor t) (are_sound factor (joined ts us)) e in
     let rest = are_sound-joined ts us factor here.1 in
     (true_both (is_sound factor t) (are_sound factor ts) here.0 rest.0, rest.1)
-
-pub are_walked-joined : (ts us : Trees.Trees) → are_walked (joined ts us) ≡ true → (are_walked ts ≡ true) × (are_walked us ≡ true)
-are_walked-joined no_trees us e = (refl, e)
-are_walked-joined (tree t ts) us e =
-    let here = both_true (is_walked t) (are_walked (joined ts us)) e in
-    let rest = are_walked-joined ts us here.1 in
-    (true_both (is_walked t) (are_walked ts) here.0 rest.0, rest.1)
 
 -- ---- scores put together in two pieces
 
@@ -219,15 +211,11 @@ module _ (form : Form) (factor : ℕ) (ts fs bs : Trees.Trees) (e : ts ≡ joine
   sounds : (are_sound factor fs ≡ true) × (are_sound factor bs ≡ true)
   sounds = are_sound-joined fs bs factor (ap (are_sound factor) (sym e) ∙ are.sound)
 
-  walks : (are_walked fs ≡ true) × (are_walked bs ≡ true)
-  walks = are_walked-joined fs bs (ap are_walked (sym e) ∙ are.walked)
-
   pub split_front : AreParts form factor fs
   split_front = record {
     some = front_some;
     sound = sounds.0;
     leaves = omega (arith, leaves, are.leaves);
-    walked = walks.0;
   }
 
   pub split_back : AreParts (others_of form) factor bs
@@ -235,7 +223,6 @@ module _ (form : Form) (factor : ℕ) (ts fs bs : Trees.Trees) (e : ts ≡ joine
     some = back_some;
     sound = sounds.1;
     leaves = omega (arith, leaves, are.leaves);
-    walked = walks.1;
   }
 
   pub split_front_size : parts_size fs < parts_size ts
@@ -303,7 +290,7 @@ joint-odd ts scheme factor (Some d) = ap (combined Form.Xor) (part_scores-some t
 
 module _ (form : Form) (factor : ℕ) (ts : Trees.Trees) (n : ℕ) (e : is_nest form n ≡ false) where
   pub odd_are : AreParts form factor ts → AreParts Form.Xor factor ts
-  odd_are are = record { some = are.some; sound = are.sound; leaves = are.leaves; walked = are.walked }
+  odd_are are = record { some = are.some; sound = are.sound; leaves = are.leaves }
 
   pub odd_scores : (scheme : Scheme) (o : Option Document) → joint_score_of form ts scheme factor o ≡ combined Form.Xor (part_scores ts scheme factor o)
   odd_scores scheme o = ap (λ (f : Form). joint_score_of f ts scheme factor o) (is_xor form n e) ∙ sym (joint-odd ts scheme factor o)

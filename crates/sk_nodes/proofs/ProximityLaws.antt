@@ -24,7 +24,7 @@ use Rattle.sk_nodes.proofs.NodeLaws.{IsHead-none, goes_on_covers, ended_top}
 
 -- ---- what passes a test
 
-where_none : (b : Bool) → where_so b None ≡ None
+pub where_none : (b : Bool) → where_so b None ≡ None
 where_none true = refl
 where_none false = refl
 
@@ -319,3 +319,17 @@ lengths_next i ns k n most more start e f before =
     let here : entries_from i 0 (drop k ns) ≡ length (from 0 (list_in i (Some n))) + entries_from i 0 (drop (k + 1) ns) = ap (entries_from i 0) e in
     let whole : length (from 0 (list_in i (Some n))) ≡ length (list_in i (Some n)) = ap length (from_zero (list_in i (Some n))) in
     omega (arith, here, whole, f, before)
+
+-- ---- without a need
+
+exactly : (a b : Option ℕ) → CoversAt a b 0 → b ≡ a
+exactly None None h = refl
+exactly None (Some w) h = absurd h
+exactly (Some v) None h = absurd (omega (arith, h))
+exactly (Some v) (Some w) h = ap Some (h.1 (omega arith))
+
+-- a test that was moved on from 0 without a need gives what passes it
+pub tested_gives : (i : Indexed) (p q : Proximity) (t u : Top) (s r : Shape) (node : Shape) (id : ℕ) → Covers (from_on 0 (rest i (tested p t s))) (rest i (tested q u r)) 0 → node ≡ tested q u r
+    → rest i node id ≡ where_so (holds i p id) (rest i s id)
+tested_gives i p q t u s r node id covers e =
+    ap (λ (n : Shape). rest i n id) e ∙ exactly (from_on 0 (rest i (tested p t s)) id) (rest i (tested q u r) id) (covers id) ∙ from_on-at 0 (rest i (tested p t s)) id (omega arith)

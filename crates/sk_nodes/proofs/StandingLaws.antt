@@ -1,8 +1,8 @@
 -- Terms that stand near or as a phrase are an and of them, and a test.
-use Rattle.std.proofs.Common.{◌≡◌, ◌≤◌, ◌<◌, ◌+◌, ◌^◌, ◌&&◌, ℕ, Bool, true, false, List, [], ◌∷◌, ◌++◌, length, map, filter, cond, Option, None, Some, is_some, refl, sym, subst, ap, ◌∙◌, arith, if◌then◌else◌, inl, inr}
+use Rattle.std.proofs.Common.{◌≡◌, ◌≢◌, ◌⊎◌, ◌≤◌, ◌<◌, ◌+◌, ◌^◌, ◌&&◌, ◌||◌, ℕ, Bool, true, false, List, [], ◌∷◌, ◌++◌, length, map, filter, cond, Option, None, Some, is_some, refl, sym, subst, ap, ◌∙◌, arith, if◌then◌else◌, inl, inr}
 use mathlib.Core.Bool.{true≢false}
 use Rattle.std.specs.List.{list_all}
-use Rattle.std.proofs.lemmas.Bool.{cases_lt}
+use Rattle.std.proofs.lemmas.Bool.{cases_eq}
 use Rattle.std.proofs.lemmas.Bool.Decides.{nat_tests}
 use Rattle.sk_base.specs.declared.find.Scheme.{Scheme}
 use Rattle.sk_base.specs.declared.doc_entry.DocTerm.{DocTerm}
@@ -23,15 +23,15 @@ use Rattle.sk_model.specs.Scores.{score, scores, term_score, terms_weight, weigh
 use Rattle.sk_model.specs.Bounds.{sum_in, term_ceil, terms_ceil, lengths_of, ceil, ceils}
 use Rattle.sk_model.specs.Allowance.{leaf_readings, leaves_readings}
 use Rattle.sk_model.proofs.HeldLaws.{Have, near_have, phrase_have}
-use Rattle.sk_index.specs.Indexed.{Indexed, postings, term_positions}
+use Rattle.sk_index.specs.Indexed.{Indexed, postings, term_positions, AreNumbered}
 use Rattle.sk_nodes.specs.declared.top.Top.{Top}
 use Rattle.sk_nodes.specs.declared.proximity.Standing.{Standing}
 use Rattle.sk_nodes.specs.declared.proximity.Proximity.{Proximity}
 use Rattle.sk_nodes.specs.Leaves.{list_in}
 use Rattle.sk_nodes.specs.Shapes.{Shape}
 use Rattle.sk_nodes.specs.Left.{rest}
-use Rattle.sk_nodes.specs.Sound.{Sound, IsTested}
-use Rattle.sk_nodes.specs.Opened.{score_of, joint_score_of, parts_size, term_trees, Opens}
+use Rattle.sk_nodes.specs.Sound.{IsTop, Sound, IsTested}
+use Rattle.sk_nodes.specs.Opened.{count_in, score_of, joint_score_of, parts_size, term_trees, AreParts, Opens}
 use Rattle.sk_nodes.specs.Proximity.{standing_query, stand, positions_at, holds, entries_from, numbered, AreThere, AreInOrder, IsInAll, CanTest}
 use Rattle.sk_nodes.proofs.ListLaws.{wdf_at, found-postings, length-postings}
 
@@ -48,15 +48,6 @@ true_both false b e f = cc
 given_sound : (factor : ℕ) (ts : List (List ℕ)) → list_all is_given ts ≡ true → are_sound factor (term_trees ts) ≡ true
 given_sound factor [] e = refl
 given_sound factor (t ∷ ts) e = let here = both_true (is_given t) (list_all is_given ts) e in true_both (is_given t) (are_sound factor (term_trees ts)) here.0 (given_sound factor ts here.1)
-
-pub terms_sound : (factor window : ℕ) (ts : List (List ℕ)) → (is_window window && are_given ts) ≡ true → is_sound factor (Query.parts Form.And (term_trees ts)) ≡ true
-terms_sound factor window [] e = cc_empty (both_true (is_window window) false e).1
-  where
-    cc_empty : false ≡ true → is_sound factor (Query.parts Form.And Query.no_trees) ≡ true
-    cc_empty e = e
-terms_sound factor window (t ∷ ts) e =
-    let given = (both_true (is_window window) (are_given (t ∷ ts)) e).1 in
-    given_sound factor (t ∷ ts) (both_true true (list_all is_given (t ∷ ts)) given).1
 
 pub terms_some : (window : ℕ) (ts : List (List ℕ)) → (is_window window && are_given ts) ≡ true → 1 ≤ length ts
 terms_some window [] e = absurd (true≢false (sym (both_true (is_window window) false e).1))
@@ -84,9 +75,21 @@ pub terms_ceils : (ts : List (List ℕ)) (scheme : Scheme) (factor : ℕ) (docs 
 terms_ceils [] scheme factor docs = refl
 terms_ceils (t ∷ ts) scheme factor docs = let more = terms_ceils ts scheme factor docs in omega (arith, more)
 
-pub walked_terms : (ts : List (List ℕ)) → Rattle.sk_nodes.specs.Walked.are_walked (term_trees ts) ≡ true
-walked_terms [] = refl
-walked_terms (t ∷ ts) = walked_terms ts
+count_terms : (ts : List (List ℕ)) → count_in (term_trees ts) ≡ length ts
+count_terms [] = refl
+count_terms (t ∷ ts) = let more = count_terms ts in omega (arith, more)
+
+pub terms_are : (factor window : ℕ) (ts : List (List ℕ)) → (is_window window && are_given ts) ≡ true → length ts ≤ 1024 → AreParts Form.And factor (term_trees ts)
+terms_are factor window ts e few = record {
+  some = omega (arith, count_terms ts, terms_some window ts e);
+  sound = sound ts e;
+  leaves = omega (arith, terms_leaves ts, few);
+}
+  where
+    sound : (ts : List (List ℕ)) → (is_window window && are_given ts) ≡ true → are_sound factor (term_trees ts) ≡ true
+    sound [] e = refl
+    sound (t ∷ ts) e =
+        given_sound factor (t ∷ ts) (both_true (Rattle.std.proofs.Common.nat_lt 0 (length (t ∷ ts))) (list_all is_given (t ∷ ts)) (both_true (is_window window) (are_given (t ∷ ts)) e).1).1
 
 -- ---- scores
 
@@ -178,45 +181,51 @@ and_within i ns ts scheme factor id w sorted named e = by (document_at id i.live
 
 -- ---- terms without a number
 
-some_number : (i : Indexed) (t : List ℕ) → is_some (number_of t i.terms) ≡ false → number_of t i.terms ≡ None
+pub some_number : (i : Indexed) (t : List ℕ) → is_some (number_of t i.terms) ≡ false → number_of t i.terms ≡ None
 some_number i t e = by (number_of t i.terms) refl
   where
     by : (o : Option ℕ) → number_of t i.terms ≡ o → o ≡ None
     by None g = refl
     by (Some n) g = absurd (true≢false (sym (ap is_some g) ∙ e))
 
-has_none : (t : List ℕ) (docs : Docs) (id : ℕ) (d : Document) → some_has t docs ≡ false → document_at id docs ≡ Some d → has_term t d.terms ≡ false
-has_none t [] id d none e = cc
-has_none t (one ∷ more) id d none e = by (Rattle.std.proofs.lemmas.Bool.cases_eq one.0 id)
+none_parts : (a b : Bool) → (a || b) ≡ false → (a ≡ false) × (b ≡ false)
+none_parts true b e = cc
+none_parts false b e = (refl, e)
+
+none_step : (t : List ℕ) (one : ℕ × Document) (more : Docs) (id : ℕ) (d : Document) → has_term t one.1.terms ≡ false → document_at id (one ∷ more) ≡ Some d → (document_at id more ≡ Some d → has_term t d.terms ≡ false)
+    → has_term t d.terms ≡ false
+none_step t one more id d none e rest = by (cases_eq one.0 id)
   where
-    front : (a b : Bool) → (Rattle.std.proofs.Common.cond a true b) ≡ false → (a ≡ false) × (b ≡ false)
-    front true b e = cc
-    front false b e = (refl, e)
-
-    parts : (has_term t one.1.terms ≡ false) × (some_has t more ≡ false)
-    parts = front (has_term t one.1.terms) (some_has t more) none
-
     same_doc : Some one.1 ≡ Some d → one.1 ≡ d
     same_doc g = cc
 
-    by : (one.0 ≡ id) Rattle.std.proofs.Common.⊎ (one.0 Rattle.std.proofs.Common.≢ id) → has_term t d.terms ≡ false
-    by (inl same) = ap (λ (x : Document). has_term t x.terms) (sym (same_doc (sym (found-here id one more same) ∙ e))) ∙ parts.0
-    by (inr other) = has_none t more id d parts.1 (sym (found-other id one more other) ∙ e)
+    by : (one.0 ≡ id) ⊎ (one.0 ≢ id) → has_term t d.terms ≡ false
+    by (inl same) = ap (λ (x : Document). has_term t x.terms) (sym (same_doc (sym (found-here id one more same) ∙ e))) ∙ none
+    by (inr other) = rest (sym (found-other id one more other) ∙ e)
+
+pub has_none : (t : List ℕ) (docs : Docs) (id : ℕ) (d : Document) → some_has t docs ≡ false → document_at id docs ≡ Some d → has_term t d.terms ≡ false
+has_none t [] id d none e = absurd (some_not_none d e)
+  where
+    some_not_none : (d : Document) → None ≡ Some d → ⊥
+    some_not_none d e = cc
+has_none t (one ∷ more) id d none e =
+    let parts = none_parts (has_term t one.1.terms) (some_has t more) none in
+    none_step t one more id d parts.0 e (λ f. has_none t more id d parts.1 f)
 
 -- terms that a document has all have a number
-have_numbers : (i : Indexed) (id : ℕ) (d : Document) (ts : List (List ℕ)) → ((t : List ℕ) → number_of t i.terms ≡ None → some_has t i.live.documents ≡ false) → document_at id i.live.documents ≡ Some d
-    → Have d.terms ts → length (numbered i ts) ≡ length ts
-have_numbers i id d [] complete at have = refl
-have_numbers i id d (t ∷ ts) complete at have = by (is_some (number_of t i.terms)) refl
+numbers_step : (i : Indexed) (id : ℕ) (d : Document) (t : List ℕ) (ts : List (List ℕ)) → AreNumbered i → document_at id i.live.documents ≡ Some d → has_term t d.terms ≡ true → length (numbered i ts) ≡ length ts
+    → length (numbered i (t ∷ ts)) ≡ length (t ∷ ts)
+numbers_step i id d t ts complete at has more = by (is_some (number_of t i.terms)) refl
   where
-    more : length (numbered i ts) ≡ length ts
-    more = have_numbers i id d ts complete at have.1
-
     by : (b : Bool) → is_some (number_of t i.terms) ≡ b → length (cond b (t ∷ numbered i ts) (numbered i ts)) ≡ length (t ∷ ts)
     by true e = omega (arith, more)
-    by false e = absurd (true≢false (sym have.0 ∙ has_none t i.live.documents id d (complete t (some_number i t e)) at))
+    by false e = absurd (true≢false (sym has ∙ has_none t i.live.documents id d (complete t (some_number i t e)) at))
 
-pub missing_none : (i : Indexed) (standing : Standing) (window : ℕ) (ts : List (List ℕ)) (scheme : Scheme) (factor id : ℕ) → ((t : List ℕ) → number_of t i.terms ≡ None → some_has t i.live.documents ≡ false)
+have_numbers : (i : Indexed) (id : ℕ) (d : Document) (ts : List (List ℕ)) → AreNumbered i → document_at id i.live.documents ≡ Some d → Have d.terms ts → length (numbered i ts) ≡ length ts
+have_numbers i id d [] complete at have = refl
+have_numbers i id d (t ∷ ts) complete at have = numbers_step i id d t ts complete at have.0 (have_numbers i id d ts complete at have.1)
+
+pub missing_none : (i : Indexed) (standing : Standing) (window : ℕ) (ts : List (List ℕ)) (scheme : Scheme) (factor id : ℕ) → AreNumbered i
     → length (numbered i ts) < length ts → None ≡ score_of (standing_query standing window ts) scheme factor (document_at id i.live.documents)
 missing_none i standing window ts scheme factor id complete less = by (document_at id i.live.documents) refl
   where
@@ -231,21 +240,33 @@ missing_none i standing window ts scheme factor id complete less = by (document_
         (λ e. let all = have_numbers i id d ts complete at (stand_have standing window d.terms ts e) in omega (arith, all, less))
         ∙ sym (standing_score standing window ts scheme factor d)
 
+kept_less : (b : Bool) (t : List ℕ) (us : List (List ℕ)) (n : ℕ) → length us ≤ n → length (cond b (t ∷ us) us) ≤ 1 + n
+kept_less true t us n le = omega (arith, le)
+kept_less false t us n le = omega (arith, le)
+
 numbered_less : (i : Indexed) (ts : List (List ℕ)) → length (numbered i ts) ≤ length ts
 numbered_less i [] = omega arith
-numbered_less i (t ∷ ts) = by (is_some (number_of t i.terms))
-  where
-    by : (b : Bool) → length (cond b (t ∷ numbered i ts) (numbered i ts)) ≤ length (t ∷ ts)
-    by true = omega (arith, numbered_less i ts)
-    by false = omega (arith, numbered_less i ts)
+numbered_less i (t ∷ ts) = omega (arith, kept_less (is_some (number_of t i.terms)) t (numbered i ts) (length ts) (numbered_less i ts))
+
+kept_all : (b : Bool) (t : List ℕ) (us ts : List (List ℕ)) → length us ≤ length ts → (length ts ≤ length us → us ≡ ts) → length (t ∷ ts) ≤ length (cond b (t ∷ us) us) → cond b (t ∷ us) us ≡ t ∷ ts
+kept_all true t us ts less same h = ap (λ (vs : List (List ℕ)). t ∷ vs) (same (omega (arith, h)))
+kept_all false t us ts less same h = absurd (omega (arith, h, less))
 
 pub numbered_all : (i : Indexed) (ts : List (List ℕ)) → length ts ≤ length (numbered i ts) → numbered i ts ≡ ts
 numbered_all i [] le = refl
-numbered_all i (t ∷ ts) le = by (is_some (number_of t i.terms)) le
-  where
-    by : (b : Bool) → length (t ∷ ts) ≤ length (cond b (t ∷ numbered i ts) (numbered i ts)) → cond b (t ∷ numbered i ts) (numbered i ts) ≡ t ∷ ts
-    by true h = ap (λ (us : List (List ℕ)). t ∷ us) (numbered_all i ts (omega (arith, h)))
-    by false h = absurd (omega (arith, h, numbered_less i ts))
+numbered_all i (t ∷ ts) le = kept_all (is_some (number_of t i.terms)) t (numbered i ts) ts (numbered_less i ts) (λ more. numbered_all i ts more) le
+
+named_length : (f : ℕ → List ℕ) (ns : List ℕ) → length (map f ns) ≡ length ns
+named_length f [] = refl
+named_length f (n ∷ ns) = let more = named_length f ns in omega (arith, more)
+
+-- fewer numbers than terms: one of these has none
+pub fewer_numbers : (i : Indexed) (ns : List ℕ) (ts : List (List ℕ)) → map (term_at i.terms) ns ≡ numbered i ts → length ns < length ts → length (numbered i ts) < length ts
+fewer_numbers i ns ts e lt = omega (arith, ap length e, named_length (term_at i.terms) ns, lt)
+
+-- as many: each has one
+pub all_numbered : (i : Indexed) (ns : List ℕ) (ts : List (List ℕ)) → map (term_at i.terms) ns ≡ numbered i ts → length ts ≤ length ns → map (term_at i.terms) ns ≡ ts
+all_numbered i ns ts e le = e ∙ numbered_all i ts (omega (arith, ap length e, named_length (term_at i.terms) ns, le))
 
 -- ---- lengths
 
@@ -259,3 +280,37 @@ entries_all i (n ∷ ns) =
     let more = entries_all i ns in
     let one : length (from 0 (list_in i (Some n))) ≡ length_of (term_at i.terms n) i.live.documents = ap length (from_zero (list_in i (Some n))) ∙ length-postings (term_at i.terms n) i.live.documents in
     omega (arith, more, one)
+
+-- ---- the node of an and, and a test
+
+-- a test before its first document
+pub test_opened : (i : Indexed) (p : Proximity) (t : Top) (s : Shape) (ts : List (List ℕ)) (scheme : Scheme) (factor most : ℕ) → (is_window p.window && are_given ts) ≡ true → map (term_at i.terms) p.numbers.items ≡ ts
+    → length p.numbers.items ≤ length p.marks.items → AreThere i p.numbers.items → AreInOrder i p.numbers.items → p.next ≡ 0 → AreSorted i.live.documents
+    → Opens i t s (joint_score_of Form.And (term_trees ts) scheme factor) most → IsTested i p t s (Sound i s)
+test_opened i p t s ts scheme factor most given named marks there sorted next documents opens = record {
+  test = record {
+    some = omega (arith, terms_some p.window ts given, ap length named, named_length (term_at i.terms) p.numbers.items);
+    wide = terms_wide p.window ts given;
+    marks = marks;
+    there = there;
+    sorted = sorted;
+  };
+  top = opens.top;
+  sound = opens.sound;
+  within = λ id w e. and_within i p.numbers.items ts scheme factor id w documents named (sym (opens.gives id) ∙ e);
+  ahead = omega (arith, next);
+  small = omega (arith, next);
+  known = λ lt. absurd (omega (arith, lt, next));
+}
+
+-- what passes it is what the terms score that stand so
+pub standing_opened : (i : Indexed) (p : Proximity) (below t : Top) (s r : Shape) (ts : List (List ℕ)) (scheme : Scheme) (factor most : ℕ) → map (term_at i.terms) p.numbers.items ≡ ts
+    → Opens i below s (joint_score_of Form.And (term_trees ts) scheme factor) most → most ≡ terms_ceil scheme factor ts i.live.documents → IsTop i t r → Sound i r
+    → ((id : ℕ) → rest i r id ≡ where_so (holds i p id) (rest i s id)) → t.greatest ≤ below.greatest
+    → Opens i t r (score_of (standing_query p.standing p.window ts) scheme factor) (terms_ceil scheme factor ts i.live.documents)
+standing_opened i p below t s r ts scheme factor most named opens bound top sound gives less = record {
+  top = top;
+  sound = sound;
+  gives = λ id. gives id ∙ ap (where_so (holds i p id)) (opens.gives id) ∙ standing_scores i p ts scheme factor id named;
+  ceiling = omega (arith, less, opens.ceiling, bound);
+}

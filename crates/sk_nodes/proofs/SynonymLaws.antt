@@ -1,34 +1,45 @@
 -- Terms that count as one, two by two.
-use Rattle.std.proofs.Common.{◌≡◌, ◌≤◌, ◌<◌, ◌+◌, ◌*◌, ◌^◌, ◌||◌, ◌&&◌, ℕ, min, max, take, drop, Bool, true, false, List, [], ◌∷◌, ◌++◌, length, map, All, Option, None, Some, unwrap_or, refl, sym, subst, ap, ◌∙◌, arith, le_refl}
-use Rattle.std.specs.List.{list_any}
+use Rattle.std.proofs.Common.{◌≡◌, ◌≤◌, ◌<◌, ◌+◌, ◌-◌, ◌*◌, ◌^◌, ◌||◌, ◌&&◌, ℕ, suc, min, nat_lt, take, drop, slice_index_or, Bool, true, false, not, cond, List, [], ◌∷◌, ◌++◌, length, map, sum_by, bytes_eq, All, AllPairs, Option, None, Some, is_some, unwrap_or, refl, sym, subst, ap, ◌∙◌, arith, le_refl}
+use mathlib.Core.Bool.{true≢false}
+use Rattle.std.specs.List.{list_any, AllByRecursion}
+use Rattle.std.specs.Cmp.Lexicographic.{bytes_decides}
+use Rattle.std.proofs.lemmas.Bool.Decides.{nat_tests}
 use Rattle.std.proofs.lemmas.List.Elements.{recursion_from_All}
 use Rattle.std.proofs.lemmas.List.Folds.{list_any-append}
+use Rattle.std.proofs.lemmas.List.Sums.{sum_by-cons}
 use Rattle.std.proofs.lemmas.List.{take-append-drop}
 use Rattle.sk_base.specs.declared.find.Scheme.{Scheme}
 use Rattle.sk_base.specs.declared.doc_entry.DocTerm.{DocTerm}
-use Rattle.sk_base.specs.Documents.{has_term}
+use Rattle.sk_base.specs.Documents.{has_term, wdf_of}
 use Rattle.sk_base.specs.Loads.{load_of, IsLight}
-use Rattle.sk_base.specs.Numbers.{Docs, length_of, greatest_of}
+use Rattle.sk_base.specs.Numbers.{Docs, length_of, greatest_of, some_has, terms_with, wild_greatest_of}
 use Rattle.sk_sorted.proofs.EntryLaws.{AllByRecursion-found}
+use Rattle.sk_dict.specs.Terms.{term_at, number_of, Precedes}
 use Rattle.sk_query.specs.Trees as Trees
 use Rattle.sk_query.specs.Fits.{are_given, are_different, is_sound}
 use Rattle.sk_model.specs.Documents.{Document}
 use Rattle.sk_model.specs.Edits.{document_at}
 use Rattle.sk_model.specs.Weights.{weigh_by}
 use Rattle.sk_model.specs.Scores.{weight_if, wdf_sum}
-use Rattle.sk_model.specs.Bounds.{lengths_of, term_ceil, ceil}
+use Rattle.sk_model.specs.Bounds.{lengths_of, greatests_of, term_ceil, joint_ceil, ceil}
+use Rattle.sk_model.specs.Allowance.{leaf_readings}
 use Rattle.sk_model.proofs.HeldLaws.{Inside, inside_each, synonym_le}
+use Rattle.sk_model.proofs.TermLaws.{less_differs}
 use Rattle.sk_model.proofs.WeightLaws.{weigh_fits, greatest_light}
+use Rattle.sk_decay.specs.Heads.{IsHead}
 use Rattle.sk_decay.specs.Sides.{paired}
 use Rattle.sk_decay.proofs.SideLaws.{paired-none}
-use Rattle.sk_index.specs.Indexed.{Indexed}
+use Rattle.sk_index.specs.Indexed.{Indexed, AreNumbered, AreAllWith}
 use Rattle.sk_nodes.specs.declared.top.Top.{Top}
-use Rattle.sk_nodes.specs.Shapes.{Shape}
-use Rattle.sk_nodes.specs.Left.{rest}
-use Rattle.sk_nodes.specs.Sound.{IsTop}
+use Rattle.sk_nodes.specs.Leaves.{AtMost}
+use Rattle.sk_nodes.specs.Shapes.{Shape, ended}
+use Rattle.sk_nodes.specs.Left.{rest, greatest_in}
+use Rattle.sk_nodes.specs.Sound.{IsTop, Sound}
+use Rattle.sk_nodes.specs.Proximity.{numbered, AreThere}
 use Rattle.sk_nodes.specs.Opened.{score_of, joint_form, Opens}
 use Rattle.sk_nodes.proofs.NodeLaws.{capped_top}
-use Rattle.sk_nodes.proofs.ListLaws.{wdf_of-none}
+use Rattle.sk_nodes.proofs.ListLaws.{wdf_of-none, nothing_opened}
+use Rattle.sk_nodes.proofs.StandingLaws.{some_number, has_none}
 
 -- ---- terms, one behind the other
 
@@ -81,13 +92,13 @@ synonym-split scheme factor xs ys (Some d) =
 
 -- ---- bounds
 
-small_if : (test : Bool) (w n : ℕ) → w ≤ n → (Rattle.std.proofs.Common.cond test w 0) ≤ n
+small_if : (test : Bool) (w n : ℕ) → w ≤ n → (cond test w 0) ≤ n
 small_if true w n h = h
 small_if false w n h = omega arith
 
 term_small : (scheme : Scheme) (factor : ℕ) (t : List ℕ) (docs : Docs) → factor ≤ 65536 → All IsLight docs → term_ceil scheme factor t docs ≤ 2 ^ 45
 term_small scheme factor t docs small light =
-    small_if (Rattle.std.proofs.Common.nat_lt 0 (length_of t docs)) (weigh_by factor scheme (greatest_of t docs)) (2 ^ 45) (weigh_fits factor scheme (greatest_of t docs) small (greatest_light t docs light))
+    small_if (nat_lt 0 (length_of t docs)) (weigh_by factor scheme (greatest_of t docs)) (2 ^ 45) (weigh_fits factor scheme (greatest_of t docs) small (greatest_light t docs light))
 
 inside : (docs : Docs) (id : ℕ) (d : Document) → document_at id docs ≡ Some d → Inside docs d
 inside docs id d e = AllByRecursion-found (λ d. Inside docs d) id d docs (inside_each docs) e
@@ -112,7 +123,7 @@ synonym_bound scheme factor ts docs apart light id = by (document_at id docs) re
 
 synonym_small : (scheme : Scheme) (factor : ℕ) (ts : List (List ℕ)) (docs : Docs) → factor ≤ 65536 → ceil (Trees.synonym ts) scheme factor docs ≤ 2 ^ 45
 synonym_small scheme factor ts docs small =
-    small_if (Rattle.std.proofs.Common.nat_lt 0 (lengths_of ts docs)) (weigh_by factor scheme (min (2 ^ 29 - 1) (greatests_of ts docs))) (2 ^ 45) (weigh_fits factor scheme (min (2 ^ 29 - 1) (greatests_of ts docs)) small (omega arith))
+    small_if (nat_lt 0 (lengths_of ts docs)) (weigh_by factor scheme (min (2 ^ 29 - 1) (greatests_of ts docs))) (2 ^ 45) (weigh_fits factor scheme (min (2 ^ 29 - 1) (greatests_of ts docs)) small (omega arith))
 
 -- ---- numbers of terms, in two pieces
 
@@ -173,6 +184,10 @@ only_one : (ns : List ℕ) (n : ℕ) → length ns ≡ 1 → n ≡ slice_index_o
 only_one [] n e f = absurd (omega (arith, e))
 only_one (m ∷ []) n e f = ap (λ (x : ℕ). x ∷ []) (sym f)
 only_one (m ∷ k ∷ ns) n e f = absurd (omega (arith, e))
+
+pub read_one : (ns : List ℕ) (d : ℕ) → length ns ≡ 1 → slice_index_or ns 0 d ≡ slice_index_or ns 0 (slice_index_or ns 0 d)
+read_one [] d e = refl
+read_one (n ∷ ns) d e = refl
 
 one_score : (scheme : Scheme) (factor : ℕ) (t : List ℕ) (o : Option Document) → score_of (Trees.term t) scheme factor o ≡ score_of (Trees.synonym (t ∷ [])) scheme factor o
 one_score scheme factor t None = refl
@@ -256,70 +271,67 @@ query_capped i t u s query f scheme factor most bound e g h is opens same at_mos
 
 -- ---- a synonym
 
+any_step : (b has : Bool) (t : List ℕ) (us : List (List ℕ)) (f : List ℕ → Bool) (rest : Bool) → f t ≡ has → (b ≡ false → has ≡ false) → list_any f us ≡ rest → list_any f (cond b (t ∷ us) us) ≡ (has || rest)
+any_step true has t us f rest e none more = λ i. e i || more i
+any_step false has t us f rest e none more = more ∙ sym (ap (λ (c : Bool). c || rest) (none refl))
+
+sum_step : (b : Bool) (w : ℕ) (t : List ℕ) (us : List (List ℕ)) (terms : List DocTerm) (rest : ℕ) → wdf_of t terms ≡ w → (b ≡ false → w ≡ 0) → wdf_sum us terms ≡ rest → wdf_sum (cond b (t ∷ us) us) terms ≡ w + rest
+sum_step true w t us terms rest e none more = omega (arith, e, more)
+sum_step false w t us terms rest e none more = let zero : w ≡ 0 = none refl in omega (arith, zero, more)
+
 -- a term without a number is in no document
-module _ (i : Indexed) (complete : (t : List ℕ) → number_of t i.terms ≡ None → some_has t i.live.documents ≡ false) where
+module _ (i : Indexed) (complete : AreNumbered i) where
+  without : (id : ℕ) (d : Document) (t : List ℕ) → document_at id i.live.documents ≡ Some d → is_some (number_of t i.terms) ≡ false → has_term t d.terms ≡ false
+  without id d t at e = has_none t i.live.documents id d (complete t (some_number i t e)) at
+
   numbered_any : (id : ℕ) (d : Document) (ts : List (List ℕ)) → document_at id i.live.documents ≡ Some d → list_any (λ t. has_term t d.terms) (numbered i ts) ≡ list_any (λ t. has_term t d.terms) ts
   numbered_any id d [] at = refl
-  numbered_any id d (t ∷ ts) at = by (is_some (number_of t i.terms)) refl
-    where
-      by : (b : Bool) → is_some (number_of t i.terms) ≡ b → list_any (λ t. has_term t d.terms) (cond b (t ∷ numbered i ts) (numbered i ts)) ≡ (has_term t d.terms || list_any (λ t. has_term t d.terms) ts)
-      by true e = ap (λ b. has_term t d.terms || b) (numbered_any id d ts at)
-      by false e = numbered_any id d ts at ∙ sym (ap (λ b. b || list_any (λ t. has_term t d.terms) ts) (has_none t i.live.documents id d (complete t (some_number i t e)) at))
+  numbered_any id d (t ∷ ts) at =
+      any_step (is_some (number_of t i.terms)) (has_term t d.terms) t (numbered i ts) (λ t. has_term t d.terms) (list_any (λ t. has_term t d.terms) ts) refl (λ e. without id d t at e) (numbered_any id d ts at)
 
   numbered_sum : (id : ℕ) (d : Document) (ts : List (List ℕ)) → document_at id i.live.documents ≡ Some d → wdf_sum (numbered i ts) d.terms ≡ wdf_sum ts d.terms
   numbered_sum id d [] at = refl
-  numbered_sum id d (t ∷ ts) at = by (is_some (number_of t i.terms)) refl
-    where
-      more : wdf_sum (numbered i ts) d.terms ≡ wdf_sum ts d.terms
-      more = numbered_sum id d ts at
+  numbered_sum id d (t ∷ ts) at =
+      sum_step (is_some (number_of t i.terms)) (wdf_of t d.terms) t (numbered i ts) d.terms (wdf_sum ts d.terms) refl (λ e. wdf_of-none t d.terms (without id d t at e)) (numbered_sum id d ts at)
 
-      by : (b : Bool) → is_some (number_of t i.terms) ≡ b → wdf_sum (cond b (t ∷ numbered i ts) (numbered i ts)) d.terms ≡ wdf_of t d.terms + wdf_sum ts d.terms
-      by true e = omega (arith, more)
-      by false e = let none = wdf_of-none t d.terms (has_none t i.live.documents id d (complete t (some_number i t e)) at) in omega (arith, more, none)
+  numbered_of : (id : ℕ) (ts : List (List ℕ)) (scheme : Scheme) (factor : ℕ) (o : Option Document) → document_at id i.live.documents ≡ o → score_of (Trees.synonym (numbered i ts)) scheme factor o ≡ score_of (Trees.synonym ts) scheme factor o
+  numbered_of id ts scheme factor None at = refl
+  numbered_of id ts scheme factor (Some d) at = λ j. weight_if (numbered_any id d ts at j) (weigh_by factor scheme (numbered_sum id d ts at j))
 
   pub numbered_score : (ts us : List (List ℕ)) (scheme : Scheme) (factor id : ℕ) → us ≡ numbered i ts → score_of (Trees.synonym us) scheme factor (document_at id i.live.documents) ≡ score_of (Trees.synonym ts) scheme factor (document_at id i.live.documents)
-  numbered_score ts us scheme factor id e = ap (λ vs. score_of (Trees.synonym vs) scheme factor (document_at id i.live.documents)) e ∙ by (document_at id i.live.documents) refl
-    where
-      by : (o : Option Document) → document_at id i.live.documents ≡ o → score_of (Trees.synonym (numbered i ts)) scheme factor o ≡ score_of (Trees.synonym ts) scheme factor o
-      by None at = refl
-      by (Some d) at = λ j. weight_if (numbered_any id d ts at j) (weigh_by factor scheme (numbered_sum id d ts at j))
+  numbered_score ts us scheme factor id e = ap (λ vs. score_of (Trees.synonym vs) scheme factor (document_at id i.live.documents)) e ∙ numbered_of id ts scheme factor (document_at id i.live.documents) refl
+
+lengths_step : (b : Bool) (t : List ℕ) (us : List (List ℕ)) (docs : Docs) (n : ℕ) → lengths_of us docs ≤ n → lengths_of (cond b (t ∷ us) us) docs ≤ length_of t docs + n
+lengths_step true t us docs n le = omega (arith, le)
+lengths_step false t us docs n le = omega (arith, le)
 
 pub numbered_readings : (i : Indexed) (ts : List (List ℕ)) → lengths_of (numbered i ts) i.live.documents ≤ lengths_of ts i.live.documents
 numbered_readings i [] = omega arith
-numbered_readings i (t ∷ ts) = by (is_some (number_of t i.terms))
-  where
-    more : lengths_of (numbered i ts) i.live.documents ≤ lengths_of ts i.live.documents
-    more = numbered_readings i ts
+numbered_readings i (t ∷ ts) = lengths_step (is_some (number_of t i.terms)) t (numbered i ts) i.live.documents (lengths_of ts i.live.documents) (numbered_readings i ts)
 
-    by : (b : Bool) → lengths_of (cond b (t ∷ numbered i ts) (numbered i ts)) i.live.documents ≤ length_of t i.live.documents + lengths_of ts i.live.documents
-    by true = omega (arith, more)
-    by false = omega (arith, more)
+neither : (a b : Bool) → not a ≡ true → not b ≡ true → not (a || b) ≡ true
+neither true b g h = cc
+neither false b g h = h
+
+fewer_step : (b : Bool) (u : List ℕ) (us : List (List ℕ)) (f : List ℕ → Bool) → not (f u) ≡ true → not (list_any f us) ≡ true → not (list_any f (cond b (u ∷ us) us)) ≡ true
+fewer_step true u us f e more = neither (f u) (list_any f us) e more
+fewer_step false u us f e more = more
 
 numbered_fewer : (i : Indexed) (t : List ℕ) (ts : List (List ℕ)) → not (list_any (λ other. bytes_eq t other) ts) ≡ true → not (list_any (λ other. bytes_eq t other) (numbered i ts)) ≡ true
 numbered_fewer i t [] e = refl
-numbered_fewer i t (u ∷ ts) e = by (is_some (number_of u i.terms))
-  where
-    here : (not (bytes_eq t u) ≡ true) × (not (list_any (λ other. bytes_eq t other) ts) ≡ true)
-    here = fewer (bytes_eq t u) (list_any (λ other. bytes_eq t other) ts) e
+numbered_fewer i t (u ∷ ts) e =
+    let here = fewer (bytes_eq t u) (list_any (λ other. bytes_eq t other) ts) e in
+    fewer_step (is_some (number_of u i.terms)) u (numbered i ts) (λ other. bytes_eq t other) here.0 (numbered_fewer i t ts here.1)
 
-    none : (a b : Bool) → not a ≡ true → not b ≡ true → not (a || b) ≡ true
-    none true b g h = cc
-    none false b g h = h
-
-    by : (b : Bool) → not (list_any (λ other. bytes_eq t other) (cond b (u ∷ numbered i ts) (numbered i ts))) ≡ true
-    by true = none (bytes_eq t u) (list_any (λ other. bytes_eq t other) (numbered i ts)) here.0 (numbered_fewer i t ts here.1)
-    by false = numbered_fewer i t ts here.1
+apart_step : (b : Bool) (t : List ℕ) (us : List (List ℕ)) → not (list_any (λ other. bytes_eq t other) us) ≡ true → are_different us ≡ true → are_different (cond b (t ∷ us) us) ≡ true
+apart_step true t us e more = so_both (not (list_any (λ other. bytes_eq t other) us)) (are_different us) e more
+apart_step false t us e more = more
 
 pub numbered_apart : (i : Indexed) (ts : List (List ℕ)) → are_different ts ≡ true → are_different (numbered i ts) ≡ true
 numbered_apart i [] e = refl
-numbered_apart i (t ∷ ts) e = by (is_some (number_of t i.terms))
-  where
-    here : (not (list_any (λ other. bytes_eq t other) ts) ≡ true) × (are_different ts ≡ true)
-    here = both_so (not (list_any (λ other. bytes_eq t other) ts)) (are_different ts) e
-
-    by : (b : Bool) → are_different (cond b (t ∷ numbered i ts) (numbered i ts)) ≡ true
-    by true = so_both (not (list_any (λ other. bytes_eq t other) (numbered i ts))) (are_different (numbered i ts)) (numbered_fewer i t ts here.0) (numbered_apart i ts here.1)
-    by false = numbered_apart i ts here.1
+numbered_apart i (t ∷ ts) e =
+    let here = both_so (not (list_any (λ other. bytes_eq t other) ts)) (are_different ts) e in
+    apart_step (is_some (number_of t i.terms)) t (numbered i ts) (numbered_fewer i t ts here.0) (numbered_apart i ts here.1)
 
 pub synonym_apart : (factor : ℕ) (query : Trees.Tree) (ts : List (List ℕ)) → query ≡ Trees.synonym ts → is_sound factor query ≡ true → are_different ts ≡ true
 synonym_apart factor query ts e sound = (both_so (are_given ts) (are_different ts) (ap (is_sound factor) (sym e) ∙ sound)).1
@@ -356,23 +368,81 @@ module _ (i : Indexed) (prefix : List ℕ) (ns : List ℕ) (are : AreAllWith pre
   pub wild_readings : lengths_of (map (term_at i.terms) ns) i.live.documents ≡ leaf_readings (Trees.wildcard prefix) i.live.documents
   wild_readings = sym (lengths-named (term_at i.terms) i.live.documents ns) ∙ are.lengths
 
-  wild_fewer : (n : ℕ) (ms : List ℕ) → AllByRecursion (λ m. Precedes (term_at i.terms n) (term_at i.terms m)) ms → not (list_any (λ other. bytes_eq (term_at i.terms n) other) (map (term_at i.terms) ms)) ≡ true
-  wild_fewer n [] all = refl
-  wild_fewer n (m ∷ ms) all =
-      none (bytes_eq (term_at i.terms n) (term_at i.terms m)) (list_any (λ other. bytes_eq (term_at i.terms n) other) (map (term_at i.terms) ms)) (precedes_differs (term_at i.terms n) (term_at i.terms m) all.0) (wild_fewer n ms all.1)
-    where
-      none : (a b : Bool) → a ≡ false → not b ≡ true → not (a || b) ≡ true
-      none true b g h = cc
-      none false b g h = h
+there_by : (i : Indexed) (ms : List ℕ) → AllByRecursion (λ n. n < length i.terms) ms → AreThere i ms
+there_by i [] rest = tt
+there_by i (m ∷ ms) rest = (rest.0, there_by i ms rest.1)
 
-  wild_apart_of : (ms : List ℕ) → AllPairsByRecursion (λ m n. Precedes (term_at i.terms m) (term_at i.terms n)) ms → are_different (map (term_at i.terms) ms) ≡ true
-  wild_apart_of [] all = refl
-  wild_apart_of (m ∷ ms) all =
-      so_both (not (list_any (λ other. bytes_eq (term_at i.terms m) other) (map (term_at i.terms) ms))) (are_different (map (term_at i.terms) ms)) (wild_fewer m ms all.0) (wild_apart_of ms all.1)
+-- terms in byte order are different
+precedes_differs : (a b : List ℕ) → Precedes a b → bytes_eq a b ≡ false
+precedes_differs a b before = by (bytes_eq a b) refl
+  where
+    by : (x : Bool) → bytes_eq a b ≡ x → x ≡ false
+    by false e = refl
+    by true e = absurd (true≢false (sym ((bytes_decides b a).1 (sym ((bytes_decides a b).0 e))) ∙ less_differs a b before))
+
+wild_fewer : (f : ℕ → List ℕ) (n : ℕ) (ms : List ℕ) → AllByRecursion (λ m. Precedes (f n) (f m)) ms → not (list_any (λ other. bytes_eq (f n) other) (map f ms)) ≡ true
+wild_fewer f n [] all = refl
+wild_fewer f n (m ∷ ms) all = neither (bytes_eq (f n) (f m)) (list_any (λ other. bytes_eq (f n) other) (map f ms)) (ap not (precedes_differs (f n) (f m) all.0)) (wild_fewer f n ms all.1)
+
+pub wild_apart : (f : ℕ → List ℕ) (ns : List ℕ) → AllPairs (λ m n. Precedes (f m) (f n)) ns → are_different (map f ns) ≡ true
+wild_apart f [] rising = refl
+wild_apart f (n ∷ ns) rising =
+    so_both (not (list_any (λ other. bytes_eq (f n) other) (map f ns))) (are_different (map f ns))
+    (wild_fewer f n ns (recursion_from_All (λ m. Precedes (f n) (f m)) ns (λ j d lt. rising 0 (suc j) d (omega arith) (omega arith))))
+    (wild_apart f ns (λ j k d lt more. rising (suc j) (suc k) d (omega arith) (omega arith)))
 
 pub wild_there : (i : Indexed) (ns : List ℕ) → All (λ n. n < length i.terms) ns → AreThere i ns
-wild_there i ns all = by ns (recursion_from_All (λ n. n < length i.terms) ns all)
+wild_there i ns all = there_by i ns (recursion_from_All (λ n. n < length i.terms) ns all)
+
+greatests-named : (f : ℕ → List ℕ) (docs : Docs) (ns : List ℕ) → sum_by (λ n. greatest_of (f n) docs) ns ≡ greatests_of (map f ns) docs
+greatests-named f docs [] = refl
+greatests-named f docs (n ∷ ns) = sum_by-cons (λ n. greatest_of (f n) docs) n ns ∙ ap (λ m. greatest_of (f n) docs + m) (greatests-named f docs ns)
+
+no_lengths : (ts : List (List ℕ)) → lengths_of ts [] ≡ 0
+no_lengths [] = refl
+no_lengths (t ∷ ts) = let more = no_lengths ts in omega (arith, more)
+
+some_live : (ts : List (List ℕ)) (docs : Docs) → 0 < lengths_of ts docs → 0 < length docs
+some_live ts [] lt = absurd (omega (arith, lt, no_lengths ts))
+some_live ts (one ∷ more) lt = omega arith
+
+joint_le : (scheme : Scheme) (factor live long greatest : ℕ) → (0 < long → 0 < live) → joint_ceil scheme factor long greatest ≤ joint_ceil scheme factor (min live long) (min (2 ^ 29 - 1) greatest)
+joint_le scheme factor live long greatest some = by (nat_lt 0 long) refl
   where
-    by : (ms : List ℕ) → AllByRecursion (λ n. n < length i.terms) ms → AreThere i ms
-    by [] rest = tt
-    by (m ∷ ms) rest = (rest.0, by ms rest.1)
+    w : ℕ
+    w = weigh_by factor scheme (min (2 ^ 29 - 1) greatest)
+
+    same : w ≡ weigh_by factor scheme (min (2 ^ 29 - 1) (min (2 ^ 29 - 1) greatest))
+    same = let e : min (2 ^ 29 - 1) greatest ≡ min (2 ^ 29 - 1) (min (2 ^ 29 - 1) greatest) = omega arith in ap (weigh_by factor scheme) e
+
+    is_some : nat_lt 0 long ≡ true → nat_lt 0 (min live long) ≡ true
+    is_some e = more (long_some e) (some (long_some e))
+      where
+        long_some : nat_lt 0 long ≡ true → 0 < long
+        long_some e = grind (arith, nat_tests)
+
+        more : 0 < long → 0 < live → nat_lt 0 (min live long) ≡ true
+        more p q = let both : 0 < min live long = omega (arith, p, q) in lt_true (min live long) both
+          where
+            lt_true : (n : ℕ) → 0 < n → nat_lt 0 n ≡ true
+            lt_true n h = grind (arith, nat_tests)
+
+    by : (b : Bool) → nat_lt 0 long ≡ b → (cond b w 0) ≤ joint_ceil scheme factor (min live long) (min (2 ^ 29 - 1) greatest)
+    by false e = omega arith
+    by true e = subst (λ c. w ≤ cond c (weigh_by factor scheme (min (2 ^ 29 - 1) (min (2 ^ 29 - 1) greatest))) 0) (sym (is_some e)) (omega (arith, same))
+
+-- no document weighs more under a wildcard than it can
+pub wild_at_most : (i : Indexed) (query : Trees.Tree) (prefix : List ℕ) (ns : List ℕ) (scheme : Scheme) (factor : ℕ) → query ≡ Trees.wildcard prefix → AreAllWith prefix i.terms i.live.documents ns → All IsLight i.live.documents
+    → (id : ℕ) → unwrap_or (score_of query scheme factor (document_at id i.live.documents)) 0 ≤ ceil query scheme factor i.live.documents
+wild_at_most i query prefix ns scheme factor e are light id =
+    let docs = i.live.documents in
+    let ts = map (term_at i.terms) ns in
+    let bound = synonym_bound scheme factor ts docs (wild_apart (term_at i.terms) ns are.rising) light id in
+    let long : lengths_of ts docs ≡ sum_by (λ t. length_of t docs) (terms_with prefix docs) = sym (lengths-named (term_at i.terms) docs ns) ∙ are.lengths in
+    let great : greatests_of ts docs ≡ sum_by (λ t. greatest_of t docs) (terms_with prefix docs) = sym (greatests-named (term_at i.terms) docs ns) ∙ are.greatest in
+    let less : ceil (Trees.synonym ts) scheme factor docs ≤ ceil (Trees.wildcard prefix) scheme factor docs
+    = subst (λ m. joint_ceil scheme factor (lengths_of ts docs) (greatests_of ts docs) ≤ joint_ceil scheme factor (min (length docs) m) (wild_greatest_of prefix docs)) long
+    (subst (λ m. joint_ceil scheme factor (lengths_of ts docs) (greatests_of ts docs) ≤ joint_ceil scheme factor (min (length docs) (lengths_of ts docs)) (min (2 ^ 29 - 1) m)) great
+    (joint_le scheme factor (length docs) (lengths_of ts docs) (greatests_of ts docs) (some_live ts docs))) in
+    subst (λ q. unwrap_or (score_of q scheme factor (document_at id docs)) 0 ≤ ceil q scheme factor docs) (sym e)
+    (subst (λ o. unwrap_or o 0 ≤ ceil (Trees.wildcard prefix) scheme factor docs) (wild_score i prefix ns are scheme factor id) (omega (arith, bound, less)))

@@ -8,7 +8,7 @@ use Rattle.sk_sorted.specs.Entries.{RiseAbove, AreSorted, from, first_id}
 use Rattle.sk_sorted.proofs.EntryLaws.{from-below, from-at, found-here, found-other, found-below}
 use Rattle.sk_model.specs.Documents.{Document}
 use Rattle.sk_model.specs.Edits.{document_at}
-use Rattle.sk_model.specs.Combining.{sum_of_any}
+use Rattle.sk_model.specs.Combining.{sum_of_any, where_so}
 use Rattle.sk_model.specs.Covers.{Covers}
 use Rattle.sk_model.proofs.CoverLaws.{covers_exactly}
 use Rattle.sk_index.specs.Indexed.{Indexed}
@@ -16,13 +16,15 @@ use Rattle.sk_decay.specs.Heads.{IsHead, NoneBelow}
 use Rattle.sk_decay.proofs.SideLaws.{paired-none}
 use Rattle.sk_decay.specs.Sides.{paired}
 use Rattle.sk_nodes.specs.declared.top.Top.{Top}
-use Rattle.sk_nodes.specs.Shapes.{Shape, ended, leaf, span, pair, odd, Sides, no_sides, side}
+use Rattle.sk_nodes.specs.Proximity.{holds}
+use Rattle.sk_nodes.specs.Shapes.{Shape, ended, leaf, span, pair, odd, tested, Sides, no_sides, side}
 use Rattle.sk_nodes.specs.Left.{rest, rests, from_on}
 use Rattle.sk_nodes.specs.Sound.{IsTop, Sound, AreSound}
 use Rattle.sk_nodes.specs.Built.{weighed_ids, first_weight}
 use Rattle.sk_nodes.proofs.LeafLaws.{from_on-at, from_on-below}
 use Rattle.sk_nodes.proofs.NodeLaws.{IsHead-none}
 use Rattle.sk_nodes.proofs.OddLaws.{either_none, none_odd}
+use Rattle.sk_nodes.proofs.ProximityLaws.{where_none}
 
 -- where nothing is given nothing is left
 pub weighed_ids-none : (f : ℕ → Option ℕ) (docs : Docs) → ((id : ℕ) → f id ≡ None) → weighed_ids (λ one. f one.0) docs ≡ []
@@ -74,6 +76,7 @@ mutual
   rest-live i (pair form ta a tb b) sound id none =
       ap (λ o. paired form o (rest i b id)) (rest-live i a sound.first_sound id none) ∙ ap (paired form None) (rest-live i b sound.second_sound id none) ∙ paired-none form
   rest-live i (odd ss) sound id none = none_odd (rests i ss id) (rests-live i ss sound.sides id none)
+  rest-live i (tested p t s) sound id none = ap (where_so (holds i p id)) (rest-live i s sound.sound id none) ∙ where_none (holds i p id)
 
   rests-live : (i : Indexed) (ss : Sides) → AreSound i ss → (id : ℕ) → document_at id i.live.documents ≡ None → sum_of_any (rests i ss id) ≡ None
   rests-live i no_sides sound id none = refl

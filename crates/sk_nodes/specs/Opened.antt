@@ -13,7 +13,6 @@ use Rattle.sk_nodes.specs.declared.top.Top.{Top}
 use Rattle.sk_nodes.specs.Shapes.{Shape, Sides}
 use Rattle.sk_nodes.specs.Left.{rest, rests, greatest_sum}
 use Rattle.sk_nodes.specs.Sound.{IsTop, Sound, AreSound}
-use Rattle.sk_nodes.specs.Walked.{count_in, are_walked}
 
 -- What a document scores, if there is one.
 abbrev pub score_of : Query.Tree → Scheme → ℕ → Option Document → Option ℕ
@@ -75,12 +74,16 @@ abbrev mutual
   parts_size Query.no_trees = 0
   parts_size (Query.tree t ts) = query_size t + parts_size ts
 
+-- How many parts there are.
+abbrev pub count_in : Query.Trees → ℕ
+count_in Query.no_trees = 0
+count_in (Query.tree t ts) = 1 + count_in ts
+
 -- Parts of which a node can be opened under a form and a factor.
 pub record AreParts (form : Form) (factor : ℕ) (ts : Query.Trees) : Type 0 where
   pub some : 0 < count_in ts
   pub sound : are_sound factor ts ≡ true
   pub leaves : leaves_in ts ≤ 1024
-  pub walked : are_walked ts ≡ true
 
 -- What a synonym is made of terms by: their weights added under Nnn; under the other schemes all weigh the same.
 abbrev pub joint_form : Scheme → Form

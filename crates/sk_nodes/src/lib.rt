@@ -12,8 +12,6 @@ mod span;
 mod synonym;
 mod top;
 mod tree;
-mod walked;
 mod words;
 
 pub use tree::Tree;
-pub use walked::is_walked;

@@ -20,8 +20,7 @@ ghost use Rattle.sk_nodes.specs.Left.{rest, rests, unread_of, unread_in, greates
 ghost use Rattle.sk_nodes.specs.Sound.{IsTop, IsOdd, IsTested, Sound, AreSound};
 ghost use Rattle.sk_nodes.specs.Odd.{followed_by};
 ghost use Rattle.sk_nodes.specs.Proximity.{standing_query, holds, entries_from};
-ghost use Rattle.sk_nodes.specs.Walked.{is_walked, count_in};
-ghost use Rattle.sk_nodes.specs.Opened.{score_of, part_scores, is_nest, OpensSides, joint_score_of, others_of, query_size, parts_size, AreParts, Opens};
+ghost use Rattle.sk_nodes.specs.Opened.{count_in, score_of, part_scores, is_nest, OpensSides, joint_score_of, others_of, query_size, parts_size, AreParts, Opens};
 
 use crate::leaf::{Leaf, list_length};
 use crate::moves::{seek_odd, seek_pair, seek_tested};
@@ -30,7 +29,7 @@ use crate::proximity::{Proximity, Standing};
 use crate::ranges::open_range;
 use crate::synonym::{open_synonym, open_wildcard};
 use crate::top::Top;
-use crate::words::{add_lengths, all_of, numbers_of, raise};
+use crate::words::{add_lengths, numbers_of, raise, terms_of};
 use sk_base::{Scheme, Term, Text};
 use sk_index::Index;
 use sk_query::{Form, Query};
@@ -57,7 +56,6 @@ pub(crate) fn open_node<L: Ledger>(
     requires factor { factor ≤ 65536 }
     requires sound { is_sound factor (query_view query.now) ≡ true }
     requires leaves { leaves_of (query_view query.now) ≤ 1024 }
-    requires walked { is_walked (query_view query.now) ≡ true }
     requires documents { AreSorted index.now.live.documents }
     requires light { All IsLight index.now.live.documents }
     requires room { spent.old ≤ most.old }
@@ -175,8 +173,18 @@ fn open_standing<L: Ledger>(
     if numbers.len() < words.len() {
         return Ok((Top::ended(), Node::Nothing));
     }
-    let all = all_of(alloc, words)?;
-    let (below, node) = open_node(alloc, index, &all, scheme, factor, most, spent, steps)?;
+    let terms = terms_of(alloc, words)?;
+    let (below, node) = open_parts(
+        alloc,
+        index,
+        Form::And,
+        terms.as_slice(),
+        scheme,
+        factor,
+        most,
+        spent,
+        steps,
+    )?;
     add_lengths(index, numbers.as_slice(), most)?;
     let marks = Vec::from_elem(alloc, 0, numbers.len())?;
     let test = Proximity {
@@ -379,7 +387,7 @@ fn odd_halves(parts: &[Query], _factor: u64) -> (&[Query], &[Query])
 }
 
 /// Whether the parts make a nest of nodes of two sides.
-#[tactic(auto, using(crate::proofs::WalkedLaws::counted))]
+#[tactic(auto, using(crate::proofs::CountLaws::counted))]
 fn is_nest(form: Form, parts: &[Query]) -> bool
     ensures { result ≡ is_nest form (count_in (queries_view parts.now)) }
 {
@@ -393,7 +401,6 @@ fn is_nest(form: Form, parts: &[Query]) -> bool
 fn parts_of(query: &Query, _factor: u64) -> Option<(Form, &[Query])>
     requires sound { is_sound _factor (query_view query.now) ≡ true }
     requires leaves { leaves_of (query_view query.now) ≤ 1024 }
-    requires walked { is_walked (query_view query.now) ≡ true }
     ensures parts { IfSome result (λ p. AreParts p.0 _factor (queries_view p.1.now)) }
     ensures size { IfSome result (λ p. query_size (query_view query.now) ≡ 1 + parts_size (queries_view p.1.now)) }
     ensures scores { IfSome result (λ p. (scheme : Scheme) (o : Option Document) → score_of (query_view query.now) scheme _factor o ≡ joint_score_of p.0 (queries_view p.1.now) scheme _factor o) }
@@ -412,7 +419,6 @@ fn only_part(form: Form, parts: &[Query], _factor: u64) -> Option<&Query>
     ensures many { IfNone result (2 ≤ length parts.now) }
     ensures sound { IfSome result (λ part. is_sound _factor (query_view part.now) ≡ true) }
     ensures leaves { IfSome result (λ part. leaves_of (query_view part.now) ≤ 1024) }
-    ensures walked { IfSome result (λ part. is_walked (query_view part.now) ≡ true) }
     ensures alone { IfSome result (λ part. queries_view parts.now ≡ QueryTree.tree (query_view part.now) QueryTree.no_trees) }
     ensures size { IfSome result (λ part. query_size (query_view part.now) ≡ parts_size (queries_view parts.now)) }
     ensures scores { IfSome result (λ part. (scheme : Scheme) (o : Option Document) → joint_score_of form (queries_view parts.now) scheme _factor o ≡ score_of (query_view part.now) scheme _factor o) }

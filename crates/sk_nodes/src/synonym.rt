@@ -7,7 +7,7 @@ ghost use Rattle.sk_sorted.specs.Entries.{AreSorted};
 ghost use Rattle.sk_dict.specs.Terms.{term_at};
 ghost use Rattle.sk_query.specs.Trees as QueryTree;
 ghost use Rattle.sk_query.specs.Trees.{query_view};
-ghost use Rattle.sk_query.specs.Fits.{is_sound, are_different};
+ghost use Rattle.sk_query.specs.Fits.{is_sound, leaves_of, are_different};
 ghost use Rattle.sk_model.specs.Documents.{Document};
 ghost use Rattle.sk_model.specs.Bounds.{ceil, lengths_of, term_ceil};
 ghost use Rattle.sk_model.specs.Allowance.{leaf_readings};
@@ -47,6 +47,7 @@ pub(crate) fn open_synonym<L: Ledger>(
     requires is { query_view query.now ≡ QueryTree.synonym words.now }
     requires factor { factor ≤ 65536 }
     requires sound { is_sound factor (query_view query.now) ≡ true }
+    requires leaves { leaves_of (query_view query.now) ≤ 1024 }
     requires documents { AreSorted index.now.live.documents }
     requires light { All IsLight index.now.live.documents }
     requires room { spent.old ≤ most.old }
@@ -88,6 +89,8 @@ pub(crate) fn open_wildcard<L: Ledger>(
 ) -> Result<(Top, Node), AllocError>
     requires is { query_view query.now ≡ QueryTree.wildcard prefix.now }
     requires factor { factor ≤ 65536 }
+    requires sound { is_sound factor (query_view query.now) ≡ true }
+    requires leaves { leaves_of (query_view query.now) ≤ 1024 }
     requires documents { AreSorted index.now.live.documents }
     requires light { All IsLight index.now.live.documents }
     requires room { spent.old ≤ most.old }

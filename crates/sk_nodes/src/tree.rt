@@ -11,7 +11,6 @@ ghost use Rattle.sk_model.specs.Allowance.{leaf_readings};
 ghost use Rattle.sk_index.specs.Indexed.{Indexed};
 ghost use Rattle.sk_nodes.specs.Left.{from_on};
 ghost use Rattle.sk_nodes.specs.Leaves.{AtMost};
-ghost use Rattle.sk_nodes.specs.Walked.{is_walked};
 ghost use Rattle.sk_nodes.specs.Built.{gives, left, scored, first_weight, IsTree, Built};
 
 use crate::moves::reach;
@@ -44,7 +43,6 @@ impl Tree {
         steps: &mut Steps<L>,
     ) -> Result<Tree, AllocError>
         requires fits { fits_tree (query_view query.now) ≡ true }
-        requires walked { is_walked (query_view query.now) ≡ true }
         ensures built { IfOk result (λ tree. Built tree index.now (query_view query.now) scheme) }
 
         // What is left is what the documents score one by one.

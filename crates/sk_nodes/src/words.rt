@@ -2,16 +2,14 @@
 ghost use Rattle.std.specs.Prelude.{◌≡◌, ◌≤◌, ◌<◌, ◌+◌, ◌^◌, map, IfOk, OnOk, OnErr};
 ghost use Rattle.sk_dict.specs.Terms.{term_at};
 ghost use Rattle.sk_index.specs.Indexed.{AreNumbered};
-ghost use Rattle.sk_query.specs.declared.form.Form.TheVariants as Form;
-ghost use Rattle.sk_query.specs.Trees as QueryTree;
-ghost use Rattle.sk_query.specs.Trees.{query_view};
+ghost use Rattle.sk_query.specs.Trees.{queries_view};
 ghost use Rattle.sk_nodes.specs.Opened.{term_trees};
 ghost use Rattle.sk_nodes.specs.Proximity.{entries_from, numbered, AreThere, AreInOrder};
 
 use crate::leaf::list_length;
 use sk_base::Text;
 use sk_index::Index;
-use sk_query::Query;
+use sk_query::{Queries, Query};
 use std::alloc::{AllocError, Global};
 
 /// The numbers of those words that have one, in their order.
@@ -36,16 +34,16 @@ pub(crate) fn numbers_of(
     Ok(numbers)
 }
 
-/// All of the words, as a query.
-pub(crate) fn all_of(alloc: Global, words: &[Text]) -> Result<Query, AllocError>
-    ensures { IfOk result (λ query. query_view query ≡ QueryTree.parts Form.And (term_trees words.now)) }
+/// The words as queries, in their order.
+pub(crate) fn terms_of(alloc: Global, words: &[Text]) -> Result<Queries, AllocError>
+    ensures { IfOk result (λ terms. queries_view terms.items ≡ term_trees words.now) }
 {
-    let mut parts = Vec::new(alloc);
+    let mut terms = Vec::new(alloc);
     'words: for word in words {
         let term = Text::new(alloc, word.as_str())?;
-        parts.push(Query::Term(term))?;
+        terms.push(Query::Term(term))?;
     }
-    Ok(Query::And(parts))
+    Ok(terms)
 }
 
 /// Adds the lengths of the lists of the terms with these numbers.

@@ -38,7 +38,8 @@ impl From<AllocError> for ParseError {
     }
 }
 
-/// The query of `text` under `schema`, where its words are joined so; or its first fault, with the byte at which that stands.
+/// The query of `text` under `schema`, where its words are joined so; or its first fault, with the byte at which that
+/// stands.
 pub fn parse(alloc: Global, text: &str, schema: &Schema, join: Join) -> Result<Query, ParseError>
     requires { length text.now ≤ 1048576 }
     ensures ok { IfOk result (λ q. query_meant schema.now join text.now ≡ Some (query_view q)) }

@@ -12,7 +12,9 @@ use sk_base::{MOST_LEAVES, Text};
 const MOST_DEPTH: usize = 1_000;
 
 impl Query {
-    /// Whether the query keeps all conditions and limits (`fits_tree` in `specs/Fits.antt`), however it was made. The depth is looked at first, so that no look goes deeper than it may; the leaves next, so that few texts are compared with each other.
+    /// Whether the query keeps all conditions and limits (`fits_tree` in `specs/Fits.antt`), however it was made. The
+    /// depth is looked at first, so that no look goes deeper than it may; the leaves next, so that few texts are
+    /// compared with each other.
     pub fn fits(&self) -> bool
         ensures { result ≡ fits_tree (query_view self.now) }
     {

@@ -19,8 +19,8 @@ pub fn fits(wanted: &[String], answered: &str) -> bool {
     lines.next().is_none()
 }
 
-/// Whether a line is the one that is written. A line that ends in `<=` and a number fits one that ends in `=` and a number
-/// that is no greater: how many readings a find makes is only bounded.
+/// Whether a line is the one that is written. A line that ends in `<=` and a number fits one that ends in `=` and a
+/// number that is no greater: how many readings a find makes is only bounded.
 fn line_fits(want: &str, line: &str) -> bool {
     match want.rsplit_once("<=") {
         Some((front, most)) => match line.rsplit_once("=") {

@@ -61,8 +61,8 @@ impl Section {
         self.rows
     }
 
-    /// Adds a line: `# ` and the title, `@ ` and what is set, `> ` and a line of commands, `>> ` and one without its end,
-    /// `! ` and a line that is said, or an answer. A blank line is nothing.
+    /// Adds a line: `# ` and the title, `@ ` and what is set, `> ` and a line of commands, `>> ` and one without its
+    /// end, `! ` and a line that is said, or an answer. A blank line is nothing.
     pub fn add(&mut self, alloc: Global, line: &[u8]) -> Result<(), AllocError> {
         if let Some(title) = line.strip_prefix(b"# ") {
             self.title = String::from_utf8_lossy(alloc, title)?;

@@ -9,8 +9,8 @@ ghost use Rattle.sk_run.specs.Conclusions.{Says};
 use crate::Status;
 use sk_io::{Failed, Sink, put_all};
 
-/// Says on `errors` why a run did not come to its end, where it did not, and answers the number that the process ends with.
-/// `usage` is said of words that are no form. Where the line can't be put, the number tells all the same.
+/// Says on `errors` why a run did not come to its end, where it did not, and answers the number that the process ends
+/// with. `usage` is said of words that are no form. Where the line can't be put, the number tells all the same.
 pub fn conclude<E: Sink>(status: Status, usage: &'static [u8], errors: &mut E) -> u8
     ensures code { result ≡ code_of status }
     ensures says { Says usage.now status (E.held errors.old) (E.faults errors.old) (E.held errors.new) (E.faults errors.new) }

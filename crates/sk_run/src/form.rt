@@ -18,8 +18,8 @@ use std::env::Args;
 use std::io;
 use std::sync::ledger::Ledger;
 
-/// Does what the words ask for. `run`: each line of `input` is a command, obeyed by a store of its own, and is answered on
-/// `output` before the next line is read.
+/// Does what the words ask for. `run`: each line of `input` is a command, obeyed by a store of its own, and is
+/// answered on `output` before the next line is read.
 pub fn run<M: Store, S: Source, K: Sink, L: Ledger>(
     alloc: Global,
     words: &[String],

@@ -11,9 +11,9 @@ use sk_steps::Steps;
 use std::alloc::Global;
 use std::sync::ledger::{Blank, Ledger};
 
-/// Runs what the arguments of a program ask for, over a store of its own and under a counter of its own, and answers the
-/// number that the program ends with. Why a run did not come to its end is said on `errors`; `usage` is said of words that
-/// are no form.
+/// Runs what the arguments of a program ask for, over a store of its own and under a counter of its own, and answers
+/// the number that the program ends with. Why a run did not come to its end is said on `errors`; `usage` is said of
+/// words that are no form.
 pub fn start<M: Store, S: Source, K: Sink, E: Sink, L: Ledger>(
     blank: Blank,
     alloc: Global,

@@ -44,8 +44,8 @@ pub trait Store: Drop {
     fn schema(&self) -> &Schema
         ensures { result.now ≡ fields self.now };
 
-    /// Does what a command asks for. The counter rises by the readings that the answer tells of. Where memory runs out the
-    /// store is given up.
+    /// Does what a command asks for. The counter rises by the readings that the answer tells of. Where memory runs
+    /// out the store is given up.
     fn obey<L: Ledger>(
         self,
         command: Command,

@@ -1,11 +1,17 @@
 -- The sides of one half behind those of the other.
-use Rattle.std.proofs.Common.{◌≡◌, ◌+◌, ap, ◌∙◌, arith}
+use Rattle.std.proofs.Common.{◌≡◌, ◌+◌, ℕ, List, refl, sym, subst, ap, ◌∙◌, arith}
+use Rattle.sk_query.specs.declared.form.Form.{Form}
 use Rattle.sk_query.specs.Trees.{queries_view}
-use Rattle.sk_model.specs.Bounds.{sum_in, ceils}
-use Rattle.sk_nodes.specs.Shapes.{sides_on}
+use Rattle.sk_model.specs.Bounds.{sum_in, ceils, ceil_of, lengths_of}
+use Rattle.sk_model.specs.Allowance.{leaves_readings}
+use Rattle.sk_nodes.specs.Shapes.{shape_of, sides_on}
 use Rattle.sk_nodes.specs.Left.{unread_in}
-use Rattle.sk_nodes.specs.Opened.{part_scores}
+use Rattle.sk_nodes.specs.Proximity.{entries_from, AreInOrder}
+use Rattle.sk_nodes.specs.Opened.{part_scores, joint_score_of, parts_size, AreParts, Opens}
 use Rattle.sk_nodes.proofs.OddLaws.{unread_behind, opens_behind}
+use Rattle.sk_nodes.proofs.NodeLaws.{shape_of-Nothing}
+use Rattle.sk_nodes.proofs.ListLaws.{nothing_opened}
+use Rattle.sk_nodes.proofs.StandingLaws.{missing_none, fewer_numbers, all_numbered, terms_are, terms_size, terms_ceils, terms_readings, entries_all, test_opened, standing_opened}
 use Rattle.sk_nodes.proofs.opening.+open_node.Goals as goal
 
 pub open_sides-returns-clause-opens : goal.open_sides-returns-clause-opens
@@ -21,3 +27,45 @@ open_sides-returns-clause-paid g t c =
     let whole : unread_in i (sides_on c.in_ok-tops-2.tops.items c.in_ok-tops-2.nodes.items) ≡ unread_in i (sides_on c.in_ok-some_tops.some_tops.items c.in_ok-some_tops.some_nodes.items) + unread_in i (sides_on c.in_ok-more_tops.more_tops.items c.in_ok-more_tops.more_nodes.items)
     = ap (unread_in i) c.in_ok-tops-2.ensures.sides ∙ unread_behind i (sides_on c.in_ok-some_tops.some_tops.items c.in_ok-some_tops.some_nodes.items) (sides_on c.in_ok-more_tops.more_tops.items c.in_ok-more_tops.more_nodes.items) in
     omega (arith, whole, c.in_ok-some_tops.ensures.paid, c.in_ok-more_tops.ensures.paid)
+
+pub open_standing-returns-then-len-words-clause-opens : goal.open_standing-returns-then-len-words-clause-opens
+open_standing-returns-then-len-words-clause-opens g t c =
+    let i = c.args.index.now in
+    nothing_opened i c.ended.result _ _ _ c.ended.ensures shape_of-Nothing
+    (λ id. missing_none i c.args.standing c.args.window c.args.words.now c.args.scheme c.args.factor id c.in_ok-numbers.ensures.complete
+    (fewer_numbers i c.in_ok-numbers.numbers.items c.args.words.now c.in_ok-numbers.ensures.terms (omega (arith, c.if-len-words.true, c.len.ensures))))
+
+pub open_standing-open_parts-requires : goal.open_standing-open_parts-requires
+open_standing-open_parts-requires g t c κs within =
+    let view = ap queries_view c.as_slice.ensures.value ∙ c.in_ok-terms.ensures in (
+      omega (arith, c.decreases, ap parts_size view, terms_size c.args.words.now),
+      (within, (c.requires.factor, (subst (λ ts. AreParts Form.And c.args.factor ts) (sym view) (terms_are c.args.factor c.args.window c.args.words.now c.requires.sound c.requires.leaves), (c.requires.documents, (c.requires.light, (c.requires.room, c.requires.small)))))),
+    )
+
+pub open_standing-returns-clause-opens : goal.open_standing-returns-clause-opens
+open_standing-returns-clause-opens g t c =
+    let i = c.args.index.now in
+    let view = ap queries_view c.as_slice.ensures.value ∙ c.in_ok-terms.ensures in
+    let named = all_numbered i c.in_ok-numbers.numbers.items c.args.words.now c.in_ok-numbers.ensures.terms (omega (arith, c.if-len-words.false, c.len.ensures)) in
+    standing_opened i (record { standing = c.args.standing; window = c.args.window; numbers = c.in_ok-numbers.numbers; marks = c.in_ok-marks.marks; next = 0 }) c.in_ok-below.below c.in_ok-top.top (shape_of c.in_ok-below.node) (shape_of c.in_ok-top.node) c.args.words.now c.args.scheme c.args.factor _ named
+    (subst (λ ts. Opens i c.in_ok-below.below (shape_of c.in_ok-below.node) (joint_score_of Form.And ts c.args.scheme c.args.factor) (ceil_of Form.And (ceils ts c.args.scheme c.args.factor i.live.documents))) view c.in_ok-below.ensures.opens)
+    (terms_ceils c.args.words.now c.args.scheme c.args.factor i.live.documents)
+    c.in_ok-top.ensures.top c.in_ok-top.ensures.sound c.in_ok-top.ensures.gives c.in_ok-top.ensures.ceiling
+
+pub open_standing-returns-clause-within : goal.open_standing-returns-clause-within
+open_standing-returns-clause-within g t c =
+    let i = c.args.index.now in
+    let view = ap queries_view c.as_slice.ensures.value ∙ c.in_ok-terms.ensures in
+    let named = all_numbered i c.in_ok-numbers.numbers.items c.args.words.now c.in_ok-numbers.ensures.terms (omega (arith, c.if-len-words.false, c.len.ensures)) in
+    let first = ap (λ ts. leaves_readings ts i.live.documents) view ∙ terms_readings c.args.words.now i.live.documents in
+    let second = ap (λ (ns : List ℕ). entries_from i 0 ns) c.as_slice-2.ensures.value ∙ entries_all i c.in_ok-numbers.numbers.items ∙ ap (λ ts. lengths_of ts i.live.documents) named in
+    omega (arith, first, second, c.in_ok-below.ensures.within, c.in_ok-add_lengths.ensures.sum)
+
+pub open_standing-tested_of-requires-clause-tested : goal.open_standing-tested_of-requires-clause-tested
+open_standing-tested_of-requires-clause-tested g t c =
+    let i = c.args.index.now in
+    let view = ap queries_view c.as_slice.ensures.value ∙ c.in_ok-terms.ensures in
+    let named = all_numbered i c.in_ok-numbers.numbers.items c.args.words.now c.in_ok-numbers.ensures.terms (omega (arith, c.if-len-words.false, c.len.ensures)) in
+    test_opened i (record { standing = c.args.standing; window = c.args.window; numbers = c.in_ok-numbers.numbers; marks = c.in_ok-marks.marks; next = 0 }) c.in_ok-below.below (shape_of c.in_ok-below.node) c.args.words.now c.args.scheme c.args.factor _ c.requires.sound named
+    (omega (arith, c.in_ok-marks.ensures.len, c.len-2.ensures)) c.in_ok-numbers.ensures.there (subst (λ (ns : List ℕ). AreInOrder i ns) c.as_slice-2.ensures.value c.in_ok-add_lengths.ensures.sorted) refl c.requires.documents
+    (subst (λ ts. Opens i c.in_ok-below.below (shape_of c.in_ok-below.node) (joint_score_of Form.And ts c.args.scheme c.args.factor) (ceil_of Form.And (ceils ts c.args.scheme c.args.factor i.live.documents))) view c.in_ok-below.ensures.opens)

@@ -2,8 +2,8 @@
 use Rattle.std.proofs.Common.{◌≡◌, ◌<◌, arith}
 use Rattle.sk_query.specs.Trees.{queries_view}
 use Rattle.sk_query.specs.declared.form.Form.{Form}
-use Rattle.sk_nodes.specs.Walked.{count_in}
-use Rattle.sk_nodes.proofs.WalkedLaws.{counted}
+use Rattle.sk_nodes.specs.Opened.{count_in}
+use Rattle.sk_nodes.proofs.CountLaws.{counted}
 use Rattle.sk_nodes.proofs.OpenLaws.{joined, parts_joined, split_front, split_back, split_front_size, split_back_size, split_readings, halves_scores, halves_ceiling}
 use Rattle.sk_nodes.proofs.opening.odd_halves.Goals as goal
 

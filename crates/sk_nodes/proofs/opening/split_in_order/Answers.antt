@@ -1,8 +1,8 @@
 -- What holds of parts holds of the first of them and of the others.
 use Rattle.std.proofs.Common.{◌≡◌, ◌<◌, arith}
 use Rattle.sk_query.specs.Trees.{queries_view}
-use Rattle.sk_nodes.specs.Walked.{count_in}
-use Rattle.sk_nodes.proofs.WalkedLaws.{counted}
+use Rattle.sk_nodes.specs.Opened.{count_in}
+use Rattle.sk_nodes.proofs.CountLaws.{counted}
 use Rattle.sk_nodes.proofs.OpenLaws.{joined, parts_joined, split_front, split_back, split_front_size, split_back_size, split_scores, split_ceiling, split_readings, split_fits}
 use Rattle.sk_nodes.proofs.opening.split_in_order.Goals as goal
 

@@ -2,7 +2,7 @@
 use Rattle.std.proofs.Common.{◌≡◌, List, [], ◌∷◌, length, refl, arith}
 use Rattle.sk_query.specs.declared.query.Query.{Query}
 use Rattle.sk_query.specs.Trees.{queries_view}
-use Rattle.sk_nodes.specs.Walked.{count_in}
+use Rattle.sk_nodes.specs.Opened.{count_in}
 
 pub counted : (qs : List Query) → count_in (queries_view qs) ≡ length qs
 counted [] = refl

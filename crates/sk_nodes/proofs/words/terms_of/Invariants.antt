@@ -3,7 +3,7 @@ use Rattle.std.proofs.Common.{◌≡◌, drop}
 use Rattle.sk_query.specs.Trees.{queries_view}
 use Rattle.sk_nodes.specs.Opened.{term_trees}
 use Rattle.sk_nodes.proofs.OpenLaws.{joined}
-use Rattle.sk_nodes.proofs.words.all_of.Given as goal
+use Rattle.sk_nodes.proofs.words.terms_of.Given as goal
 
 abbrev pub invariant-words : goal.invariant-words
-invariant-words l = joined (queries_view l.parts.items) (term_trees (drop l.word-index l.words)) ≡ term_trees l.words
+invariant-words l = joined (queries_view l.terms.items) (term_trees (drop l.word-index l.words)) ≡ term_trees l.words

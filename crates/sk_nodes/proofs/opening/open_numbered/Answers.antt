@@ -1,0 +1,21 @@
+-- The list of a term gives what the documents score for it.
+use Rattle.std.proofs.Common.{◌≤◌, subst, ◌∙◌, arith}
+use Rattle.sk_dict.specs.Terms.{term_at}
+use Rattle.sk_nodes.proofs.ListLaws.{weighed-term, greatest-term, length-postings}
+use Rattle.sk_nodes.proofs.opening.open_numbered.Goals as goal
+
+pub returns-clause-opens : goal.returns-clause-opens
+returns-clause-opens g c =
+    let i = c.args.index.now in
+    let t = term_at i.terms c.args.number in
+    record {
+      top = c.in_ok-top.ensures.top;
+      sound = c.in_ok-top.ensures.sound;
+      gives = λ id. c.in_ok-top.ensures.gives id ∙ weighed-term c.args.factor c.args.scheme t i.live.documents c.requires.documents id;
+      ceiling = subst (λ n. c.in_ok-top.top.greatest ≤ n) (greatest-term c.args.factor c.args.scheme t i.live.documents) c.in_ok-top.ensures.ceiling;
+    }
+
+pub returns-clause-within : goal.returns-clause-within
+returns-clause-within g c =
+    let i = c.args.index.now in
+    omega (arith, length-postings (term_at i.terms c.args.number) i.live.documents, c.in_ok-top.ensures.within)
