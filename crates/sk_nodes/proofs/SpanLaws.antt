@@ -1,19 +1,19 @@
 -- The values of a slot that lie in a range, as what documents score.
-use Rattle.std.proofs.Common.{◌≡◌, ◌≢◌, ◌<◌, ◌≤◌, ◌+◌, ◌^◌, ℕ, Bool, true, false, not, cond, if◌then◌else◌, ◌||◌, ◌&&◌, ◌==◌, nat_lt, List, [], ◌∷◌, length, map, filter, count_by, Option, Some, None, unwrap_or, option_map, inl, inr, refl, sym, subst, ap, ◌∙◌, arith, rules, true≢false, le_refl}
+use Rattle.std.proofs.Common.{◌≡◌, ◌<◌, ◌≤◌, ◌+◌, ◌^◌, ℕ, Bool, true, false, not, cond, if◌then◌else◌, ◌||◌, ◌&&◌, ◌==◌, nat_lt, List, [], ◌∷◌, length, Option, Some, None, unwrap_or, option_map, inl, inr, refl, sym, subst, ap, ◌∙◌, arith, rules, true≢false}
 use Rattle.std.specs.List.{cons_option}
 use Rattle.std.specs.Cmp.{upto}
 use Rattle.std.specs.Cmp.Lexicographic.{slice_cmp, nat_list_cmp_total}
 use Rattle.std.specs.Ordering.{nat_cmp, is_le, is_gt}
 use Rattle.std.specs.declared.cmp.Ordering.{Ordering}
 use Rattle.std.specs.declared.cmp.Ordering.TheVariants.{Less, Equal, Greater}
-use Rattle.std.proofs.lemmas.Bool.{cases_eq, cases_lt}
+use Rattle.std.proofs.lemmas.Bool.{cases_eq}
 use Rattle.std.proofs.lemmas.List.Sums.{sum_by-cons}
 use Rattle.sk_base.specs.declared.doc_entry.SlotValue.{SlotValue}
 use Rattle.sk_base.specs.declared.find.Scheme.{Scheme}
 use Rattle.sk_base.specs.Documents.{value_in, has_value}
 use Rattle.sk_base.specs.Numbers.{Docs, slot_length_of}
 use Rattle.sk_sorted.specs.Entries.{RiseAbove, LieBelow, AreSorted, found, from, first_id}
-use Rattle.sk_sorted.proofs.EntryLaws.{RiseAbove-lower, from-below, from-at, found-here, found-other, found-below}
+use Rattle.sk_sorted.proofs.EntryLaws.{RiseAbove-lower, found-here, found-other, found-below}
 use Rattle.sk_lists.specs.Postings.{Postings, first_wdf}
 use Rattle.sk_values.specs.SlotValues.{SlotValues}
 use Rattle.sk_values.specs.RangeCursor.{in_range, left, IsOn}
@@ -36,7 +36,6 @@ use Rattle.sk_nodes.specs.Left.{from_on}
 use Rattle.sk_nodes.specs.Sound.{IsTop}
 use Rattle.sk_nodes.specs.Span.{unweighed, span_entries, span_rest, IsSpanOn}
 use Rattle.sk_nodes.specs.Opened.{score_of, Opens}
-use Rattle.sk_nodes.specs.Passes.{Passes}
 use Rattle.sk_nodes.proofs.LeafLaws.{weighed-head, weighed-none, Passes-covers, Passes-from, head_of-Some, head_of-reached, RiseAbove-behind, from_on-none, covers_none}
 use Rattle.sk_nodes.proofs.ListLaws.{found_cons, found_skip}
 
@@ -236,10 +235,6 @@ crossed_scores lo hi slot scheme factor (Some d) e = sym (ap (λ b. weight_if b 
 
 -- ---- a span
 
-none_past : (es : Postings) (id : ℕ) → None ≡ first_id es → found id es ≡ None
-none_past [] id e = refl
-none_past (p ∷ ps) id e = cc
-
 zero_bound : (es : Postings) → AtMost 0 (weighed 0 Scheme.Bool es)
 zero_bound es id = by (found id es)
   where
@@ -260,21 +255,8 @@ span_head i r id on e =
     let es = left r.cursor (slot_values r.slot i.live.documents) in
     subst (λ w. IsHead id w (span_rest i r)) (no_weight 0) (weighed-head 0 Scheme.Bool id 0 (span_entries i r) on.sorted (e ∙ sym (first_unweighed es)) (first_zero es))
 
-pub span_ended : (i : Indexed) (r : Span) → None ≡ first_id (left r.cursor (slot_values r.slot i.live.documents)) → IsHead (2 ^ 32) 0 (span_rest i r)
-span_ended i r e =
-    let es = left r.cursor (slot_values r.slot i.live.documents) in
-    let gone : (id : ℕ) → span_rest i r id ≡ None = λ id. weighed-none 0 Scheme.Bool id (span_entries i r) (none_past (span_entries i r) id (e ∙ sym (first_unweighed es))) in
-    record { within = le_refl (2 ^ 32); below = λ id lt. gone id; at = λ lt. absurd (omega (arith, lt)); past = λ id le. gone id; ended = λ same. refl }
-
 pub span_at : (i : Indexed) (r : Span) (id : ℕ) → Some id ≡ first_id (left r.cursor (slot_values r.slot i.live.documents)) → id ≡ head_of (span_entries i r)
 span_at i r id e = head_of-Some id (span_entries i r) (e ∙ sym (first_unweighed (left r.cursor (slot_values r.slot i.live.documents))))
-
-pub span_at_end : (i : Indexed) (r : Span) → None ≡ first_id (left r.cursor (slot_values r.slot i.live.documents)) → 2 ^ 32 ≡ head_of (span_entries i r)
-span_at_end i r e = by (span_entries i r) (e ∙ sym (first_unweighed (left r.cursor (slot_values r.slot i.live.documents))))
-  where
-    by : (es : Postings) → None ≡ first_id es → 2 ^ 32 ≡ head_of es
-    by [] f = refl
-    by (p ∷ ps) f = cc
 
 -- the cursor moved on
 module _ (i : Indexed) (old new : Span) (target : ℕ) (slot : new.slot ≡ old.slot) (on : IsSpanOn i old) (moved : IsOn new.cursor (slot_values old.slot i.live.documents))

@@ -1,5 +1,5 @@
 -- The values of a slot that lie in a range.
-use Rattle.std.specs.Prelude.{◌≡◌, ◌^◌, ◌≤◌, ℕ, length, map, Option, None}
+use Rattle.std.specs.Prelude.{◌≡◌, ℕ, length, map, Option, None}
 use Rattle.sk_base.specs.declared.find.Scheme.{Scheme}
 use Rattle.sk_sorted.specs.Entries.{AreSorted}
 use Rattle.sk_lists.specs.Postings.{Postings}

@@ -1,10 +1,10 @@
 //! How the node of a range is opened.
-ghost use Rattle.std.specs.Prelude.{◌≡◌, ◌≤◌, ◌<◌, ◌+◌, ◌^◌, IfOk};
+ghost use Rattle.std.specs.Prelude.{◌≡◌, ◌≤◌, ◌<◌, ◌+◌, ◌^◌, true, IfOk};
 ghost use Rattle.sk_base.specs.Numbers.{slot_length_of};
 ghost use Rattle.sk_sorted.specs.Entries.{AreSorted};
 ghost use Rattle.sk_query.specs.Trees as QueryTree;
 ghost use Rattle.sk_query.specs.Trees.{limit_of};
-ghost use Rattle.sk_model.specs.Ranges.{end_of};
+ghost use Rattle.sk_model.specs.Ranges.{end_of, is_crossed};
 ghost use Rattle.sk_nodes.specs.Shapes.{shape_of};
 ghost use Rattle.sk_nodes.specs.Left.{unread_of};
 ghost use Rattle.sk_nodes.specs.Opened.{score_of, Opens};
@@ -44,6 +44,7 @@ pub(crate) fn open_range<L: Ledger>(
     ensures later { spent.old ≤ spent.new }
     ensures room { IfOk result (λ p. spent.new ≤ most.new) }
     ensures small { most.new < 2 ^ 128 }
+    ensures crossed { is_crossed (end_of (limit_of lo.now)) (end_of (limit_of hi.now)) ≡ true → steps.new ≡ steps.old }
 {
     if is_crossed(lo, hi) {
         return Ok((Top::ended(), Node::Nothing));

@@ -1,5 +1,5 @@
 -- The entries in the range give what the documents score.
-use Rattle.std.proofs.Common.{◌≡◌, ◌≤◌, ◌+◌, ℕ, length, refl, sym, subst, ap, ◌∙◌, arith, Option, List}
+use Rattle.std.proofs.Common.{◌≡◌, ℕ, length, sym, subst, ap, ◌∙◌, arith, Option, List}
 use Rattle.sk_base.specs.declared.find.Scheme.{Scheme}
 use Rattle.sk_base.specs.Numbers.{slot_length_of}
 use Rattle.sk_values.specs.RangeCursor.{in_range}

@@ -1,5 +1,5 @@
 -- A span begins with all values in its range.
-use Rattle.std.proofs.Common.{◌≡◌, subst, ap, ◌∙◌}
+use Rattle.std.proofs.Common.{◌≡◌, subst, ap}
 use Rattle.sk_base.specs.declared.find.Scheme.{Scheme}
 use Rattle.sk_values.specs.SlotValues.{SlotValues}
 use Rattle.sk_values.specs.RangeCursor.{in_range, left, IsOn}

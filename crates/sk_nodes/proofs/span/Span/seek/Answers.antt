@@ -1,8 +1,8 @@
 -- The cursor moves on in the list of the slot.
-use Rattle.std.proofs.Common.{◌≡◌, ◌+◌, ◌≤◌, ℕ, length, refl, sym, subst, arith}
+use Rattle.std.proofs.Common.{◌≡◌, ◌≤◌, refl, sym, subst}
 use Rattle.sk_sorted.specs.Entries.{from}
 use Rattle.sk_values.specs.SlotValues.{SlotValues}
-use Rattle.sk_values.specs.RangeCursor.{unread, left, IsOn}
+use Rattle.sk_values.specs.RangeCursor.{left, IsOn}
 use Rattle.sk_nodes.proofs.SpanLaws.{span_covers, span_moved, span_reached}
 use Rattle.sk_nodes.proofs.span.Span.seek.Goals as goal
 

@@ -1,9 +1,9 @@
 -- What is written is where the cursor stands.
-use Rattle.std.proofs.Common.{◌≡◌, ℕ, sym, subst, ap, ◌∙◌}
+use Rattle.std.proofs.Common.{sym, subst, ◌∙◌}
 use Rattle.sk_index.specs.Indexed.{slot_values}
 use Rattle.sk_nodes.specs.Shapes.{span}
 use Rattle.sk_nodes.specs.Sound.{IsTop}
-use Rattle.sk_nodes.proofs.SpanLaws.{span_top, span_head, span_ended, span_at, span_at_end}
+use Rattle.sk_nodes.proofs.SpanLaws.{span_top, span_head, span_at}
 use Rattle.sk_nodes.proofs.span.Span.show.Goals as goal
 
 pub returns-in-Some-clause-top : goal.returns-in-Some-clause-top
