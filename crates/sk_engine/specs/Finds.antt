@@ -14,11 +14,11 @@ use Rattle.sk_run.specs.declared.find_answer.FindAnswer.TheVariants as FindAnswe
 use Rattle.sk_run.specs.declared.response.Response.{Response}
 use Rattle.sk_run.specs.FindAnswers.{AnswersAsk}
 
--- What a query is answered by whether its form is built: a report that the find may have over these live documents, or else a refusal as a line of a bad shape.
+-- What a query is answered by whether the find is built: a report that it may have over these live documents, or else a refusal as a line of a bad shape.
 abbrev pub FoundFor : Bool → Tree → Find → Live → Response FindAnswer → Type 0
 FoundFor true query find live answer = (report : Report) × ReportsFor query find live.documents report × (answer ≡ Response.Own (FindAnswer.Found find.options.first report))
 FoundFor false query find live answer = answer ≡ Response.Refused Refusal.BadShape
 
--- What a find is answered under these fields and over these live documents: a report that it may have, where its text or its tree is a query of a form that is built, and else a refusal.
+-- What a find is answered under these fields and over these live documents: a report that it may have, where its text or its tree is a query and the find is built, and else a refusal.
 abbrev pub Shows : List Field → Find → Live → Response FindAnswer → Type 0
 Shows fields find live answer = AnswersAsk (λ query found. FoundFor (is_built find) query find live found) (asked fields find.ask) answer

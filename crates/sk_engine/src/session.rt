@@ -32,7 +32,7 @@ pub enum Answer {
     BadQuery(FaultKind, usize),
     /// The tree is no query.
     BadTree,
-    /// A form of query, or an option, that is not answered as yet.
+    /// A find with an option that is not answered as yet.
     NotBuilt,
 }
 
