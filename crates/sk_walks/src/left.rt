@@ -45,7 +45,7 @@ pub(crate) fn left_of<L: Ledger>(
 }
 
 /// Whether the document has just this weight there.
-pub(crate) fn has_weight(all: &[Left], id: DocId, weight: Weight) -> bool {
+fn has_weight(all: &[Left], id: DocId, weight: Weight) -> bool {
     all.iter().any(|one| one.id == id && one.weight == weight)
 }
 
@@ -64,4 +64,20 @@ pub(crate) fn keeps_what_is_wanted(
     all.iter().all(|one| one.id < target
         || one.weight < need
         || has_weight(left, one.id, one.weight))
+}
+
+/// Whether each document from the target to the first that is left weighs less than what is needed, or is that first
+/// one, with its weight.
+pub(crate) fn passes_what_is_unwanted(
+    all: &[Left],
+    first: Left,
+    target: DocId,
+    need: Weight,
+) -> bool {
+    all.iter().all(|one| {
+        one.id < target
+            || first.id < one.id
+            || one.weight < need
+            || (one.id == first.id && one.weight == first.weight)
+    })
 }

@@ -11,7 +11,7 @@ mod documents;
 mod left;
 
 use documents::{add, empty_index};
-use left::{Left, has_weight, keeps_what_is_wanted, left_of, was_left};
+use left::{Left, keeps_what_is_wanted, left_of, passes_what_is_unwanted, was_left};
 use serde_json::Value;
 use sk_base::{DocId, Scheme, Weight};
 use sk_index::Index;
@@ -56,7 +56,10 @@ fn is_lawful<L: Ledger>(
         return Ok(keeps_what_is_wanted(all, &[], walk.target, walk.need));
     };
     let weight = tree.weight();
-    let is_first = was_left(all, walk.target, head, weight) && weight <= tree.ceiling();
+    let first = Left { id: head, weight };
+    let is_first = was_left(all, walk.target, head, weight)
+        && weight <= tree.ceiling()
+        && passes_what_is_unwanted(all, first, walk.target, walk.need);
     let second = walk.need.saturating_add(walk.more);
     if head == DocId::MAX {
         return Ok(is_first);
@@ -67,12 +70,7 @@ fn is_lawful<L: Ledger>(
     let left = left.as_slice();
     let is_rest = left.iter().all(|one| was_left(all, head + 1, one.id, one.weight)
         && one.weight <= ceiling);
-    Ok(
-        is_first
-            && is_rest
-            && (has_weight(all, head, weight) || weight < walk.need)
-            && keeps_what_is_wanted(all, left, head + 1, second),
-    )
+    Ok(is_first && is_rest && keeps_what_is_wanted(all, left, head + 1, second))
 }
 
 /// How many seeks there were in all walks through the tree of a query; none where one leaves what it may not.
