@@ -80,7 +80,7 @@ fn apply(session: Session, edit: Edit) -> Result<(Session, Response<FindAnswer>)
     Ok((session, response_to(reply)))
 }
 
-/// What a find is answered. A form that is not built yet is refused as a line of a bad shape.
+/// What a find is answered. One with an option that is not built yet is refused as a line of a bad shape.
 fn answer<L: Ledger>(
     session: &Session,
     find: &Find,

@@ -56,7 +56,8 @@ HavePositions terms o = (t : List ℕ) → positions_of t terms ≡ term_positio
 abbrev pub AreNumbered : Indexed → Type 0
 AreNumbered i = (t : List ℕ) → number_of t i.terms ≡ None → some_has t i.live.documents ≡ false
 
--- The numbers of all terms that begin with the prefix, in byte order. Over these terms a wildcard matches, weighs and is counted as over a document's own.
+-- Numbers of terms that begin with the prefix, in byte order. Over these terms a wildcard matches, weighs and is counted as
+-- over each live document's own, so none that a live document has is missing.
 pub record AreAllWith (prefix : List ℕ) (terms : List (List ℕ)) (docs : Docs) (ns : List ℕ) : Type 0 where
   pub there : All (λ n. n < length terms) ns
   pub begins : All (λ n. begins_with (term_at terms n) prefix ≡ true) ns

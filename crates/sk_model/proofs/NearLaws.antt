@@ -9,16 +9,16 @@ use Rattle.sk_model.proofs.HeldLaws.{or_left, or_right}
 use Rattle.sk_model.proofs.CeilLaws.{first_so, second_so}
 
 -- a position of a window that begins here
-abbrev inside : ℕ → ℕ → ℕ → Bool
+abbrev pub inside : ℕ → ℕ → ℕ → Bool
 inside window p q = nat_le p q && nat_lt q (p + window)
 
-is_inside : (window p q : ℕ) → p ≤ q → q < p + window → inside window p q ≡ true
+pub is_inside : (window p q : ℕ) → p ≤ q → q < p + window → inside window p q ≡ true
 is_inside window p q h g = grind (arith, nat_tests)
 
-inside_from : (window p q : ℕ) → inside window p q ≡ true → p ≤ q
+pub inside_from : (window p q : ℕ) → inside window p q ≡ true → p ≤ q
 inside_from window p q e = grind (arith, nat_tests)
 
-inside_to : (window p q : ℕ) → inside window p q ≡ true → q < p + window
+pub inside_to : (window p q : ℕ) → inside window p q ≡ true → q < p + window
 inside_to window p q e = grind (arith, nat_tests)
 
 is_narrow : (window n : ℕ) → n < window → nat_lt n window ≡ true

@@ -186,12 +186,12 @@ valued slot (one ∷ more) e =
       | false ↦ λ h. valued slot more h
     ] e
 
-le_not_gt : (r : Ordering) → is_le r ≡ true → is_gt r ≡ false
+pub le_not_gt : (r : Ordering) → is_le r ≡ true → is_gt r ≡ false
 le_not_gt Less e = refl
 le_not_gt Equal e = refl
 le_not_gt Greater e = absurd (true≢false (sym e))
 
-not_gt_le : (r : Ordering) → is_gt r ≡ false → is_le r ≡ true
+pub not_gt_le : (r : Ordering) → is_gt r ≡ false → is_le r ≡ true
 not_gt_le Less e = refl
 not_gt_le Equal e = refl
 not_gt_le Greater e = absurd (true≢false e)

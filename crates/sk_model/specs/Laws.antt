@@ -1,4 +1,4 @@
--- Words that only the laws use.
+-- Words of laws, for the crates that prove by them.
 use Rattle.std.specs.Prelude.{ℕ, ◌+◌, ◌&&◌, min, ◌==◌, nat_le, nat_lt, Bool, List, length, take, Option, None, Some, if◌then◌else◌}
 use Rattle.std.specs.List.{list_any, list_all}
 use Rattle.sk_base.specs.declared.rank.Rank.{Rank}

@@ -26,8 +26,9 @@ pub fn two_sides()
     ensures filter { (a b : Option ℕ) → combined Form.Filter (a ∷ b ∷ []) ≡ where_so (is_some b) a }
 {}
 
-/// A law: two sides that cover what they had make what covers what they made, where each is asked for the need less
-/// what the other can add: the second at first, and the first after it moved.
+/// A law: two sides that cover what they had make what covers what they made, where each is asked for the need that the
+/// form leaves it: the first by the most that the second gives, and then the second by the most that the first still
+/// gives.
 pub fn sides_cover()
     ensures { (form : Form) (a b a2 b2 : Option ℕ) (ga gb need : ℕ) → unwrap_or b 0 ≤ gb → unwrap_or a2 0 ≤ ga
         → CoversAt a a2 (first_need form need gb) → CoversAt b b2 (second_need form need ga)

@@ -7,24 +7,11 @@ use Rattle.std.proofs.lemmas.Option.{same_Some}
 use Rattle.std.specs.List.{list_any, list_all}
 use Rattle.sk_model.specs.Laws.{stand_within}
 use Rattle.sk_model.specs.Positions.{is_near}
-use Rattle.sk_model.proofs.NearLaws.{near_found}
+use Rattle.sk_model.proofs.NearLaws.{near_found, inside, is_inside, inside_from, inside_to}
 use Rattle.sk_model.proofs.CeilLaws.{first_so, second_so}
 use Rattle.sk_near.specs.Soonest.{first_from}
 use Rattle.sk_near.specs.Windows.{WindowsFrom, HasNoWindow}
 use Rattle.sk_near.proofs.SoonestLemmas.{any_at, first_is_one, first_is_least, first_none}
-
--- a position of a window that begins here
-abbrev inside : ℕ → ℕ → ℕ → Bool
-inside window p q = nat_le p q && nat_lt q (p + window)
-
-is_inside : (window p q : ℕ) → p ≤ q → q < p + window → inside window p q ≡ true
-is_inside window p q h g = grind (arith, nat_tests)
-
-inside_from : (window p q : ℕ) → inside window p q ≡ true → p ≤ q
-inside_from window p q e = grind (arith, nat_tests)
-
-inside_to : (window p q : ℕ) → inside window p q ≡ true → q < p + window
-inside_to window p q e = grind (arith, nat_tests)
 
 all_at : {X : Type 0} (f : X → Bool) (xs : List X) (i : ℕ) (d : X) → list_all f xs ≡ true → i < length xs → f (get_or xs i d) ≡ true
 all_at f [] i d e lt = absurd (omega arith)

@@ -42,7 +42,8 @@ ReadsAs outcome (Err LineFault.BadShape) = outcome ≡ Err LineFault.BadShape
 ReadsAs outcome (Err LineFault.BadField) = outcome ≡ Err LineFault.BadField
 ReadsAs outcome (Err LineFault.NoMemory) = Unit {0}
 
--- Before a schema was accepted a command can only bring one; afterwards it fits the fields.
+-- Before a schema was accepted a command can only bring one; afterwards an edit fits the fields, and finds and shows
+-- keep their bounds.
 abbrev pub MayCome : Option (List Field) → Command → Type 0
 MayCome None (Command.Schema fields) = IsSchema fields
 MayCome None (Command.Edit edit) = ⊥

@@ -19,7 +19,7 @@ use std::alloc::Global;
 pub fn command(alloc: Global, line: &[u8], schema: Option<&Schema>) -> Result<Command, LineFault>
     // Exactly the command, or the first fault.
     ensures reads { ReadsAs (outcome (option_copied schema.entry) (line_value line.now)) result }
-    // What comes fits the schema.
+    // It may come under that schema: an edit fits its fields, and a find its bounds.
     ensures comes { IfOk result (MayCome (option_copied schema.entry)) }
 {
     let value = line_value(alloc, line)?;
