@@ -13,8 +13,10 @@ use Rattle.sk_base.specs.Documents.{AreTerms, has_term, wdf_of}
 use Rattle.sk_dict.specs.Terms.{term_at, number_of, with_term}
 use Rattle.sk_dict.proofs.NumberLaws.{number_of-Some, number_of-term_at, number_of-kept, number_of-added, absent_from-number_of}
 use Rattle.sk_sorted.specs.Entries.{put, without}
-use Rattle.sk_lists.specs.Postings.{Postings}
-use Rattle.sk_index.specs.Listed.{Listed, list_under, list_of, IsListed, Puts, TakesOut, PutsAll, TakesOutAll}
+use Rattle.sk_runs.specs.Runs.{flat}
+use Rattle.sk_chunks.specs.Postings.{Postings}
+use Rattle.sk_lists.specs.Lists.{Runs}
+use Rattle.sk_index.specs.Listed.{Listed, list_under, list_of, IsListed, IsEdited, Puts, TakesOut, PutsAll, TakesOutAll}
 
 -- no term stands before itself
 pub Precedes-irrefl : (t : List ℕ) → Precedes t t → ⊥
@@ -26,29 +28,29 @@ by_test true x y z f g = f refl
 by_test false x y z f g = g refl
 
 -- the list under the number of a term
-pub list_under-is : (listed : Listed) (t : List ℕ) (n : ℕ) → number_of t listed.terms ≡ Some n → list_of t listed ≡ get_or listed.lists n []
+pub list_under-is : (listed : Listed) (t : List ℕ) (n : ℕ) → number_of t listed.terms ≡ Some n → list_of t listed ≡ flat (get_or listed.lists n [])
 list_under-is listed t n e = ap (λ o. list_under o listed.lists) e
 
 pub list_of-none : (listed : Listed) (t : List ℕ) → number_of t listed.terms ≡ None → list_of t listed ≡ []
 list_of-none listed t e = ap (λ o. list_under o listed.lists) e
 
-pub list_of-number : (listed : Listed) (n : ℕ) → IsListed listed → n < length listed.terms → list_of (term_at listed.terms n) listed ≡ get_or listed.lists n []
+pub list_of-number : (listed : Listed) (n : ℕ) → IsListed listed → n < length listed.terms → list_of (term_at listed.terms n) listed ≡ flat (get_or listed.lists n [])
 list_of-number listed n sound lt = list_under-is listed (term_at listed.terms n) n (number_of-term_at listed.terms n sound.different lt)
 
 -- the list at the number of a term is changed
-module _ (g : Postings → Postings) (terms : List (List ℕ)) (old : List Postings) (term : List ℕ) (n : ℕ) (there : n < length old) (numbered : number_of term terms ≡ Some n) where
-  abbrev pub changed_lists : List Postings
-  changed_lists = set old n (g (get_or old n []))
+module _ (g : Postings → Postings) (terms : List (List ℕ)) (old : List Runs) (term : List ℕ) (n : ℕ) (runs : Runs) (entries : flat runs ≡ g (flat (get_or old n []))) (there : n < length old) (numbered : number_of term terms ≡ Some n) where
+  abbrev pub changed_lists : List Runs
+  changed_lists = set old n runs
 
   at_term : (t : List ℕ) → bytes_eq term t ≡ true → list_under (number_of t terms) changed_lists ≡ g (list_under (number_of t terms) old)
   at_term t pro =
       let same : term ≡ t = (bytes_eq-Decides term t).0 pro in
       let here : number_of t terms ≡ Some n = ap (λ w. number_of w terms) (sym same) ∙ numbered in
-      ap (λ o. list_under o changed_lists) here ∙ get_or-set_same old n (g (get_or old n [])) [] there ∙ sym (ap (λ o. g (list_under o old)) here)
+      ap (λ o. list_under o changed_lists) here ∙ ap flat (get_or-set_same old n runs [] there) ∙ entries ∙ sym (ap (λ o. g (list_under o old)) here)
 
   at_other : (t : List ℕ) → bytes_eq term t ≡ false → (o : Option ℕ) → number_of t terms ≡ o → list_under o changed_lists ≡ list_under o old
   at_other t con None e = refl
-  at_other t con (Some m) e = get_or-set_other old n m (g (get_or old n [])) [] (λ same. true≢false (sym (pro same) ∙ con))
+  at_other t con (Some m) e = ap flat (get_or-set_other old n m runs [] (λ same. true≢false (sym (pro same) ∙ con)))
     where
       pro : m ≡ n → bytes_eq term t ≡ true
       pro same = (bytes_eq-Decides term t).1 (sym (number_of-Some terms term n numbered).1 ∙ ap (term_at terms) (sym same) ∙ (number_of-Some terms t m e).1)
@@ -57,10 +59,10 @@ module _ (g : Postings → Postings) (terms : List (List ℕ)) (old : List Posti
   list_changed t = by_test (bytes_eq term t) _ _ _ (at_term t) (λ con. at_other t con (number_of t terms) refl)
 
 pub changed_at : (g : Postings → Postings) (old new : Listed) (term : List ℕ) (n : ℕ) → IsListed old → n < length old.terms → number_of term old.terms ≡ Some n
-    → new.terms ≡ old.terms → new.lists ≡ set old.lists n (g (get_or old.lists n []))
+    → new.terms ≡ old.terms → IsEdited n g old.lists new.lists
     → (t : List ℕ) → list_of t new ≡ (if bytes_eq term t then g (list_of t old) else list_of t old)
 changed_at g old new term n sound there numbered same_terms changed t =
-    (λ i. list_under (number_of t (same_terms i)) (changed i)) ∙ list_changed g old.terms old.lists term n (omega (arith, sound.sizes)) numbered t
+    (λ i. list_under (number_of t (same_terms i)) (changed.is i)) ∙ list_changed g old.terms old.lists term n changed.runs changed.entries (omega (arith, sound.sizes)) numbered t
 
 -- nothing is taken out where the term has no number
 pub takes_nothing : (listed : Listed) (id : ℕ) (term t : List ℕ) → number_of term listed.terms ≡ None → list_of t listed ≡ (if bytes_eq term t then without id (list_of t listed) else list_of t listed)
@@ -71,17 +73,17 @@ takes_nothing listed id term t none =
     empty ∙ sym (ap (without id) empty)) (λ con. refl)
 
 -- a new term, whose list is empty
-module _ (terms : List (List ℕ)) (lists : List Postings) (term : List ℕ) (sizes : length lists ≡ length terms) (none : number_of term terms ≡ None) where
+module _ (terms : List (List ℕ)) (lists : List Runs) (term : List ℕ) (sizes : length lists ≡ length terms) (none : number_of term terms ≡ None) where
   same_by : (t : List ℕ) (o p : Option ℕ) → number_of t terms ≡ o → number_of t (terms ++ term ∷ []) ≡ p → list_under p (lists ++ [] ∷ []) ≡ list_under o lists
   same_by t (Some n) p e f =
       let here : p ≡ Some n = sym f ∙ kept t n e in
-      ap (λ q. list_under q (lists ++ [] ∷ [])) here ∙ get_or_append_left lists ([] ∷ []) [] n (omega (arith, (number_of-Some terms t n e).0))
+      ap (λ q. list_under q (lists ++ [] ∷ [])) here ∙ ap flat (get_or_append_left lists ([] ∷ []) [] n (omega (arith, (number_of-Some terms t n e).0)))
     where
       kept : (t : List ℕ) (n : ℕ) → number_of t terms ≡ Some n → number_of t (terms ++ term ∷ []) ≡ Some n
       kept t n e = Rattle.sk_dict.proofs.NumberLaws.number_of-push terms t term n e
   same_by t None None e f = refl
   same_by t None (Some n) e f = elim (bytes_eq term t) as (λ b. bytes_eq term t ≡ b → list_under (Some n) (lists ++ [] ∷ []) ≡ []) [
-    | true ↦ λ pro. get_or_push lists [] [] n (sym (last pro))
+    | true ↦ λ pro. ap flat (get_or_push lists [] [] n (sym (last pro)))
     | false ↦ λ con. absurd (apart con)
   ] refl
     where
@@ -185,7 +187,7 @@ found_by listed t None e = list_of-none listed t (sym e)
 found_by listed t (Some n) e = number_of-Some listed.terms t n (sym e)
 
 -- the lists with one for a new term
-pub IsListed-added : (terms new_terms : List (List ℕ)) (lists new_lists : List Postings) (term : List ℕ) → number_of term terms ≡ None → IsListed (record { terms = terms; lists = lists })
+pub IsListed-added : (terms new_terms : List (List ℕ)) (lists new_lists : List Runs) (term : List ℕ) → number_of term terms ≡ None → IsListed (record { terms = terms; lists = lists })
     → new_terms ≡ with_term term terms → new_lists ≡ lists ++ [] ∷ [] → IsListed (record { terms = new_terms; lists = new_lists })
 IsListed-added terms new_terms lists new_lists term none sound grown longer =
     let added : new_terms ≡ terms ++ term ∷ [] = grown ∙ ap (λ (o : Option ℕ). if Rattle.std.proofs.Common.is_some o then terms else terms ++ term ∷ []) none in
@@ -194,7 +196,7 @@ IsListed-added terms new_terms lists new_lists term none sound grown longer =
       different = subst (AllPairs (λ s t. (s ≡ t) → ⊥)) (sym added) (different-added terms term none sound.different);
     }
 
-pub SameLists-added : (terms new_terms : List (List ℕ)) (lists new_lists : List Postings) (term : List ℕ) → number_of term terms ≡ None → IsListed (record { terms = terms; lists = lists })
+pub SameLists-added : (terms new_terms : List (List ℕ)) (lists new_lists : List Runs) (term : List ℕ) → number_of term terms ≡ None → IsListed (record { terms = terms; lists = lists })
     → new_terms ≡ with_term term terms → new_lists ≡ lists ++ [] ∷ []
     → (t : List ℕ) → list_of t (record { terms = new_terms; lists = new_lists }) ≡ list_of t (record { terms = terms; lists = lists })
 SameLists-added terms new_terms lists new_lists term none sound grown longer t =

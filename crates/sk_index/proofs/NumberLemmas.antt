@@ -1,13 +1,16 @@
 -- The numbers of a list are those of the documents.
-use Rattle.std.proofs.Common.{◌≡◌, ◌≢◌, ℕ, ◌+◌, ◌-◌, ◌<◌, ◌≤◌, max, Bool, true, false, cond, not, ◌||◌, if◌then◌else◌, List, [], ◌∷◌, length, map, filter, find, count_by, bytes_eq, drop, get_or, slice_get, Option, None, Some, option_map, refl, sym, ap, subst, ◌∙◌, arith}
+use Rattle.std.proofs.Common.{◌≡◌, ◌≢◌, ℕ, ◌+◌, ◌-◌, ◌<◌, ◌≤◌, max, Bool, true, false, cond, not, ◌||◌, ◌&&◌, nat_le, nat_lt, if◌then◌else◌, List, [], ◌∷◌, length, map, filter, find, count_by, bytes_eq, drop, get_or, slice_get, Option, None, Some, option_map, refl, sym, ap, subst, ◌∙◌, arith}
 use mathlib.Core.Bool.{true≢false}
 use Rattle.std.specs.List.{cons_option}
 use Rattle.std.proofs.lemmas.List.Sums.{sum_by-cons}
+use Rattle.std.proofs.lemmas.Bool.Decides.{nat_tests}
 use Rattle.sk_base.specs.declared.doc_entry.DocTerm.{DocTerm}
 use Rattle.sk_base.specs.Documents.{has_term, wdf_of, has_value, value_in}
 use Rattle.sk_base.specs.Numbers.{Docs, length_of, greatest_of, some_has, slot_length_of}
-use Rattle.sk_lists.specs.Postings.{Postings, greatest_wdf}
+use Rattle.sk_chunks.specs.Postings.{Postings, greatest_wdf}
 use Rattle.sk_model.specs.Documents.{Document}
+use Rattle.sk_model.specs.Sharp.{up}
+use Rattle.sk_lists.specs.Seeks.{count_to}
 use Rattle.sk_dict.specs.Terms.{number_of}
 use Rattle.sk_index.specs.Indexed.{postings, slot_values}
 use Rattle.sk_index.specs.Listed.{Listed, list_of, list_under}
@@ -80,3 +83,20 @@ ids-postings t (one ∷ more) = by (has_term t one.1.terms) (ids-postings t more
         ≡ ids_of (cond b (one ∷ filter (λ (e : ℕ × Document). has_term t e.1.terms) more) (filter (λ (e : ℕ × Document). has_term t e.1.terms) more))
     by true rest = ap (λ (ids : List ℕ). one.0 ∷ ids) rest
     by false rest = rest
+
+-- how many documents that have the term stand up to an id
+pub count_to-postings : (t : List ℕ) (id : ℕ) (docs : Docs) → count_to id (postings t docs) ≡ up t id docs
+count_to-postings t id [] = refl
+count_to-postings t id (one ∷ more) = by (has_term t one.1.terms) refl (count_to-postings t id more)
+  where
+    same : ◌≡◌ {A = ℕ} (if nat_lt one.0 (id + 1) then 1 else 0) (cond (nat_le one.0 id) 1 0)
+    same = grind (arith, nat_tests)
+
+    none : (n : ℕ) → n ≡ 0 + n
+    none n = omega arith
+
+    by : (b : Bool) → has_term t one.1.terms ≡ b → count_to id (postings t more) ≡ up t id more
+        → count_to id (cons_option (if b then Some (one.0, wdf_of t one.1.terms) else None) (postings t more)) ≡ count_by (λ (x : ℕ × Document). has_term t x.1.terms && nat_le x.0 id) (one ∷ more)
+    by true e rest = ap (λ n. n + count_to id (postings t more)) same ∙ ap (λ n. cond (nat_le one.0 id) 1 0 + n) rest
+        ∙ ap (λ b. cond (b && nat_le one.0 id) 1 0 + up t id more) (sym e) ∙ sym (sum_by-cons (λ (x : ℕ × Document). cond (has_term t x.1.terms && nat_le x.0 id) 1 0) one more)
+    by false e rest = rest ∙ none (up t id more) ∙ ap (λ b. cond (b && nat_le one.0 id) 1 0 + up t id more) (sym e) ∙ sym (sum_by-cons (λ (x : ℕ × Document). cond (has_term t x.1.terms && nat_le x.0 id) 1 0) one more)

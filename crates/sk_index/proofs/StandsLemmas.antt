@@ -10,7 +10,9 @@ use Rattle.sk_sorted.proofs.PickedLaws.{with_picked, without_picked, picked-put,
 use Rattle.sk_base.specs.declared.doc_entry.SlotValue.{SlotValue}
 use Rattle.sk_base.specs.Documents.{has_term, wdf_of, has_value, value_in}
 use Rattle.sk_base.specs.Numbers.{Docs}
-use Rattle.sk_lists.specs.Postings.{Postings}
+use Rattle.sk_runs.specs.Runs.{flat}
+use Rattle.sk_chunks.specs.Postings.{Postings}
+use Rattle.sk_lists.specs.Lists.{Runs}
 use Rattle.sk_values.specs.SlotValues.{SlotValues, found_value}
 use Rattle.sk_model.specs.Documents.{Document}
 use Rattle.sk_model.specs.Edits.{document_at, put_document, without_id}
@@ -78,8 +80,8 @@ pub all_postings-without : (id : ℕ) (d : Document) (docs : Docs) → document_
 all_postings-without id d docs some = all_made (without_id id docs) ∙ picked-without always always_named id d docs some ∙ ap (without id) (sym (all_made docs))
 
 -- all lists with one document more
-pub Stands-put : (docs : Docs) (all all2 : Postings) (listed listed2 : Listed) (slots slots2 : List SlotEntry) (id : ℕ) (d : Document)
-    → all2 ≡ put id 0 all → PutsAll id d.terms listed listed2 → SetsAll id d.values slots slots2
+pub Stands-put : (docs : Docs) (all all2 : Runs) (listed listed2 : Listed) (slots slots2 : List SlotEntry) (id : ℕ) (d : Document)
+    → flat all2 ≡ put id 0 (flat all) → PutsAll id d.terms listed listed2 → SetsAll id d.values slots slots2
     → RiseAbove 0 docs → document_at id docs ≡ None → Stands all listed slots docs → Stands all2 listed2 slots2 (put_document id d docs)
 Stands-put docs all all2 listed listed2 slots slots2 id d a l v up none old = record {
   all_is = a ∙ ap (put id 0) old.all_is ∙ sym (all_postings-put id d docs up none);
@@ -88,8 +90,8 @@ Stands-put docs all all2 listed listed2 slots slots2 id d a l v up none old = re
 }
 
 -- all lists without a document
-pub Stands-without : (docs : Docs) (all all2 : Postings) (listed listed2 : Listed) (slots slots2 : List SlotEntry) (id : ℕ) (d : Document)
-    → all2 ≡ without id all → TakesOutAll id d.terms listed listed2 → ClearsAll id d.values slots slots2
+pub Stands-without : (docs : Docs) (all all2 : Runs) (listed listed2 : Listed) (slots slots2 : List SlotEntry) (id : ℕ) (d : Document)
+    → flat all2 ≡ without id (flat all) → TakesOutAll id d.terms listed listed2 → ClearsAll id d.values slots slots2
     → document_at id docs ≡ Some d → Stands all listed slots docs → Stands all2 listed2 slots2 (without_id id docs)
 Stands-without docs all all2 listed listed2 slots slots2 id d a l v some old = record {
   all_is = a ∙ ap (without id) old.all_is ∙ sym (all_postings-without id d docs some);

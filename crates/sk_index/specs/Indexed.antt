@@ -1,7 +1,8 @@
 -- What an index holds, and what its readers give.
-use Rattle.std.specs.Prelude.{◌≡◌, ◌<◌, ℕ, true, false, List, [], length, map, sum_by, All, AllPairs, Option, Some, None, if◌then◌else◌}
+use Rattle.std.specs.Prelude.{◌≡◌, ◌<◌, ℕ, true, false, List, [], length, map, sum_by, All, AllPairs, Option, Some, None, slice_index_or, if◌then◌else◌}
 use Rattle.std.specs.List.{filter_map, list_any}
-use Rattle.sk_lists.specs.Postings.{Postings}
+use Rattle.sk_chunks.specs.Postings.{Postings}
+use Rattle.sk_lists.specs.Lists.{Runs}
 use Rattle.sk_values.specs.SlotValues.{SlotValues}
 use Rattle.sk_base.specs.declared.schema.Field.{Field}
 use Rattle.sk_base.specs.Documents.{has_term, wdf_of, positions_of, begins_with, has_value, value_in}
@@ -12,11 +13,19 @@ use Rattle.sk_model.specs.Documents.{Document}
 use Rattle.sk_model.specs.Edits.{Live, document_at}
 use Rattle.sk_model.specs.Scores.{wild_wdf}
 
--- What an index holds: the fields of its schema, the live documents, and the terms that were given a number, by number.
+-- What an index holds: the fields of its schema, the live documents, the terms that were given a number, by number, and
+-- how the list of all documents and that of each term are cut into chunks.
 pub record Indexed : Type 0 where
   pub fields : List Field
   pub live : Live
   pub terms : List (List ℕ)
+  pub all : Runs
+  pub lists : List Runs
+
+-- The chunks of the list of a term, by its number, and of all documents.
+abbrev pub runs_in : Indexed → Option ℕ → Runs
+runs_in i None = i.all
+runs_in i (Some n) = slice_index_or i.lists n []
 
 -- The posting of a document that has the term.
 abbrev pub posting_in : List ℕ → ℕ × Document → Option (ℕ × ℕ)

@@ -1,21 +1,23 @@
 -- The posting lists of all terms.
-use Rattle.std.specs.Prelude.{◌≡◌, ◌≢◌, ℕ, List, [], length, slice_index_or, bytes_eq, Option, Some, None, if◌then◌else◌}
+use Rattle.std.specs.Prelude.{◌≡◌, ◌≢◌, ℕ, List, [], length, set, slice_index_or, bytes_eq, Option, Some, None, if◌then◌else◌}
 use Rattle.std.specs.List.{AllPairs}
 use Rattle.sk_base.specs.declared.doc_entry.DocTerm.{DocTerm}
 use Rattle.sk_base.specs.Documents.{has_term, wdf_of}
 use Rattle.sk_dict.specs.Terms.{number_of}
 use Rattle.sk_sorted.specs.Entries.{put, without}
-use Rattle.sk_lists.specs.Postings.{Postings}
+use Rattle.sk_runs.specs.Runs.{flat}
+use Rattle.sk_chunks.specs.Postings.{Postings}
+use Rattle.sk_lists.specs.Lists.{Runs}
 
--- Terms by their numbers, and a list for each number.
+-- Terms by their numbers, and the chunks of a list for each number.
 pub record Listed : Type 0 where
   pub terms : List (List ℕ)
-  pub lists : List Postings
+  pub lists : List Runs
 
 -- The list with this number, and an empty one where there is no number.
-abbrev pub list_under : Option ℕ → List Postings → Postings
+abbrev pub list_under : Option ℕ → List Runs → Postings
 list_under None lists = []
-list_under (Some n) lists = slice_index_or lists n []
+list_under (Some n) lists = flat (slice_index_or lists n [])
 
 -- The list of a term, empty where the term has no number.
 abbrev pub list_of : List ℕ → Listed → Postings
@@ -25,6 +27,12 @@ list_of t listed = list_under (number_of t listed.terms) listed.lists
 pub record IsListed (listed : Listed) : Type 0 where
   pub sizes : length listed.lists ≡ length listed.terms
   pub different : AllPairs (λ s t. s ≢ t) listed.terms
+
+-- The list with this number was edited, and no other.
+pub record IsEdited (n : ℕ) (edit : Postings → Postings) (old new : List Runs) : Type 0 where
+  pub runs : Runs
+  pub is : new ≡ set old n runs
+  pub entries : flat runs ≡ edit (flat (slice_index_or old n []))
 
 -- No list changed.
 abbrev pub SameLists : Listed → Listed → Type 0

@@ -1,14 +1,15 @@
 -- What the lists of an index are to its documents.
 use Rattle.std.specs.Prelude.{◌≡◌, ℕ, List}
 use Rattle.sk_base.specs.Numbers.{Docs}
-use Rattle.sk_lists.specs.Postings.{Postings}
+use Rattle.sk_runs.specs.Runs.{flat}
+use Rattle.sk_lists.specs.Lists.{Runs}
 use Rattle.sk_index.specs.declared.slot_lists.SlotEntry.{SlotEntry}
 use Rattle.sk_index.specs.Indexed.{postings, all_postings, slot_values}
 use Rattle.sk_index.specs.Listed.{Listed, list_of}
 use Rattle.sk_index.specs.Slotted.{slot_list}
 
 -- Each list is what the documents give.
-pub record Stands (all : Postings) (listed : Listed) (slots : List SlotEntry) (docs : Docs) : Type 0 where
-  pub all_is : all ≡ all_postings docs
+pub record Stands (all : Runs) (listed : Listed) (slots : List SlotEntry) (docs : Docs) : Type 0 where
+  pub all_is : flat all ≡ all_postings docs
   pub lists : (t : List ℕ) → list_of t listed ≡ postings t docs
   pub values : (slot : ℕ) → slot_list slot slots ≡ slot_values slot docs

@@ -1,5 +1,5 @@
 //! The index: the live documents, with a list for each term and each slot.
-ghost use Rattle.std.specs.Prelude.{◌≡◌, ◌<◌, ◌+◌, [], length, map, true, false, All, IfOk, MatchOption, IsSome};
+ghost use Rattle.std.specs.Prelude.{◌≡◌, ◌<◌, ◌+◌, [], length, map, true, false, All, IfOk, MatchOption, IsSome, Some, None};
 ghost use Rattle.std.specs.Option.{option_map};
 ghost use Rattle.sk_base.specs.Records.{FitsEdit};
 ghost use Rattle.sk_base.specs.Documents.{AreTerms};
@@ -7,9 +7,10 @@ ghost use Rattle.sk_base.specs.Loads.{IsLight};
 ghost use Rattle.sk_base.specs.Numbers.{some_has};
 ghost use Rattle.sk_base.specs.Order.{ArePositions};
 ghost use Rattle.sk_dict.specs.Terms.{term_at, number_of};
+ghost use Rattle.sk_runs.specs.Runs.{flat};
 ghost use Rattle.sk_model.specs.Documents.{keeps_slot, has_slot};
 ghost use Rattle.sk_model.specs.Edits.{nothing_live, edited, reply_to, document_at, IsLive};
-ghost use Rattle.sk_index.specs.Indexed.{Indexed, postings, all_postings, slot_values, slot_value, term_positions, HavePositions, AreNumbered, AreAllWith};
+ghost use Rattle.sk_index.specs.Indexed.{Indexed, runs_in, postings, all_postings, slot_values, slot_value, term_positions, HavePositions, AreNumbered, AreAllWith};
 
 use crate::all_places::AllPlaces;
 use crate::lists::Lists;
@@ -37,13 +38,13 @@ impl Model for Index {
 
     ghost Value = { Indexed };
 
-    ghost view = { λ i. record { fields = i.documents.fields; live = i.documents.live; terms = i.documents.beside.terms.terms } };
+    ghost view = { λ i. record { fields = i.documents.fields; live = i.documents.live; terms = i.documents.beside.terms.terms; all = i.documents.beside.all; lists = i.documents.beside.terms.lists } };
 }
 
 impl Index {
     /// An index without documents.
     pub fn new(alloc: Global, schema: Schema) -> Result<Index, AllocError>
-        ensures { IfOk result (λ index. index ≡ record { fields = schema; live = nothing_live; terms = [] }) }
+        ensures { IfOk result (λ index. index ≡ record { fields = schema; live = nothing_live; terms = []; all = []; lists = [] }) }
     {
         let lists = Lists {
             all: List::new(alloc),
@@ -110,14 +111,16 @@ impl Index {
     /// The live documents that have the term with this number, with its wdf in each.
     pub fn list(&self, number: usize) -> &List
         requires there { number < length self.now.terms }
-        ensures { result.now ≡ postings (term_at self.now.terms number) self.now.live.documents }
+        ensures runs { result.now ≡ runs_in self.now (Some number) }
+        ensures entries { flat result.now ≡ postings (term_at self.now.terms number) self.now.live.documents }
     {
         self.documents.beside().terms.list(number)
     }
 
     /// All live documents.
     pub fn all(&self) -> &List
-        ensures { result.now ≡ all_postings self.now.live.documents }
+        ensures runs { result.now ≡ runs_in self.now None }
+        ensures entries { flat result.now ≡ all_postings self.now.live.documents }
     {
         &self.documents.beside().all
     }

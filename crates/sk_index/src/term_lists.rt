@@ -1,9 +1,10 @@
 //! The posting lists of all terms.
-ghost use Rattle.std.specs.Prelude.{◌≡◌, ◌≤◌, ◌<◌, ◌+◌, [], length, min, set, slice_index_or, Some, None, true, IfOk, OnOk, IfSome, MatchOption};
+ghost use Rattle.std.specs.Prelude.{◌≡◌, ◌≤◌, ◌<◌, ◌+◌, [], length, min, slice_index_or, Some, None, true, IfOk, OnOk, IfSome, MatchOption};
 ghost use Rattle.sk_base.specs.Documents.{AreTerms};
 ghost use Rattle.sk_dict.specs.Terms.{term_at, number_of, begins_with, IsNext, HasNoNext, IsWalk};
 ghost use Rattle.sk_sorted.specs.Entries.{put, without, ids_of};
-ghost use Rattle.sk_index.specs.Listed.{list_of, IsListed, SameLists, Puts, TakesOut, PutsAll, TakesOutAll};
+ghost use Rattle.sk_runs.specs.Runs.{flat};
+ghost use Rattle.sk_index.specs.Listed.{list_of, IsListed, IsEdited, SameLists, Puts, TakesOut, PutsAll, TakesOutAll};
 ghost use Rattle.sk_index.specs.Wild.{figure_of, sum_behind};
 
 use sk_base::{DocId, DocTerm, Term};
@@ -76,7 +77,8 @@ impl TermLists {
     /// The list with this number.
     pub fn list(&self, number: usize) -> &List
         requires there { number < length self.now.terms }
-        ensures { result.now ≡ list_of (term_at self.now.terms number) self.now }
+        ensures runs { result.now ≡ slice_index_or self.now.lists number [] }
+        ensures entries { flat result.now ≡ list_of (term_at self.now.terms number) self.now }
     {
         &self.lists[number]
     }
@@ -171,7 +173,7 @@ impl TermLists {
         requires id { 1 ≤ id }
         ensures sound { IsListed self.old }
         ensures terms { self.new.terms ≡ self.old.terms }
-        ensures lists { OnOk result (self.new.lists ≡ set self.old.lists number (put id wdf (slice_index_or self.old.lists number []))) }
+        ensures lists { OnOk result (IsEdited number (put id wdf) self.old.lists self.new.lists) }
     {
         self.lists[number].insert(id, wdf)?;
         Ok(())
@@ -181,7 +183,7 @@ impl TermLists {
         requires there { number < length self.old.terms }
         ensures sound { IsListed self.old }
         ensures terms { self.new.terms ≡ self.old.terms }
-        ensures lists { self.new.lists ≡ set self.old.lists number (without id (slice_index_or self.old.lists number [])) }
+        ensures lists { IsEdited number (without id) self.old.lists self.new.lists }
     {
         self.lists[number].remove(id);
     }
@@ -217,7 +219,7 @@ impl TermLists {
 }
 
 fn figure_of(list: &List, figure: Figure) -> u32
-    ensures { result ≡ figure_of figure list.now }
+    ensures { result ≡ figure_of figure (flat list.now) }
 {
     match figure {
         Figure::Length => list.length(),

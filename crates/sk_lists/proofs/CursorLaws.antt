@@ -1,70 +1,46 @@
 -- Laws of a cursor, for those who walk through a list.
-use Rattle.std.proofs.Common.{◌≡◌, ℕ, ◌+◌, ◌-◌, ◌<◌, ◌≤◌, ◌^◌, [], ◌∷◌, length, drop, Option, None, Some, refl, ap, subst, ◌∙◌, arith}
-use Rattle.std.proofs.lemmas.List.{drop_more, drop_all}
+use Rattle.std.proofs.Common.{◌≡◌, ℕ, ◌+◌, ◌-◌, ◌<◌, ◌≤◌, List, [], ◌∷◌, ◌++◌, length, drop, get_or, Option, None, Some, sym, ap, subst, ◌∙◌, arith}
+use Rattle.std.proofs.lemmas.List.{drop_more, length-append, get_or_append_left}
+use Rattle.sk_sorted.specs.Entries.{AreSorted, LieBelow}
+use Rattle.sk_sorted.proofs.EntryLaws.{AreSorted-drop}
+use Rattle.sk_runs.specs.Runs.{flat, AreRuns}
+use Rattle.sk_runs.proofs.RunLaws.{AreRuns-sorted, AreRuns-drop, flat-drop}
+use Rattle.sk_chunks.specs.Postings.{Postings}
 use Rattle.sk_lists.specs.declared.cursor.Cursor.{Cursor}
-use Rattle.sk_sorted.specs.Entries.{AreSorted, from, first_id}
-use Rattle.sk_lists.specs.Postings.{Postings, first_wdf}
-use Rattle.sk_lists.specs.Cursor.{unread, headed, left, IsHeadAt, IsOn}
-use Rattle.sk_sorted.proofs.EntryLaws.{AreSorted-drop, from-next, nothing_behind_last}
+use Rattle.sk_lists.specs.Lists.{Runs}
+use Rattle.sk_lists.specs.Seeks.{count_below, count_to, HasReadTo}
+use Rattle.sk_lists.specs.Cursor.{rest_from, headed, left, IsReadLast, IsHeadAt, IsOn}
 
--- a head at its place, and then the unread, are an end of the list
-headed_is : (p : ℕ × ℕ) (read : ℕ) (list : Postings) → IsHeadAt (Some p) read list → drop (read - 1) list ≡ p ∷ drop read list
-headed_is p read list on =
+-- a head at its place, and then the unread, are an end of what stands from its run on
+headed_is : (p : ℕ × ℕ) (run read : ℕ) (runs : Runs) → IsReadLast p run read runs → drop (read - 1) (flat (drop run runs)) ≡ p ∷ rest_from run read runs
+headed_is p run read runs on =
+    let within : read ≤ length (get_or runs run []) = on.within in
     let begun : 0 < read = on.begun in
-    let within : read ≤ length list = on.within in
-    let back : read - 1 + 1 ≡ read = omega arith in
-    drop_more list (read - 1) p (omega arith) ∙ (λ i. on.is i ∷ drop (back i) list)
+    let whole = flat-drop runs run [] on.there in
+    let long : read - 1 < length (flat (drop run runs)) = omega (arith, ap length whole, length-append (get_or runs run []) (flat (drop (run + 1) runs)), within, begun) in
+    let back : read - 1 + 1 ≡ read = omega (arith, begun) in
+    let here : read - 1 < length (get_or runs run []) = omega (arith, within, begun) in
+    drop_more (flat (drop run runs)) (read - 1) p long
+    ∙ (λ i. (ap (λ (es : Postings). get_or es (read - 1) p) whole ∙ get_or_append_left (get_or runs run []) (flat (drop (run + 1) runs)) p (read - 1) here ∙ on.is) i ∷ drop (back i) (flat (drop run runs)))
 
 -- what is left is sound, by cases on the head
-headed_sound : (head : Option (ℕ × ℕ)) (read : ℕ) (list : Postings) → AreSorted list → IsHeadAt head read list → AreSorted (headed head (drop read list))
-headed_sound None read list sound on = record { rise = tt; small = tt }
-headed_sound (Some p) read list sound on = subst AreSorted (headed_is p read list on) (AreSorted-drop (read - 1) list sound)
+headed_sound : (head : Option (ℕ × ℕ)) (run read : ℕ) (runs : Runs) → AreRuns runs → IsHeadAt head run read runs → AreSorted (headed head (rest_from run read runs))
+headed_sound None run read runs are on = record { rise = tt; small = tt }
+headed_sound (Some p) run read runs are on =
+    subst AreSorted (headed_is p run read runs on) (AreSorted-drop (read - 1) (flat (drop run runs)) (AreRuns-sorted (drop run runs) (AreRuns-drop run runs are)))
 
 -- what is left to a cursor is sound
-pub AreSorted-left : (c : Cursor) (list : Postings) → AreSorted list → IsOn c list → AreSorted (left c list)
-AreSorted-left c list sound on = headed_sound c.head c.read list sound on
+pub AreSorted-left : (c : Cursor) (runs : Runs) → AreRuns runs → IsOn c runs → AreSorted (left c runs)
+AreSorted-left c runs are on = headed_sound c.head c.run c.read runs are on
 
--- what is unread is sound
-pub AreSorted-unread : (c : Cursor) (list : Postings) → AreSorted list → AreSorted (unread c list)
-AreSorted-unread c list sound = AreSorted-drop c.read list sound
+-- ---- how much was read up to an id
 
--- a head and the rest, by cases
-headed_split : (head : Option (ℕ × ℕ)) (rest : Postings) (id : ℕ) → Some id ≡ first_id (headed head rest) → headed head rest ≡ (id, first_wdf (headed head rest)) ∷ rest
-headed_split None rest id e = cc
-headed_split (Some p) rest id e =
-    let same : p.0 ≡ id = cc in
-    ap (λ (i : ℕ). (i, p.1) ∷ rest) same
+-- a cursor that was opened
+pub read_begins : (id read : ℕ) (c : Cursor) (runs : Runs) → left c runs ≡ flat runs → read ≤ 1 → HasReadTo id read (left c runs) (flat runs)
+read_begins id read c runs whole one = omega (arith, ap (count_to id) whole, one)
 
--- a head, and then the unread
-pub left-split : (c : Cursor) (list : Postings) (id : ℕ) → Some id ≡ first_id (left c list) → left c list ≡ (id, first_wdf (left c list)) ∷ unread c list
-left-split c list id e = headed_split c.head (unread c list) id e
-
--- no head and nothing left, by cases
-headed_ended : (head : Option (ℕ × ℕ)) (rest : Postings) → None ≡ first_id (headed head rest) → headed head rest ≡ []
-headed_ended None rest e = refl
-headed_ended (Some p) rest e = cc
-
--- where there is no head, nothing is left
-pub left-ended : (c : Cursor) (list : Postings) → None ≡ first_id (left c list) → left c list ≡ []
-left-ended c list e = headed_ended c.head (unread c list) e
-
--- no head and nothing unread, by cases
-ended_read : (head : Option (ℕ × ℕ)) (read : ℕ) (list : Postings) → IsHeadAt head read list → None ≡ first_id (headed head (drop read list)) → drop read list ≡ []
-ended_read None read list on e = drop_all read list (omega (arith, on))
-ended_read (Some p) read list on e = cc
-
--- where there is no head, nothing is unread
-pub unread-ended : (c : Cursor) (list : Postings) → IsOn c list → None ≡ first_id (left c list) → unread c list ≡ []
-unread-ended c list on e = ended_read c.head c.read list on e
-
--- behind the head's id stands the unread
-pub from-left : (c : Cursor) (list : Postings) (id : ℕ) → AreSorted list → IsOn c list → Some id ≡ first_id (left c list) → from (id + 1) (left c list) ≡ unread c list
-from-left c list id sound on e =
-    let split = left-split c list id e in
-    ap (from (id + 1)) split ∙ from-next (id, first_wdf (left c list)) (unread c list) (subst AreSorted split (AreSorted-left c list sound on))
-
--- behind the last id nothing is unread
-pub unread-last : (c : Cursor) (list : Postings) (id : ℕ) → AreSorted list → IsOn c list → Some id ≡ first_id (left c list) → id ≡ 2 ^ 32 - 1 → unread c list ≡ []
-unread-last c list id sound on e last =
-    let split = left-split c list id e in
-    nothing_behind_last (id, first_wdf (left c list)) (unread c list) (subst AreSorted split (AreSorted-left c list sound on)) last
+-- a cursor that was sought for a target no further than behind the id
+pub read_goes_on : (id target read count : ℕ) (old new : Cursor) (runs : Runs) → target ≤ id + 1
+    → ((t : ℕ) → target ≤ t → count + count_below t (left new runs) ≤ count_below t (left old runs))
+    → HasReadTo id read (left old runs) (flat runs) → HasReadTo id (read + count) (left new runs) (flat runs)
+read_goes_on id target read count old new runs le moves far = omega (arith, moves (id + 1) le, far)

@@ -1,7 +1,11 @@
 -- The words on postings, computed.
 use Rattle.std.proofs.Common.{◌≡◌, [], ◌∷◌, None, Some, true, false, refl}
 use Rattle.sk_sorted.specs.Entries.{put, without, from, first_id}
-use Rattle.sk_lists.specs.Postings.{Postings, greatest_wdf, first_wdf, is_below}
+use Rattle.sk_runs.specs.Runs.{flat}
+use Rattle.sk_chunks.specs.Postings.{Postings, greatest_wdf, first_wdf, is_below}
+use Rattle.sk_lists.specs.Lists.{Runs, one_run}
+use Rattle.sk_lists.specs.Seeks.{count_below, count_to}
+use Rattle.sk_lists.specs.Cursor.{rest_from, headed}
 
 abbrev four : Postings
 four = (1, 3) ∷ (4, 0) ∷ (7, 2) ∷ (4294967295, 5) ∷ []
@@ -43,3 +47,44 @@ not_below_itself = refl
 
 nothing_is_below : is_below 1 [] ≡ false
 nothing_is_below = refl
+
+-- how many entries lie below an id, and up to it
+below_the_third : count_below 7 four ≡ 2
+below_the_third = refl
+
+to_the_third : count_to 7 four ≡ 3
+to_the_third = refl
+
+to_the_greatest_id : count_to 4294967295 four ≡ 4
+to_the_greatest_id = refl
+
+-- the same entries in three chunks
+abbrev chunks : Runs
+chunks = ((1, 3) ∷ []) ∷ ((4, 0) ∷ (7, 2) ∷ []) ∷ ((4294967295, 5) ∷ []) ∷ []
+
+all_chunks : flat chunks ≡ four
+all_chunks = refl
+
+-- what is unread within a chunk, and at its end
+from_within : rest_from 1 1 chunks ≡ (7, 2) ∷ (4294967295, 5) ∷ []
+from_within = refl
+
+from_the_end_of_a_chunk : rest_from 1 2 chunks ≡ rest_from 2 0 chunks
+from_the_end_of_a_chunk = refl
+
+from_the_end : rest_from 3 0 chunks ≡ []
+from_the_end = refl
+
+-- what is left: the head, and then the unread; an ended cursor has neither
+left_within : headed (Some (4, 0)) (rest_from 1 1 chunks) ≡ (4, 0) ∷ (7, 2) ∷ (4294967295, 5) ∷ []
+left_within = refl
+
+left_at_the_end : headed None (rest_from 3 0 chunks) ≡ []
+left_at_the_end = refl
+
+-- a list of one chunk, and one without entries
+one_chunk : one_run four ≡ four ∷ []
+one_chunk = refl
+
+no_chunk : one_run [] ≡ []
+no_chunk = refl

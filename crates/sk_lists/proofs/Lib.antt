@@ -1,5 +1,5 @@
 pub mod CursorLaws
-pub mod WalkLaws
-mod GreatestLemmas
-mod SeekLemmas
+pub mod SeekLaws
+mod CursorLemmas
+mod DirectoryLemmas
 mod Examples

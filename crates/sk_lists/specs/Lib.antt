@@ -1,2 +1,4 @@
-pub mod Postings
+pub mod Lists
+pub mod Forms
+pub mod Seeks
 pub mod Cursor

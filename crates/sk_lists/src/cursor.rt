@@ -1,17 +1,21 @@
 //! A place in a posting list, which only moves on.
-
-ghost use Rattle.std.specs.Prelude.{◌≡◌, ◌+◌, ◌-◌, ◌<◌, ◌≤◌, length, drop, take, min, All, false};
-ghost use Rattle.sk_sorted.specs.Entries.{from, first_id};
-ghost use Rattle.sk_lists.specs.Postings.{Postings, first_wdf, is_below};
-ghost use Rattle.sk_lists.specs.Cursor.{unread, left, IsOn};
+ghost use Rattle.std.specs.Prelude.{◌≡◌, ◌+◌, ◌<◌, ◌≤◌, ℕ, length, drop, get_or, min, [], false, Option, Some};
+ghost use Rattle.sk_sorted.specs.Entries.{first_id, top_id};
+ghost use Rattle.sk_runs.specs.Runs.{flat};
+ghost use Rattle.sk_chunks.specs.Postings.{first_wdf, is_below};
+ghost use Rattle.sk_lists.specs.Lists.{Runs};
+ghost use Rattle.sk_lists.specs.Seeks.{Passes, Reads, count_below, IsSkipped};
+ghost use Rattle.sk_lists.specs.Cursor.{unread, left, IsOn, IsReadTo};
 
 use crate::List;
+use sk_chunks::Chunk;
 use sk_steps::Steps;
 use std::sync::ledger::Ledger;
 
 /// A place in a list and the entry there, its head. It holds no reference: each call is given the list that it is on.
 #[derive(Debug, Drop)]
 pub struct Cursor {
+    run: usize,
     read: u32,
     head: Option<(u32, u32)>,
 }
@@ -21,24 +25,28 @@ impl Cursor {
     pub fn open<L: Ledger>(list: &List, steps: &mut Steps<L>) -> Cursor
         ensures on { IsOn result list.now }
 
-        ensures left { left result list.now ≡ list.now }
-        ensures unread { unread result list.now ≡ drop 1 list.now }
+        ensures left { left result list.now ≡ flat list.now }
+        ensures unread { unread result list.now ≡ drop 1 (flat list.now) }
 
-        ensures cost { steps.new ≡ steps.old + min 1 (length list.now) }
+        ensures cost { steps.new ≡ steps.old + min 1 (length (flat list.now)) }
     {
-        let mut cursor = Cursor {
-            read: 0,
-            head: None,
-        };
-        if list.length() == 0 {
-            return cursor;
+        if list.chunks() == 0 {
+            return Cursor {
+                run: 0,
+                read: 0,
+                head: None,
+            };
         }
-        cursor.step(list, steps);
-        cursor
+        let head = list.chunk(0).entry(0, steps);
+        Cursor {
+            run: 0,
+            read: 1,
+            head: Some(head),
+        }
     }
 
-    /// Moves on to the first entry whose id is at least `target`, and answers how many entries it read. An entry whose
-    /// wdf is below `need_wdf` may be wanted by nobody; for now it is stopped at all the same.
+    /// Moves on to an entry whose id is at least `target`, and answers how many entries it read. It may pass over entries
+    /// from the target on whose wdf is below `need_wdf`. It finds its chunk by heads alone, and reads in that.
     pub fn seek<L: Ledger>(
         &mut self,
         list: &List,
@@ -49,34 +57,42 @@ impl Cursor {
         requires on { IsOn self.old list.now }
         ensures on { IsOn self.new list.now }
 
-        // It passes over the entries below the target at the front, and over nothing else.
-        ensures left { left self.new list.now ≡ from target (left self.old list.now) }
+        // It passes over what lies below the target, or is lighter than what is needed, and over nothing else.
+        ensures passes { Passes target need_wdf (left self.old list.now) (left self.new list.now) }
 
-        // What it reads is the next entries, each once: it never goes back.
-        ensures unread { unread self.new list.now ≡ drop result (unread self.old list.now) }
-        ensures within { result ≤ length (unread self.old list.now) }
+        // What it reads stands together, none of it was read before, and one at most lies at the target or behind it.
+        ensures reads { Reads target result (unread self.old list.now) (unread self.new list.now) }
+        ensures once { result + length (unread self.new list.now) ≤ length (unread self.old list.now) }
+        ensures most { result ≤ 128 }
         ensures cost { steps.new ≡ steps.old + result }
+
+        // It reads no more than goes, counted up to the target or to any later id.
+        ensures moves { (id : ℕ) → target ≤ id → result + count_below id (left self.new list.now) ≤ count_below id (left self.old list.now) }
 
         // It reads no entry without need.
         ensures stays { is_below target (left self.old list.now) ≡ false → (result ≡ 0) × (self.new ≡ self.old) }
-        ensures one_beyond { All (λ p. p.0 < target) (take (result - 1) (unread self.old list.now)) }
     {
-        let mut count = 0u32;
-        let length = list.length();
-        'seek: while self.is_below(target) {
-            if self.read == length {
-                self.head = None;
-                return count;
-            }
-            self.step(list, steps);
-            count += 1;
+        if !self.is_below(target) {
+            return 0;
         }
-        count
+        let at = find(list, self.run, target, need_wdf);
+        if at == list.chunks() {
+            self.run = at;
+            self.head = None;
+            return 0;
+        }
+        let chunk = list.chunk(at);
+        if at == self.run {
+            return self.read_on(chunk, target, steps);
+        }
+        self.run = at;
+        self.read = 0;
+        self.read_on(chunk, target, steps)
     }
 
     /// The head's id; none where the cursor has ended.
     pub fn head(&self) -> Option<u32>
-        ensures { (list : Postings) → IsOn self.now list → result ≡ first_id (left self.now list) }
+        ensures { (runs : Runs) → IsOn self.now runs → result ≡ first_id (left self.now runs) }
     {
         let head = self.head?;
         Some(head.0)
@@ -84,7 +100,7 @@ impl Cursor {
 
     /// The head's wdf; 0 where the cursor has ended.
     pub fn wdf(&self) -> u32
-        ensures { (list : Postings) → IsOn self.now list → result ≡ first_wdf (left self.now list) }
+        ensures { (runs : Runs) → IsOn self.now runs → result ≡ first_wdf (left self.now runs) }
     {
         match self.head {
             Some(head) => head.1,
@@ -93,7 +109,7 @@ impl Cursor {
     }
 
     fn is_below(&self, target: u32) -> bool
-        ensures { (list : Postings) → result ≡ is_below target (left self.now list) }
+        ensures { (runs : Runs) → result ≡ is_below target (left self.now runs) }
     {
         match self.head {
             Some(head) => head.0 < target,
@@ -101,17 +117,85 @@ impl Cursor {
         }
     }
 
-    // The one reading: of the entry at the place, which is counted, and the place moves on.
-    fn step<L: Ledger>(&mut self, list: &List, steps: &mut Steps<L>)
-        requires { self.old.read < length list.now }
-        ensures place { self.new.read ≡ self.old.read + 1 }
-        ensures on { IsOn self.new list.now }
-        ensures left { left self.new list.now ≡ unread self.old list.now }
-        ensures cost { steps.new ≡ steps.old + 1 }
+    // Reads on in the chunk, up to the first entry at the target or behind it.
+    fn read_on<L: Ledger>(&mut self, chunk: &Chunk, target: u32, steps: &mut Steps<L>) -> u32
+        requires begins { self.old.read < length chunk.now }
+        requires reaches { target ≤ top_id 0 chunk.now }
+        ensures run { self.new.run ≡ self.old.run }
+        ensures reads { IsReadTo target self.old.read self.new.read result self.new.head chunk.now }
+        ensures most { result ≤ 128 }
+        ensures cost { steps.new ≡ steps.old + result }
     {
-        let length = list.length();
-        self.head = Some(list.entries.as_slice()[self.read as usize]);
-        steps.tick();
-        self.read += 1;
+        let _few = chunk.count();
+        let mut count = 0u32;
+        'seek: loop {
+            let entry = chunk.entry(self.read, steps);
+            self.read += 1;
+            count += 1;
+            if entry.0 >= target {
+                self.head = Some(entry);
+                return count;
+            }
+        }
     }
+}
+
+// The first chunk from this one on that a seek may not pass over; their number where there is none.
+fn find(list: &List, run: usize, target: u32, need_wdf: u32) -> usize
+    requires { run ≤ length list.now }
+    ensures bound { (run ≤ result) × (result ≤ length list.now) }
+    ensures skips { (k : ℕ) → run ≤ k → k < result → IsSkipped target need_wdf (get_or list.now k []) }
+    ensures stops { result < length list.now → target ≤ top_id 0 (get_or list.now result []) }
+{
+    let count = list.chunks();
+    let mut at = first_reaching(list, run, target);
+    'chunks: while at < count {
+        if need_wdf <= list.chunk(at).greatest() {
+            return at;
+        }
+        at += 1;
+    }
+    count
+}
+
+// The first chunk from this one on that ends at the target or behind it; their number where there is none. It looks about
+// twice as far each time and then halves what is left, so it looks at some two heads for each bit of the distance.
+fn first_reaching(list: &List, run: usize, target: u32) -> usize
+    requires { run ≤ length list.now }
+    ensures bound { (run ≤ result) × (result ≤ length list.now) }
+    ensures before { (k : ℕ) → run ≤ k → k < result → top_id 0 (get_or list.now k []) < target }
+    ensures reaches { result < length list.now → target ≤ top_id 0 (get_or list.now result []) }
+{
+    let count = list.chunks();
+    let mut from = run;
+    'gallop: while from - run < count - from {
+        let at = from + (from - run);
+        if target <= list.chunk(at).last() {
+            return first_between(list, from, at, target);
+        }
+        from = at + 1;
+    }
+    first_between(list, from, count, target)
+}
+
+// The first chunk between two places that ends at the target or behind it; the later place where there is none.
+fn first_between(list: &List, start: usize, end: usize, target: u32) -> usize
+    requires order { start ≤ end }
+    requires within { end ≤ length list.now }
+    ensures bound { (start ≤ result) × (result ≤ end) }
+    ensures before { (k : ℕ) → start ≤ k → k < result → top_id 0 (get_or list.now k []) < target }
+    ensures reaches { result < end → target ≤ top_id 0 (get_or list.now result []) }
+{
+    let _sound = list.chunks();
+    let mut low = start;
+    let mut high = end;
+    'halve: while low < high {
+        let middle = low + (high - low) / 2;
+        if list.chunk(middle).last() < target {
+            low = middle + 1;
+        } else {
+            high = middle;
+        }
+    }
+    low
 }

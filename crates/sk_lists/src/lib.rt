@@ -2,6 +2,7 @@
 #![tactic(auto)]
 
 mod cursor;
+mod directory;
 mod list;
 #[cfg(test)]
 mod tests;

@@ -1,94 +1,142 @@
-//! A posting list: entries in order of their ids, with the greatest wdf kept.
-ghost use Rattle.std.specs.Prelude.{◌≡◌, ◌≤◌, [], length, max, true, IfOk, IsOk, OnOk, OnErr};
+//! A posting list: entries in order of their ids, in chunks.
+ghost use Rattle.std.specs.Prelude.{◌≡◌, ◌≤◌, ◌<◌, [], length, get_or, true, IfOk, IsOk, OnOk, OnErr};
 ghost use Rattle.sk_sorted.specs.Entries.{AreSorted, put, without, has, ids_of};
-ghost use Rattle.sk_lists.specs.Postings.{greatest_wdf};
+ghost use Rattle.sk_runs.specs.Runs.{flat, AreRuns};
+ghost use Rattle.sk_chunks.specs.Postings.{greatest_wdf};
+ghost use Rattle.sk_lists.specs.Lists.{one_run};
 
-use sk_sorted::Sorted;
+use crate::directory::Directory;
+use sk_chunks::Chunk;
 use std::alloc::{AllocError, Global};
 use std::fmt::{Debug, Error, Formatter, Write};
 use std::marker::Model;
 
-/// The entries of one term, one for each document that has it, with its wdf there. On a list that is only lent, only a cursor shows them.
+// A chunk has so many entries at most.
+const FULL: u32 = 128;
+
+/// The entries of one term, one for each document that has it, with its wdf there, in chunks of up to 128. On a list
+/// that is only lent, only a cursor or the counted reading of a chunk shows them.
 #[derive(Drop)]
 pub struct List {
-    pub(crate) entries: Sorted<u32>,
-    greatest: u32,
+    alloc: Global,
+    form: Form,
+}
+
+// A short list is one chunk, and takes no more room than that.
+#[derive(Drop)]
+enum Form {
+    One(Chunk),
+    Many(Directory),
 }
 
 impl Model for List {
-    ghost use Rattle.std.specs.Prelude.{◌≡◌};
-    ghost use Rattle.sk_lists.specs.Postings.{Postings, greatest_wdf};
+    ghost use Rattle.sk_lists.specs.Lists.{Runs};
+    ghost use Rattle.sk_lists.specs.Forms.{runs_of};
 
-    ghost Value = { Postings };
+    ghost Value = { Runs };
 
-    ghost view = { λ l. l.entries };
-
-    ghost invariant = { λ l. greatest_wdf l.entries ≡ l.greatest };
+    ghost view = { λ l. runs_of l.form };
 }
 
 impl List {
-    /// An empty list.
+    /// An empty list. It takes no memory.
     pub fn new(alloc: Global) -> List
         ensures { result ≡ [] }
     {
         List {
-            entries: Sorted::new(alloc),
-            greatest: 0,
+            alloc,
+            form: Form::One(Chunk::new(alloc)),
         }
     }
 
-    /// Gives the document this wdf, in constant time where its id is above all others. Only a new entry takes memory.
+    /// Gives the document this wdf. Only a new entry takes memory, and no other entry moves but those of its chunk.
     pub fn insert(&mut self, id: u32, wdf: u32) -> Result<(), AllocError>
         requires { 1 ≤ id }
-        ensures ok { OnOk result (self.new ≡ put id wdf self.old) }
-        ensures err { OnErr result (self.new ≡ self.old) }
-        ensures succeeds { has id self.old ≡ true → IsOk result }
+        ensures ok { OnOk result (flat self.new ≡ put id wdf (flat self.old)) }
+        ensures err { OnErr result (flat self.new ≡ flat self.old) }
+        ensures succeeds { has id (flat self.old) ≡ true → IsOk result }
     {
-        let most = self.greatest.max(wdf);
-        self.greatest = match self.entries.put(id, wdf)? {
-            Some(gone) => greatest_without(self.entries.as_slice(), most, gone),
-            None => most,
-        };
-        Ok(())
+        match &mut self.form {
+            Form::Many(directory) => directory.insert(id, wdf),
+            Form::One(chunk) => {
+                if chunk.count() < FULL || chunk.has(id) {
+                    return chunk.insert(id, wdf);
+                }
+                let mut directory = Directory::of(self.alloc, chunk)?;
+                let done = directory.insert(id, wdf);
+                self.form = Form::Many(directory);
+                done
+            }
+        }
     }
 
-    /// Takes the document's entry out, and answers whether there was one.
+    /// Takes the document's entry out, and answers whether there was one. It takes no memory.
     pub fn remove(&mut self, id: u32) -> bool
-        ensures after { self.new ≡ without id self.old }
-        ensures there { result ≡ has id self.old }
+        ensures after { flat self.new ≡ without id (flat self.old) }
+        ensures there { result ≡ has id (flat self.old) }
     {
-        let Some(gone) = self.entries.remove(id) else {
-            return false;
-        };
-        self.greatest = greatest_without(self.entries.as_slice(), self.greatest, gone);
-        true
+        match &mut self.form {
+            Form::Many(directory) => directory.remove(id),
+            Form::One(chunk) => chunk.remove(id),
+        }
     }
 
     /// How many documents have the term.
     pub fn length(&self) -> u32
-        ensures value { result ≡ length self.now }
-        ensures sound { AreSorted self.now }
+        ensures value { result ≡ length (flat self.now) }
+        ensures sound { AreSorted (flat self.now) }
+        ensures runs { AreRuns self.now }
     {
-        self.entries.length()
+        match &self.form {
+            Form::Many(directory) => directory.length(),
+            Form::One(chunk) => chunk.count(),
+        }
     }
 
     /// The greatest wdf of an entry, 0 where there is none. It is kept, so nothing is read.
     pub fn greatest(&self) -> u32
-        ensures { result ≡ greatest_wdf self.now }
+        ensures { result ≡ greatest_wdf (flat self.now) }
     {
-        self.greatest
+        match &self.form {
+            Form::Many(directory) => directory.greatest(),
+            Form::One(chunk) => chunk.greatest(),
+        }
     }
 
-    /// The ids of all entries, for one who changes the list. It is no reading: a shared reference to a list does not show them.
+    /// How many chunks there are.
+    pub fn chunks(&self) -> usize
+        ensures value { result ≡ length self.now }
+        ensures sound { AreRuns self.now }
+    {
+        match &self.form {
+            Form::Many(directory) => directory.chunks().len(),
+            Form::One(chunk) => if chunk.count() == 0 { 0 } else { 1 },
+        }
+    }
+
+    /// The chunk with this number, from 0.
+    pub fn chunk(&self, i: usize) -> &Chunk
+        requires { i < length self.now }
+        ensures { result.now ≡ get_or self.now i [] }
+    {
+        match &self.form {
+            Form::Many(directory) => &directory.chunks()[i],
+            Form::One(chunk) => chunk,
+        }
+    }
+
+    /// The ids of all entries, for one who changes the list. It is no reading: a shared reference to a list does not show
+    /// them.
     pub fn ids(&mut self, alloc: Global) -> Result<Vec<u32>, AllocError>
-        ensures ok { IfOk result (λ ids. ids.items ≡ ids_of self.old) }
+        ensures ok { IfOk result (λ ids. ids.items ≡ ids_of (flat self.old)) }
         ensures same { self.new ≡ self.old }
     {
-        self.entries
-            .as_slice()
-            .iter()
-            .map(|entry| entry.0)
-            .collect(alloc)
+        let mut ids = Vec::new(alloc);
+        match &mut self.form {
+            Form::Many(directory) => directory.put_ids(&mut ids)?,
+            Form::One(chunk) => chunk.put_ids(&mut ids)?,
+        }
+        Ok(ids)
     }
 }
 
@@ -96,30 +144,4 @@ impl Debug for List {
     fn fmt<W: Write>(&self, f: &mut Formatter<W>) -> Result<(), Error> {
         write!(f, "List of {}", self.length())
     }
-}
-
-// The greatest wdf, where `greatest` is that of the entries and of one more whose wdf is `gone`.
-fn greatest_without(entries: &[(u32, u32)], greatest: u32, gone: u32) -> u32
-    requires { max gone (greatest_wdf entries.now) ≡ greatest }
-    ensures { result ≡ greatest_wdf entries.now }
-{
-    if gone < greatest {
-        return greatest;
-    }
-    greatest_of(entries, greatest)
-}
-
-// The greatest wdf, by a scan that stops at the first entry that has the most that one can have.
-fn greatest_of(entries: &[(u32, u32)], bound: u32) -> u32
-    requires { greatest_wdf entries.now ≤ bound }
-    ensures { result ≡ greatest_wdf entries.now }
-{
-    let mut most = 0u32;
-    'entries: for entry in entries {
-        most = most.max(entry.1);
-        if most == bound {
-            return most;
-        }
-    }
-    most
 }

@@ -7,10 +7,13 @@ use Rattle.sk_base.specs.declared.find.Scheme.{Scheme}
 use Rattle.sk_sorted.specs.Entries.{RiseAbove, LieBelow, AreSorted, found, from, first_id}
 use Rattle.sk_sorted.proofs.EntryLaws.{RiseAbove-lower, found-here, found-other, found-below, from-below, from-at}
 use Rattle.sk_lists.specs.declared.cursor.Cursor.{Cursor}
-use Rattle.sk_lists.specs.Postings.{Postings, first_wdf, is_below}
+use Rattle.sk_chunks.specs.Postings.{Postings, first_wdf, is_below}
+use Rattle.sk_runs.specs.Runs.{AreRuns}
+use Rattle.sk_lists.specs.Lists.{Runs}
+use Rattle.sk_lists.specs.Seeks.{ArePassed, Passes}
 use Rattle.sk_lists.specs.Cursor.{left, IsOn}
 use Rattle.sk_lists.proofs.CursorLaws.{AreSorted-left}
-use Rattle.sk_index.specs.Indexed.{Indexed}
+use Rattle.sk_index.specs.Indexed.{Indexed, runs_in}
 use Rattle.sk_model.specs.Weights.{weigh_by}
 use Rattle.sk_model.specs.Covers.{CoversAt, Covers}
 use Rattle.sk_model.proofs.CoverLaws.{covers_itself}
@@ -18,7 +21,6 @@ use Rattle.sk_decay.specs.Heads.{IsHead}
 use Rattle.sk_nodes.specs.declared.top.Top.{Top}
 use Rattle.sk_nodes.specs.declared.leaf.Leaf.{Leaf}
 use Rattle.sk_nodes.specs.Leaves.{list_in, entries_of, weighed, leaf_rest, head_of, AreLight, AtMost, IsLeafOn, IsLeafTop}
-use Rattle.sk_nodes.specs.Passes.{ArePassed, Passes}
 use Rattle.sk_nodes.specs.Left.{from_on}
 
 -- ---- what is given from an id on
@@ -188,34 +190,27 @@ pub leaf_shown : (i : Indexed) (t : Top) (l : Leaf) (id wdf : ℕ) → IsLeafOn 
     → t.head ≡ id → t.weight ≡ weigh_by l.factor l.scheme wdf → t.greatest ≡ l.greatest → IsLeafTop i t l
 leaf_shown i t l id wdf on here much same weighs greatest = record {
   head = same_head id wdf t.head t.weight l.factor l.scheme (leaf_rest i l) same weighs
-      (weighed-head l.factor l.scheme id wdf (entries_of i l) (AreSorted-left l.cursor (list_in i l.number) on.sorted on.on) here much);
+      (weighed-head l.factor l.scheme id wdf (entries_of i l) (AreSorted-left l.cursor (runs_in i l.number) on.runs on.on) here much);
   bound = subst (λ g. AtMost g (leaf_rest i l)) (sym greatest) on.bound;
   exact = λ lt. greatest;
-  closed = λ end. absurd (omega (arith, end, same, first_small id (entries_of i l) (AreSorted-left l.cursor (list_in i l.number) on.sorted on.on) here));
+  closed = λ end. absurd (omega (arith, end, same, first_small id (entries_of i l) (AreSorted-left l.cursor (runs_in i l.number) on.runs on.on) here));
 }
 
 -- the cursor moved on
-pub sought_covers : (factor : ℕ) (scheme : Scheme) (need_wdf need target : ℕ) (list : Postings) (old new : Cursor) → AreSorted list → IsOn old list → AreLight factor scheme need_wdf need
-    → left new list ≡ from target (left old list) → Covers (from_on target (weighed factor scheme (left old list))) (weighed factor scheme (left new list)) need
-sought_covers factor scheme need_wdf need target list old new sorted on light e =
-    Passes-covers factor scheme need_wdf need target (left old list) (left new list) light (AreSorted-left old list sorted on)
-    (subst (λ (ps : Postings). Passes target need_wdf (left old list) ps) (sym e) (Passes-from target need_wdf (left old list)))
-
--- what is left begins at the target or behind it
-pub sought_reached : (target need_wdf : ℕ) (old new : Postings) → new ≡ from target old → target < 2 ^ 32 → target ≤ head_of new
-sought_reached target need_wdf old new e lt =
-    let passes = Passes-from target need_wdf old in
-    subst (λ (ps : Postings). target ≤ head_of ps) (sym e) (head_of-reached target (from target old) lt passes.reached)
+pub sought_covers : (factor : ℕ) (scheme : Scheme) (need_wdf need target : ℕ) (runs : Runs) (old new : Cursor) → AreRuns runs → IsOn old runs → AreLight factor scheme need_wdf need
+    → Passes target need_wdf (left old runs) (left new runs) → Covers (from_on target (weighed factor scheme (left old runs))) (weighed factor scheme (left new runs)) need
+sought_covers factor scheme need_wdf need target runs old new are on light passes =
+    Passes-covers factor scheme need_wdf need target (left old runs) (left new runs) light (AreSorted-left old runs are on) passes
 
 -- a leaf whose cursor moved on is sound
 pub leaf_moved : (i : Indexed) (old new : Leaf) (target : ℕ) → IsLeafOn i old → new.number ≡ old.number → new.scheme ≡ old.scheme → new.factor ≡ old.factor → new.greatest ≡ old.greatest
-    → IsOn new.cursor (list_in i old.number) → AreLight new.factor new.scheme new.need_wdf new.need
+    → IsOn new.cursor (runs_in i old.number) → AreLight new.factor new.scheme new.need_wdf new.need
     → Covers (from_on target (leaf_rest i old)) (leaf_rest i new) new.need → IsLeafOn i new
 leaf_moved i old new target sound number scheme factor greatest on light covers = record {
   there = subst (λ n. Rattle.sk_nodes.specs.Leaves.IsThere n i.terms) (sym number) sound.there;
   factor = omega (arith, factor, sound.factor);
-  on = subst (λ n. IsOn new.cursor (list_in i n)) (sym number) on;
-  sorted = subst (λ n. AreSorted (list_in i n)) (sym number) sound.sorted;
+  on = subst (λ n. IsOn new.cursor (runs_in i n)) (sym number) on;
+  runs = subst (λ n. AreRuns (runs_in i n)) (sym number) sound.runs;
   light = light;
   bound = subst (λ g. AtMost g (leaf_rest i new)) (sym greatest) (AtMost-covers target new.need old.greatest (leaf_rest i old) (leaf_rest i new) sound.bound covers);
   live = λ id none. covers_none (from_on target (leaf_rest i old) id) (leaf_rest i new id) new.need (from_on-none target (leaf_rest i old) id (sound.live id none)) (covers id);

@@ -13,7 +13,7 @@ use Rattle.sk_base.specs.Documents.{has_term, wdf_of}
 use Rattle.sk_base.specs.Numbers.{Docs, length_of, greatest_of, some_has}
 use Rattle.sk_sorted.specs.Entries.{RiseAbove, LieBelow, AreSorted, found}
 use Rattle.sk_sorted.proofs.EntryLaws.{found-here, found-other, found-below}
-use Rattle.sk_lists.specs.Postings.{Postings, greatest_wdf}
+use Rattle.sk_chunks.specs.Postings.{Postings, greatest_wdf}
 use Rattle.sk_dict.specs.Terms.{term_at}
 use Rattle.sk_query.specs.Trees as Query
 use Rattle.sk_model.specs.Documents.{Document}
@@ -21,10 +21,11 @@ use Rattle.sk_model.specs.Edits.{document_at}
 use Rattle.sk_model.specs.Weights.{weigh_by}
 use Rattle.sk_model.specs.Scores.{weight_if}
 use Rattle.sk_model.specs.Bounds.{term_ceil}
-use Rattle.sk_index.specs.Indexed.{Indexed, postings, all_postings}
+use Rattle.sk_index.specs.Indexed.{Indexed, runs_in, postings, all_postings}
+use Rattle.sk_runs.specs.Runs.{AreRuns}
 use Rattle.sk_lists.specs.Cursor.{left, IsOn}
 use Rattle.sk_nodes.specs.declared.leaf.Leaf.{Leaf}
-use Rattle.sk_nodes.specs.Leaves.{list_in, IsThere, weighed, leaf_greatest, AtMost, IsLeafOn}
+use Rattle.sk_nodes.specs.Leaves.{list_in, entries_of, IsThere, weighed, leaf_greatest, AtMost, IsLeafOn}
 use Rattle.sk_nodes.specs.declared.top.Top.{Top}
 use Rattle.sk_nodes.specs.Shapes.{Shape, ended}
 use Rattle.sk_nodes.specs.Opened.{score_of, Opens}
@@ -211,17 +212,17 @@ term-none scheme factor t docs id none = none_scores scheme factor t docs id non
 
 -- ---- a leaf
 
-pub leaf_opened : (i : Indexed) (l : Leaf) → IsThere l.number i.terms → l.factor ≤ 65536 → IsOn l.cursor (list_in i l.number) → AreSorted (list_in i l.number) → l.need_wdf ≡ 0
-    → left l.cursor (list_in i l.number) ≡ list_in i l.number → l.greatest ≡ leaf_greatest l.factor l.scheme (list_in i l.number) → AreSorted i.live.documents → IsLeafOn i l
-leaf_opened i l there factor on sorted light whole greatest documents = record {
+pub leaf_opened : (i : Indexed) (l : Leaf) → IsThere l.number i.terms → l.factor ≤ 65536 → IsOn l.cursor (runs_in i l.number) → AreRuns (runs_in i l.number) → l.need_wdf ≡ 0
+    → entries_of i l ≡ list_in i l.number → l.greatest ≡ leaf_greatest l.factor l.scheme (list_in i l.number) → AreSorted i.live.documents → IsLeafOn i l
+leaf_opened i l there factor on runs light whole greatest documents = record {
   there = there;
   factor = factor;
   on = on;
-  sorted = sorted;
+  runs = runs;
   light = λ w lt. absurd (omega (arith, lt, light));
   bound = λ id. subst (λ (es : Postings). unwrap_or (weighed l.factor l.scheme es id) 0 ≤ l.greatest) (sym whole)
       (subst (λ n. unwrap_or (weighed l.factor l.scheme (list_in i l.number) id) 0 ≤ n) (sym greatest) (leaf_bound l.factor l.scheme (list_in i l.number) id));
-  live = λ id none. weighed-none l.factor l.scheme id (left l.cursor (list_in i l.number)) (ap (found id) whole ∙ list-live i l.number id documents none);
+  live = λ id none. weighed-none l.factor l.scheme id (entries_of i l) (ap (found id) whole ∙ list-live i l.number id documents none);
 }
 
 -- nothing, where nothing scores

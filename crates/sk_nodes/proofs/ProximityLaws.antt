@@ -6,7 +6,7 @@ use Rattle.std.proofs.lemmas.Bool.{cases_lt}
 use Rattle.std.proofs.lemmas.List.Elements.{All-from_recursion}
 use Rattle.sk_sorted.specs.Entries.{RiseAbove, AreSorted, from, found, has}
 use Rattle.sk_sorted.proofs.EntryLaws.{from-below, from-at, found-other, found-below}
-use Rattle.sk_lists.specs.Postings.{Postings}
+use Rattle.sk_chunks.specs.Postings.{Postings}
 use Rattle.sk_model.specs.Combining.{where_so}
 use Rattle.sk_model.specs.Covers.{CoversAt, Covers}
 use Rattle.sk_model.proofs.CoverLaws.{covers_itself, covers_then}

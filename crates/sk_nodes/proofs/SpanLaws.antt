@@ -14,7 +14,7 @@ use Rattle.sk_base.specs.Documents.{value_in, has_value}
 use Rattle.sk_base.specs.Numbers.{Docs, slot_length_of}
 use Rattle.sk_sorted.specs.Entries.{RiseAbove, LieBelow, AreSorted, found, from, first_id}
 use Rattle.sk_sorted.proofs.EntryLaws.{RiseAbove-lower, found-here, found-other, found-below}
-use Rattle.sk_lists.specs.Postings.{Postings, first_wdf}
+use Rattle.sk_chunks.specs.Postings.{Postings, first_wdf}
 use Rattle.sk_values.specs.SlotValues.{SlotValues}
 use Rattle.sk_values.specs.RangeCursor.{in_range, left, IsOn}
 use Rattle.sk_query.specs.Trees as Query
@@ -24,6 +24,7 @@ use Rattle.sk_model.specs.Edits.{document_at}
 use Rattle.sk_model.specs.Weights.{weigh_by}
 use Rattle.sk_model.specs.Scores.{weight_if}
 use Rattle.sk_model.specs.Covers.{Covers}
+use Rattle.sk_model.proofs.StaticLaws.{le_not_gt, not_gt_le}
 use Rattle.sk_index.specs.Indexed.{Indexed, slot_values}
 use Rattle.sk_decay.specs.Heads.{IsHead}
 use Rattle.sk_nodes.specs.declared.top.Top.{Top}
@@ -199,16 +200,6 @@ length-slot slot (one ∷ more) =
     ∙ sym (sum_by-cons (λ (x : ℕ × Document). cond (has_value slot x.1.values) 1 0) one more)
 
 -- ---- ends that are crossed
-
-le_not_gt : (r : Ordering) → is_le r ≡ true → is_gt r ≡ false
-le_not_gt Less e = refl
-le_not_gt Equal e = refl
-le_not_gt Greater e = absurd (true≢false (sym e))
-
-not_gt_le : (r : Ordering) → is_gt r ≡ false → is_le r ≡ true
-not_gt_le Less e = refl
-not_gt_le Equal e = refl
-not_gt_le Greater e = absurd (true≢false e)
 
 from_through : (lo : Option (List ℕ)) (v b : List ℕ) → is_from lo v ≡ true → is_le (slice_cmp nat_cmp v b) ≡ true → is_from lo b ≡ true
 from_through None v b h g = refl

@@ -11,7 +11,7 @@ use Rattle.sk_base.specs.Numbers.{Docs, length_of, some_has}
 use Rattle.sk_sorted.specs.Entries.{AreSorted, from, found, has}
 use Rattle.sk_sorted.proofs.EntryLaws.{from-at, found-here, found-other}
 use Rattle.sk_dict.specs.Terms.{term_at, number_of}
-use Rattle.sk_lists.specs.Postings.{Postings}
+use Rattle.sk_chunks.specs.Postings.{Postings}
 use Rattle.sk_query.specs.declared.form.Form.{Form}
 use Rattle.sk_query.specs.Trees as Query
 use Rattle.sk_query.specs.Fits.{is_given, are_given, is_window, is_sound, are_sound, leaves_in}

@@ -2,13 +2,14 @@
 use Rattle.std.specs.Prelude.{◌≡◌, ◌≤◌, ◌<◌, ◌^◌, ℕ, List, [], ◌∷◌, length, nat_lt, Option, None, Some, unwrap_or, if◌then◌else◌}
 use Rattle.std.specs.Option.{option_map}
 use Rattle.sk_base.specs.declared.find.Scheme.{Scheme}
-use Rattle.sk_sorted.specs.Entries.{AreSorted, found}
-use Rattle.sk_lists.specs.Postings.{Postings, greatest_wdf}
+use Rattle.sk_sorted.specs.Entries.{found}
+use Rattle.sk_chunks.specs.Postings.{Postings, greatest_wdf}
+use Rattle.sk_runs.specs.Runs.{AreRuns}
 use Rattle.sk_lists.specs.Cursor.{unread, left, IsOn}
 use Rattle.sk_dict.specs.Terms.{term_at}
 use Rattle.sk_model.specs.Edits.{document_at}
 use Rattle.sk_model.specs.Weights.{weigh_by}
-use Rattle.sk_index.specs.Indexed.{Indexed, postings, all_postings}
+use Rattle.sk_index.specs.Indexed.{Indexed, runs_in, postings, all_postings}
 use Rattle.sk_decay.specs.Heads.{IsHead}
 use Rattle.sk_nodes.specs.declared.top.Top.{Top}
 use Rattle.sk_nodes.specs.declared.leaf.Leaf.{Leaf}
@@ -25,7 +26,7 @@ IsThere (Some n) terms = n < length terms
 
 -- The entries that are left to a leaf.
 abbrev pub entries_of : Indexed → Leaf → Postings
-entries_of i l = left l.cursor (list_in i l.number)
+entries_of i l = left l.cursor (runs_in i l.number)
 
 -- The first id of entries, and 2 ^ 32 where there is none.
 abbrev pub head_of : Postings → ℕ
@@ -40,9 +41,9 @@ weighed factor scheme entries id = option_map (weigh_by factor scheme) (found id
 abbrev pub leaf_rest : Indexed → Leaf → ℕ → Option ℕ
 leaf_rest i l id = weighed l.factor l.scheme (entries_of i l) id
 
--- How many entries a leaf has not read.
+-- How many entries a leaf has not read and not passed over.
 abbrev pub leaf_unread : Indexed → Leaf → ℕ
-leaf_unread i l = length (unread l.cursor (list_in i l.number))
+leaf_unread i l = length (unread l.cursor (runs_in i l.number))
 
 -- What the entries of a list can weigh: the greatest wdf, and nothing where there is no entry.
 abbrev pub leaf_greatest : ℕ → Scheme → Postings → ℕ
@@ -60,8 +61,8 @@ AtMost greatest f = (id : ℕ) → unwrap_or (f id) 0 ≤ greatest
 pub record IsLeafOn (i : Indexed) (l : Leaf) : Type 0 where
   pub there : IsThere l.number i.terms
   pub factor : l.factor ≤ 65536
-  pub on : IsOn l.cursor (list_in i l.number)
-  pub sorted : AreSorted (list_in i l.number)
+  pub on : IsOn l.cursor (runs_in i l.number)
+  pub runs : AreRuns (runs_in i l.number)
   pub light : AreLight l.factor l.scheme l.need_wdf l.need
   pub bound : AtMost l.greatest (leaf_rest i l)
   pub live : (id : ℕ) → document_at id i.live.documents ≡ None → leaf_rest i l id ≡ None

@@ -2,7 +2,7 @@
 use Rattle.std.specs.Prelude.{◌≡◌, ℕ, length, map, Option, None}
 use Rattle.sk_base.specs.declared.find.Scheme.{Scheme}
 use Rattle.sk_sorted.specs.Entries.{AreSorted}
-use Rattle.sk_lists.specs.Postings.{Postings}
+use Rattle.sk_chunks.specs.Postings.{Postings}
 use Rattle.sk_values.specs.SlotValues.{SlotValues}
 use Rattle.sk_values.specs.RangeCursor.{unread, left, IsOn}
 use Rattle.sk_model.specs.Edits.{document_at}

@@ -1,8 +1,9 @@
 //! The entries of one list, with what they weigh.
 ghost use Rattle.std.specs.Prelude.{◌≡◌, ◌≤◌, ◌<◌, ◌+◌, ◌^◌, ℕ, length};
 ghost use Rattle.sk_sorted.specs.Entries.{AreSorted};
+ghost use Rattle.sk_runs.specs.Runs.{flat};
 ghost use Rattle.sk_model.specs.Covers.{Covers};
-ghost use Rattle.sk_index.specs.Indexed.{Indexed};
+ghost use Rattle.sk_index.specs.Indexed.{Indexed, runs_in};
 ghost use Rattle.sk_nodes.specs.Leaves.{list_in, weighed, leaf_rest, leaf_unread, leaf_greatest, IsThere, entries_of, head_of, IsLeafOn, AreLight, IsLeafTop};
 ghost use Rattle.sk_nodes.specs.Left.{from_on};
 
@@ -138,7 +139,7 @@ impl Leaf {
 // What the entries of a list can weigh.
 fn greatest_of(list: &List, scheme: Scheme, factor: u64) -> u64
     requires { factor ≤ 65536 }
-    ensures { result ≡ leaf_greatest factor scheme list.now }
+    ensures { result ≡ leaf_greatest factor scheme (flat list.now) }
 {
     if list.length() == 0 {
         return 0;
@@ -158,7 +159,8 @@ pub(crate) fn list_length(index: &Index, number: Option<usize>) -> u32
 // The list.
 fn list_of(index: &Index, number: Option<usize>) -> &List
     requires { IsThere number index.now.terms }
-    ensures { result.now ≡ list_in index.now number }
+    ensures runs { result.now ≡ runs_in index.now number }
+    ensures entries { flat result.now ≡ list_in index.now number }
 {
     match number {
         Some(number) => index.list(number),

@@ -136,7 +136,14 @@ pub(crate) fn open_node<L: Ledger>(
         Query::Range(slot, lo, hi) => open_range(
             alloc, index, *slot, lo, hi, scheme, factor, most, spent, steps,
         ),
-        _ => Err(AllocError),
+        // These went by `parts_of`.
+        Query::And(_)
+        | Query::Or(_)
+        | Query::Xor(_)
+        | Query::Max(_)
+        | Query::AndNot(_)
+        | Query::AndMaybe(_)
+        | Query::Filter(_) => Err(AllocError),
     }
 }
 

@@ -1,6 +1,6 @@
 -- The greatest wdf in the list of the term is that in the documents.
 use Rattle.std.proofs.Common.{ap, ◌∙◌}
-use Rattle.sk_lists.specs.Postings.{greatest_wdf}
+use Rattle.sk_chunks.specs.Postings.{greatest_wdf}
 use Rattle.sk_index.proofs.NumberLemmas.{greatest-postings}
 use Rattle.sk_index.proofs.stats.IndexStats.greatest.Goals as goal
 

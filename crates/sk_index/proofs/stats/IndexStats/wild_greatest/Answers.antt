@@ -1,7 +1,7 @@
 -- What the walk adds up is the sum over the terms of the documents.
 use Rattle.std.proofs.Common.{◌^◌, ◌-◌, min, ap, ◌∙◌}
 use Rattle.sk_base.specs.Numbers.{greatest_of}
-use Rattle.sk_lists.specs.Postings.{greatest_wdf}
+use Rattle.sk_chunks.specs.Postings.{greatest_wdf}
 use Rattle.sk_index.specs.Listed.{list_of}
 use Rattle.sk_index.specs.Wild.{figure_of}
 use Rattle.sk_index.specs.declared.term_lists.Figure.TheVariants as Figure

@@ -1,7 +1,7 @@
 -- The list at the number of the term is changed.
 use Rattle.std.proofs.Common.{ap, ◌∙◌, bytes_eq, if◌then◌else◌}
 use Rattle.sk_sorted.specs.Entries.{put}
-use Rattle.sk_lists.specs.Postings.{Postings}
+use Rattle.sk_chunks.specs.Postings.{Postings}
 use Rattle.sk_index.proofs.ListedLemmas.{changed_at}
 use Rattle.sk_index.proofs.term_lists.TermLists.put.Goals as goal
 

@@ -14,4 +14,4 @@ walk-smaller c = sum_shrinks c.args.self.now.terms c.args.prefix.now c.walk.afte
 pub walk-preserved : goal.walk-preserved
 walk-preserved c =
     rw c.capped-total.ensures (sum_more (λ t. figure_of c.args.figure (list_of t c.args.self.now)) c.args.self.now.terms c.args.prefix.now c.args.most c.walk.total c.figure_of.result c.walk.after c.in-Some.number c.next.ensures.sound.different c.walk.invariant c.in-Some.ensures.next
-    (c.figure_of.ensures ∙ ap (figure_of c.args.figure) c.list.ensures))
+    (c.figure_of.ensures ∙ ap (figure_of c.args.figure) c.list.ensures.entries))

@@ -1,6 +1,6 @@
 -- The node of a query gives what the documents score.
 use Rattle.std.proofs.Common.{subst, arith}
-use Rattle.sk_lists.specs.Postings.{Postings}
+use Rattle.sk_chunks.specs.Postings.{Postings}
 use Rattle.sk_sorted.specs.Entries.{AreSorted}
 use Rattle.sk_query.specs.Trees.{query_view}
 use Rattle.sk_nodes.specs.Shapes.{shape_of}
@@ -13,7 +13,7 @@ use Rattle.sk_nodes.proofs.tree.Tree.open.Goals as goal
 
 pub open_node-requires-clause-documents : goal.open_node-requires-clause-documents
 open_node-requires-clause-documents g c =
-    AreSorted-all c.args.index.now.live.documents (subst (λ (ps : Postings). AreSorted ps) c.all.ensures c.length-sorted.ensures.sound)
+    AreSorted-all c.args.index.now.live.documents (subst (λ (ps : Postings). AreSorted ps) c.all.ensures.entries c.length-sorted.ensures.sound)
 
 pub returns-clause-built : goal.returns-clause-built
 returns-clause-built g c =
@@ -26,7 +26,7 @@ returns-clause-built g c =
         sound = opens.sound;
         fits = omega (arith, opens.ceiling, fits_ceil (query_view c.args.query.now) c.args.scheme i.live.documents c.requires.fits c.highest-sound.ensures.light);
         room = omega (arith, paid, c.in_ok-top.ensures.small);
-        documents = AreSorted-all i.live.documents (subst (λ (ps : Postings). AreSorted ps) c.all.ensures c.length-sorted.ensures.sound);
+        documents = AreSorted-all i.live.documents (subst (λ (ps : Postings). AreSorted ps) c.all.ensures.entries c.length-sorted.ensures.sound);
       };
       ceiling = opens.ceiling;
       account = omega (arith, paid, c.in_ok-top.ensures.within);
@@ -36,5 +36,5 @@ pub returns-clause-left : goal.returns-clause-left
 returns-clause-left g c =
     let i = c.args.index.now in
     weighed_ids-scored (rest i (shape_of c.in_ok-top.node)) (score_of (query_view c.args.query.now) c.args.scheme 1) 0 i.live.documents
-    (AreSorted-all i.live.documents (subst (λ (ps : Postings). AreSorted ps) c.all.ensures c.length-sorted.ensures.sound)).rise
+    (AreSorted-all i.live.documents (subst (λ (ps : Postings). AreSorted ps) c.all.ensures.entries c.length-sorted.ensures.sound)).rise
     (λ id lt. c.in_ok-top.ensures.opens.gives id)

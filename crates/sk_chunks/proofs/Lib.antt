@@ -1,0 +1,4 @@
+pub mod EndLaws
+pub mod GreatestLaws
+mod ChunkLemmas
+mod Examples

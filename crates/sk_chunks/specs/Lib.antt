@@ -1,0 +1,2 @@
+pub mod Postings
+pub mod Chunks

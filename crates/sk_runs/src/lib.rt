@@ -1,0 +1,2 @@
+//! Entries in order, cut into runs.
+#![tactic(auto)]
