@@ -14,7 +14,8 @@ use std::mem;
 
 // A chunk has so many entries at most.
 const FULL: u32 = 128;
-// Neighbours that have no more entries together become one.
+// Neighbours that have no more entries together become one behind a removal or a halving, so that a list of n entries
+// has about n / 48 chunks at most.
 const THIN: u32 = 96;
 
 /// Chunks in order of their ids, none of them empty.
@@ -79,7 +80,7 @@ impl Directory {
     }
 
     /// Gives the document this wdf. An entry behind the last one goes into a new chunk where the last one is full, and
-    /// one in the middle of a full chunk halves that.
+    /// one in the middle of a full chunk halves that; a half is joined with a thin neighbour.
     pub fn insert(&mut self, id: u32, wdf: u32) -> Result<(), AllocError>
         requires { 1 ≤ id }
         ensures ok { OnOk result (flat self.new ≡ put id wdf (flat self.old)) }
@@ -90,8 +91,14 @@ impl Directory {
         if at == self.chunks.len() {
             return self.append(id, wdf);
         }
-        let at = self.make_room(at, id)?;
-        self.put_in(at, id, wdf)
+        let count = self.chunks.len();
+        let room = self.make_room(at, id)?;
+        self.put_in(room, id, wdf)?;
+        if self.chunks.len() > count {
+            self.join(at + 1);
+            self.join(at.saturating_sub(1));
+        }
+        Ok(())
     }
 
     /// Takes the document's entry out, and answers whether there was one.
