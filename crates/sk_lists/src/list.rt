@@ -59,6 +59,10 @@ impl List {
         match &mut self.form {
             Form::Many(directory) => directory.insert(id, wdf),
             Form::One(chunk) => {
+                if chunk.count() == 0 {
+                    *chunk = Chunk::one(self.alloc, id, wdf)?;
+                    return Ok(());
+                }
                 if chunk.count() < FULL || chunk.has(id) {
                     return chunk.insert(id, wdf);
                 }
