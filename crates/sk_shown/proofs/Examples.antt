@@ -1,5 +1,7 @@
 -- Trees and their JSON values, worked out by hand.
 use Rattle.std.proofs.Common.{◌≡◌, ◌∷◌, [], List, refl, map, codes}
+use Rattle.std.specs.Fmt.{digits}
+use Rattle.serde_json.proofs.OnLiterals.{serde_json_on_literals}
 use Rattle.serde_json.specs.Data.{Data, null, number, string, array, object, no_items, item, no_members, member, unsigned}
 use Rattle.serde_json.specs.Written.{compact_text}
 use Rattle.sk_query.specs.declared.form.Form.{Form}
@@ -15,12 +17,12 @@ loved_and_hated = parts Form.AndNot (trees_from ((parts Form.AndMaybe (trees_fro
 abbrev its_value : Data
 its_value =
     object (member (codes "and_not") (array
-        (item (object (member (codes "and_maybe") (array
-            (item (object (member (codes "term") (string (codes "red")) no_members))
-            (item (object (member (codes "phrase") (array (item (number (unsigned 2)) (item (string (codes "fox")) (item (string (codes "den")) no_items)))) no_members))
-            no_items))) no_members))
-        (item (object (member (codes "term") (string (codes "Lfr")) no_members))
-        no_items))) no_members)
+    (item (object (member (codes "and_maybe") (array
+    (item (object (member (codes "term") (string (codes "red")) no_members))
+    (item (object (member (codes "phrase") (array (item (number (unsigned 2)) (item (string (codes "fox")) (item (string (codes "den")) no_items)))) no_members))
+    no_items))) no_members))
+    (item (object (member (codes "term") (string (codes "Lfr")) no_members))
+    no_items))) no_members)
 
 pub its_value-is : value_of loved_and_hated ≡ its_value
 its_value-is = refl
@@ -69,4 +71,5 @@ nested-hold = refl
 
 -- its text
 pub its_text : compact_text (value_of loved_and_hated) ≡ codes "{\"and_not\":[{\"and_maybe\":[{\"term\":\"red\"},{\"phrase\":[2,\"fox\",\"den\"]}]},{\"term\":\"Lfr\"}]}"
+unfolding serde_json_on_literals digits
 its_text = refl

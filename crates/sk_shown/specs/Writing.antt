@@ -1,5 +1,5 @@
 -- The JSON value of a tree.
-use Rattle.std.specs.Prelude.{ℕ, List, ◌∷◌, map, codes}
+use Rattle.std.specs.Prelude.{ℕ, List, map, codes}
 use Rattle.serde_json.specs.Data.{Data, null, number, string, array, object, Items, no_items, item, no_members, member, unsigned}
 use Rattle.serde_json.specs.View.{items_of}
 use Rattle.sk_query.specs.declared.form.Form.{Form}

@@ -6,3 +6,6 @@ mod value;
 
 pub use compact::text;
 pub use value::to_json;
+
+#[cfg(test)]
+mod tests;

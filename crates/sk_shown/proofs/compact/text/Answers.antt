@@ -1,5 +1,4 @@
 use Rattle.std.proofs.Common.{arith}
-use Rattle.serde_json.specs.View.{view}
 use Rattle.sk_query.specs.Trees.{query_view}
 use Rattle.sk_shown.proofs.RoundTrip.{twice_as_deep}
 use Rattle.sk_shown.proofs.ValueLemmas.{text_is, text_reads_back}
