@@ -1,0 +1,3 @@
+mod Examples
+mod ValueLemmas
+pub mod RoundTrip

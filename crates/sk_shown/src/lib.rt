@@ -1,0 +1,11 @@
+//! How a query is written as JSON.
+#![tactic(auto)]
+
+mod compact;
+mod value;
+
+pub use compact::text;
+pub use value::to_json;
+
+#[cfg(test)]
+mod tests;
