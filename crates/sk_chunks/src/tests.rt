@@ -1,4 +1,5 @@
-//! What no clause says: the bytes of an entry, that each call succeeds with memory, and what `Debug` tells.
+//! What no clause says: that each call succeeds with memory, and what `Debug` tells; and the bytes of an entry as they
+//! stand.
 use crate::{Chunk, ChunkHead, entry_bytes};
 use std::alloc::{AllocError, Global};
 use std::test::Fail;

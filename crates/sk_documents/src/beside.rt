@@ -19,7 +19,7 @@ pub trait Beside: Drop {
         requires { 1 ≤ id }
         ensures { OnOk result ((docs : Docs) → RiseAbove 0 docs → document_at id docs ≡ None → stands self.old docs → stands self.new (put_document id doc.now docs)) };
 
-    /// Forgets a document. It takes no memory.
+    /// Forgets a document. Want of memory stops nothing.
     fn forget(&mut self, id: DocId, doc: &Doc)
         ensures { (docs : Docs) → RiseAbove 0 docs → document_at id docs ≡ Some doc.now → stands self.old docs → stands self.new (without_id id docs) };
 

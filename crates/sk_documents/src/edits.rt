@@ -154,7 +154,7 @@ impl<B: Beside> Documents<B> {
         })
     }
 
-    // Removes the document with the id, and answers whether there was one. It takes no memory.
+    // Removes the document with the id, and answers whether there was one. Want of memory stops nothing.
     fn remove(&mut self, id: DocId) -> bool
         ensures live { self.new.live ≡ record { documents = without_id id self.old.live.documents; highest = self.old.live.highest } }
         ensures there { result ≡ is_some (document_at id self.old.live.documents) }
@@ -169,8 +169,8 @@ impl<B: Beside> Documents<B> {
         true
     }
 
-    // Removes the documents that have the term, the last first, so that none moves what is left of a list beside them,
-    // and answers their ids.
+    // Removes the documents that have the term, the last first, so that little of a list beside them moves, and answers
+    // their ids.
     fn remove_all(&mut self, term: &[u8]) -> Result<Vec<DocId>, AllocError>
         ensures live { IfOk result (λ ids. self.new.live ≡ record { documents = without_term term.now self.old.live.documents; highest = self.old.live.highest }) }
         ensures ids { IfOk result (λ ids. ids.items ≡ ids_with term.now self.old.live.documents) }

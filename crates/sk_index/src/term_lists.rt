@@ -141,7 +141,7 @@ impl TermLists {
         Ok(())
     }
 
-    /// Takes the document out of the list of each term. It takes no memory.
+    /// Takes the document out of the list of each term. Want of memory stops nothing.
     pub fn take_out_all(&mut self, id: DocId, terms: &[DocTerm])
         requires rising { AreTerms terms.now }
         ensures { TakesOutAll id terms.now self.old self.new }

@@ -3,7 +3,7 @@ use Rattle.std.specs.Prelude.{◌≡◌, ℕ, List, [], ◌∷◌, length}
 use Rattle.sk_runs.specs.Runs.{flat, AreRuns}
 use Rattle.sk_chunks.specs.Postings.{Postings, greatest_wdf}
 
--- The entries of a list, chunk by chunk; no chunk is empty.
+-- The entries of a list, chunk by chunk.
 abbrev pub Runs : Type 0
 Runs = List Postings
 

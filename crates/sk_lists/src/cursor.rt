@@ -12,7 +12,7 @@ use sk_chunks::Chunk;
 use sk_steps::Steps;
 use std::sync::ledger::Ledger;
 
-/// A place in a list and the entry there, its head. It holds no reference: each call is given the list that it is on.
+/// A place in a list and the entry there, its head. It holds no reference: `seek` is given the list that it is on.
 #[derive(Debug, Drop)]
 pub struct Cursor {
     run: usize,
@@ -46,7 +46,7 @@ impl Cursor {
     }
 
     /// Moves on to an entry whose id is at least `target`, and answers how many entries it read. It may pass over entries
-    /// from the target on whose wdf is below `need_wdf`. It finds its chunk by heads alone, and reads in that.
+    /// from the target on whose wdf is below `need_wdf`. It finds its chunk without a reading, and reads in that.
     pub fn seek<L: Ledger>(
         &mut self,
         list: &List,
@@ -75,7 +75,7 @@ impl Cursor {
         if !self.is_below(target) {
             return 0;
         }
-        let at = find(list, self.run, target, need_wdf);
+        let at = reached(list, self.run, target, need_wdf);
         if at == list.chunks() {
             self.run = at;
             self.head = None;
@@ -138,6 +138,23 @@ impl Cursor {
             }
         }
     }
+}
+
+// The first chunk from this one on that a seek may not pass over, which mostly is this one; their number where there is
+// none.
+fn reached(list: &List, run: usize, target: u32, need_wdf: u32) -> usize
+    requires { run ≤ length list.now }
+    ensures bound { (run ≤ result) × (result ≤ length list.now) }
+    ensures skips { (k : ℕ) → run ≤ k → k < result → IsSkipped target need_wdf (get_or list.now k []) }
+    ensures stops { result < length list.now → target ≤ top_id 0 (get_or list.now result []) }
+{
+    if run < list.chunks() {
+        let here = list.chunk(run);
+        if target <= here.last() && need_wdf <= here.greatest() {
+            return run;
+        }
+    }
+    find(list, run, target, need_wdf)
 }
 
 // The first chunk from this one on that a seek may not pass over; their number where there is none.

@@ -22,7 +22,7 @@ pub struct List {
     form: Form,
 }
 
-// A short list is one chunk, and takes no more room than that.
+// A short list is one chunk, without a vector of chunks.
 #[derive(Drop)]
 enum Form {
     One(Chunk),
@@ -49,7 +49,7 @@ impl List {
         }
     }
 
-    /// Gives the document this wdf. Only a new entry takes memory, and no other entry moves but those of its chunk.
+    /// Gives the document this wdf. Only a new entry takes memory, and only entries of a few chunks move.
     pub fn insert(&mut self, id: u32, wdf: u32) -> Result<(), AllocError>
         requires { 1 ≤ id }
         ensures ok { OnOk result (flat self.new ≡ put id wdf (flat self.old)) }
@@ -74,7 +74,8 @@ impl List {
         }
     }
 
-    /// Takes the document's entry out, and answers whether there was one. It takes no memory.
+    /// Takes the document's entry out, and answers whether there was one. Where there is no memory to join two chunks, they
+    /// stay two.
     pub fn remove(&mut self, id: u32) -> bool
         ensures after { flat self.new ≡ without id (flat self.old) }
         ensures there { result ≡ has id (flat self.old) }

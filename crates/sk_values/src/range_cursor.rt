@@ -10,7 +10,7 @@ use sk_base::{Bytes, DocId};
 use sk_steps::Steps;
 use std::sync::ledger::Ledger;
 
-/// A place in a list and the id there, its head. It holds no reference: each call is given the list that it is on.
+/// A place in a list and the id there, its head. It holds no reference: `seek` is given the list that it is on.
 #[derive(Debug, Drop)]
 pub struct RangeCursor {
     read: u32,
