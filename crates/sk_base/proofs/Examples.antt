@@ -2,7 +2,9 @@
 use Rattle.std.proofs.Common.{◌≡◌, ℕ, Bool, true, false, ◌&&◌, nat_le, List, [], ◌∷◌, length, codes, Some, None, refl}
 use Rattle.sk_base.specs.declared.rank.Rank.{Rank}
 use Rattle.sk_base.specs.declared.rank.SortKey.{SortKey}
-use Rattle.sk_base.specs.declared.rank.Order.TheVariants as Order
+use Rattle.sk_base.specs.declared.rank.Order.{Order}
+use Rattle.sk_base.specs.declared.rank.OrderBy.{OrderBy}
+use Rattle.sk_base.specs.declared.rank.OrderBy.TheVariants as OrderBy
 use Rattle.sk_base.specs.declared.schema.Field.{Field}
 use Rattle.sk_base.specs.declared.schema.FieldKind.{FieldKind}
 use Rattle.sk_base.specs.declared.schema.FieldKind.TheVariants as FieldKind
@@ -170,71 +172,98 @@ backward = record { slot = 0; reverse = true }
 abbrev rank : ℕ → List ℕ → ℕ → Rank
 rank weight value id = record { weight = weight; value = value; id = id }
 
-before_1 : is_before Order.Relevance (rank 2 [] 9) (rank 1 [] 1) ≡ true
+abbrev rising : OrderBy → Order
+rising by = record { by = by; falling = false }
+
+abbrev falls : OrderBy → Order
+falls by = record { by = by; falling = true }
+
+before_1 : is_before (rising OrderBy.Relevance) (rank 2 [] 9) (rank 1 [] 1) ≡ true
 before_1 = refl
 
-before_2 : is_before Order.Relevance (rank 1 [] 1) (rank 2 [] 9) ≡ false
+before_2 : is_before (rising OrderBy.Relevance) (rank 1 [] 1) (rank 2 [] 9) ≡ false
 before_2 = refl
 
-before_3 : is_before Order.Relevance (rank 2 [] 3) (rank 2 [] 9) ≡ true
+before_3 : is_before (rising OrderBy.Relevance) (rank 2 [] 3) (rank 2 [] 9) ≡ true
 before_3 = refl
 
-before_4 : is_before Order.Relevance (rank 2 [] 9) (rank 2 [] 3) ≡ false
+before_4 : is_before (rising OrderBy.Relevance) (rank 2 [] 9) (rank 2 [] 3) ≡ false
 before_4 = refl
 
-before_5 : is_before Order.Relevance (rank 2 [] 3) (rank 2 [] 3) ≡ false
+before_5 : is_before (rising OrderBy.Relevance) (rank 2 [] 3) (rank 2 [] 3) ≡ false
 before_5 = refl
 
-before_6 : is_before Order.Relevance (rank 2 (98 ∷ []) 3) (rank 2 (97 ∷ []) 9) ≡ true
+before_6 : is_before (rising OrderBy.Relevance) (rank 2 (98 ∷ []) 3) (rank 2 (97 ∷ []) 9) ≡ true
 before_6 = refl
 
-before_7 : is_before (Order.Value forward) (rank 1 (97 ∷ []) 9) (rank 2 (98 ∷ []) 1) ≡ true
+before_7 : is_before (rising (OrderBy.Value forward)) (rank 1 (97 ∷ []) 9) (rank 2 (98 ∷ []) 1) ≡ true
 before_7 = refl
 
-before_8 : is_before (Order.Value forward) (rank 1 [] 9) (rank 2 (0 ∷ []) 1) ≡ true
+before_8 : is_before (rising (OrderBy.Value forward)) (rank 1 [] 9) (rank 2 (0 ∷ []) 1) ≡ true
 before_8 = refl
 
-before_9 : is_before (Order.Value forward) (rank 1 (97 ∷ 98 ∷ []) 9) (rank 2 (98 ∷ []) 1) ≡ true
+before_9 : is_before (rising (OrderBy.Value forward)) (rank 1 (97 ∷ 98 ∷ []) 9) (rank 2 (98 ∷ []) 1) ≡ true
 before_9 = refl
 
-before_10 : is_before (Order.Value forward) (rank 1 (97 ∷ []) 9) (rank 2 (97 ∷ []) 1) ≡ false
+before_10 : is_before (rising (OrderBy.Value forward)) (rank 1 (97 ∷ []) 9) (rank 2 (97 ∷ []) 1) ≡ false
 before_10 = refl
 
-before_11 : is_before (Order.Value forward) (rank 1 (97 ∷ []) 1) (rank 2 (97 ∷ []) 9) ≡ true
+before_11 : is_before (rising (OrderBy.Value forward)) (rank 1 (97 ∷ []) 1) (rank 2 (97 ∷ []) 9) ≡ true
 before_11 = refl
 
-before_12 : is_before (Order.Value backward) (rank 1 (98 ∷ []) 9) (rank 2 (97 ∷ []) 1) ≡ true
+before_12 : is_before (rising (OrderBy.Value backward)) (rank 1 (98 ∷ []) 9) (rank 2 (97 ∷ []) 1) ≡ true
 before_12 = refl
 
-before_13 : is_before (Order.Value backward) (rank 2 [] 1) (rank 1 (97 ∷ []) 9) ≡ false
+before_13 : is_before (rising (OrderBy.Value backward)) (rank 2 [] 1) (rank 1 (97 ∷ []) 9) ≡ false
 before_13 = refl
 
-before_14 : is_before (Order.Value backward) (rank 1 (97 ∷ []) 1) (rank 2 (97 ∷ []) 9) ≡ true
+before_14 : is_before (rising (OrderBy.Value backward)) (rank 1 (97 ∷ []) 1) (rank 2 (97 ∷ []) 9) ≡ true
 before_14 = refl
 
-before_15 : is_before (Order.ValueThenRelevance forward) (rank 1 (97 ∷ []) 9) (rank 2 (98 ∷ []) 1) ≡ true
+before_15 : is_before (rising (OrderBy.ValueThenRelevance forward)) (rank 1 (97 ∷ []) 9) (rank 2 (98 ∷ []) 1) ≡ true
 before_15 = refl
 
-before_16 : is_before (Order.ValueThenRelevance forward) (rank 2 (97 ∷ []) 9) (rank 1 (97 ∷ []) 1) ≡ true
+before_16 : is_before (rising (OrderBy.ValueThenRelevance forward)) (rank 2 (97 ∷ []) 9) (rank 1 (97 ∷ []) 1) ≡ true
 before_16 = refl
 
-before_17 : is_before (Order.ValueThenRelevance backward) (rank 2 (97 ∷ []) 9) (rank 1 (97 ∷ []) 1) ≡ true
+before_17 : is_before (rising (OrderBy.ValueThenRelevance backward)) (rank 2 (97 ∷ []) 9) (rank 1 (97 ∷ []) 1) ≡ true
 before_17 = refl
 
-before_18 : is_before (Order.ValueThenRelevance forward) (rank 2 (97 ∷ []) 9) (rank 2 (97 ∷ []) 1) ≡ false
+before_18 : is_before (rising (OrderBy.ValueThenRelevance forward)) (rank 2 (97 ∷ []) 9) (rank 2 (97 ∷ []) 1) ≡ false
 before_18 = refl
 
-before_19 : is_before (Order.RelevanceThenValue forward) (rank 2 (98 ∷ []) 9) (rank 1 (97 ∷ []) 1) ≡ true
+before_19 : is_before (rising (OrderBy.RelevanceThenValue forward)) (rank 2 (98 ∷ []) 9) (rank 1 (97 ∷ []) 1) ≡ true
 before_19 = refl
 
-before_20 : is_before (Order.RelevanceThenValue forward) (rank 2 (97 ∷ []) 9) (rank 2 (98 ∷ []) 1) ≡ true
+before_20 : is_before (rising (OrderBy.RelevanceThenValue forward)) (rank 2 (97 ∷ []) 9) (rank 2 (98 ∷ []) 1) ≡ true
 before_20 = refl
 
-before_21 : is_before (Order.RelevanceThenValue backward) (rank 2 (97 ∷ []) 1) (rank 2 (98 ∷ []) 9) ≡ false
+before_21 : is_before (rising (OrderBy.RelevanceThenValue backward)) (rank 2 (97 ∷ []) 1) (rank 2 (98 ∷ []) 9) ≡ false
 before_21 = refl
 
-before_22 : is_before (Order.RelevanceThenValue backward) (rank 2 (97 ∷ []) 1) (rank 2 (97 ∷ []) 9) ≡ true
+before_22 : is_before (rising (OrderBy.RelevanceThenValue backward)) (rank 2 (97 ∷ []) 1) (rank 2 (97 ∷ []) 9) ≡ true
 before_22 = refl
+
+before_23 : is_before (falls OrderBy.Relevance) (rank 2 [] 3) (rank 2 [] 9) ≡ false
+before_23 = refl
+
+before_24 : is_before (falls OrderBy.Relevance) (rank 2 [] 9) (rank 2 [] 3) ≡ true
+before_24 = refl
+
+before_25 : is_before (falls OrderBy.Relevance) (rank 2 [] 1) (rank 1 [] 9) ≡ true
+before_25 = refl
+
+before_26 : is_before (falls (OrderBy.Value backward)) (rank 1 (97 ∷ []) 9) (rank 2 (97 ∷ []) 1) ≡ true
+before_26 = refl
+
+before_27 : is_before (falls (OrderBy.Value backward)) (rank 1 (98 ∷ []) 1) (rank 2 (97 ∷ []) 9) ≡ true
+before_27 = refl
+
+before_28 : is_before (falls (OrderBy.ValueThenRelevance forward)) (rank 2 (97 ∷ []) 1) (rank 2 (97 ∷ []) 9) ≡ false
+before_28 = refl
+
+before_29 : is_before (falls (OrderBy.RelevanceThenValue forward)) (rank 2 (97 ∷ []) 1) (rank 2 (97 ∷ []) 9) ≡ false
+before_29 = refl
 
 -- ---- a colon stands between capitals
 

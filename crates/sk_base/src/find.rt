@@ -1,5 +1,5 @@
 //! What a find asks for.
-use crate::{Order, Text};
+use crate::{Order, Text, Weight};
 use serde_json::Value;
 
 /// Which words of a text a document must have.
@@ -44,6 +44,8 @@ pub struct Options {
     pub size: u32,
     /// How many matches are counted at the least.
     pub check: u32,
+    /// The least weight of a match: what weighs less does not match.
+    pub cutoff: Weight,
 }
 
 /// A find: its query, and which page of the matches is asked for.

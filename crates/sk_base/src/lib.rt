@@ -28,7 +28,7 @@ pub use find::{Ask, Collapse, Find, Join, Options, Scheme};
 pub use items::Items;
 pub use limits::{MOST_FIELDS, MOST_HITS, MOST_LEAVES, MOST_TERM, MOST_TEXT, MOST_WDF};
 pub use positions::Positions;
-pub use rank::{Order, Rank, SortKey, total_order};
+pub use rank::{Order, OrderBy, Rank, SortKey, total_order};
 pub use record::{Edit, Entries, Entry, FieldValue, Record, Reply};
 pub use report::{Hits, Ranked, Report};
 pub use schema::{Field, FieldKind, Schema};

@@ -25,9 +25,17 @@ pub struct SortKey {
     pub reverse: bool,
 }
 
-/// The order of matches. In each of them the lower id decides last.
+/// The order of matches. The ids decide last.
 #[derive(Clone, Copy, Debug, PartialEq, Eq)]
-pub enum Order {
+pub struct Order {
+    pub by: OrderBy,
+    /// Whether the greater ids come first, and not the lower.
+    pub falling: bool,
+}
+
+/// What decides before the ids.
+#[derive(Clone, Copy, Debug, PartialEq, Eq)]
+pub enum OrderBy {
     /// The heavier first.
     Relevance,
     /// By value.
@@ -51,14 +59,18 @@ impl Rank {
         ensures { result ≡ rank_cmp order.now self.now other.now }
     {
         let weight = other.weight.cmp(&self.weight);
-        let id = self.id.cmp(&other.id);
-        match order {
-            Order::Relevance => weight.then(id),
-            Order::Value(key) => key.compare(&self.value, &other.value).then(id),
-            Order::ValueThenRelevance(key) => key
+        let id = if order.falling {
+            other.id.cmp(&self.id)
+        } else {
+            self.id.cmp(&other.id)
+        };
+        match &order.by {
+            OrderBy::Relevance => weight.then(id),
+            OrderBy::Value(key) => key.compare(&self.value, &other.value).then(id),
+            OrderBy::ValueThenRelevance(key) => key
                 .compare(&self.value, &other.value)
                 .then(weight.then(id)),
-            Order::RelevanceThenValue(key) => weight.then(
+            OrderBy::RelevanceThenValue(key) => weight.then(
                 key.compare(&self.value, &other.value).then(id),
             ),
         }

@@ -14,6 +14,8 @@ use Rattle.sk_base.specs.declared.find.Find.{Find}
 use Rattle.sk_base.specs.declared.find.Join.TheVariants as Join
 use Rattle.sk_base.specs.declared.find.Scheme.{Scheme}
 use Rattle.sk_base.specs.declared.rank.Order.{Order}
+use Rattle.sk_base.specs.declared.rank.OrderBy.{OrderBy}
+use Rattle.sk_base.specs.declared.rank.OrderBy.TheVariants as OrderBy
 use Rattle.sk_base.specs.declared.rank.Rank.{Rank}
 use Rattle.sk_base.specs.Numbers.{Docs, wild_length_of, wild_greatest_of, slot_length_of}
 use Rattle.sk_model.specs.Documents.{Occurrence, placed_from, terms_of, document_of}
@@ -30,6 +32,13 @@ use Rattle.sk_model.specs.Settled.{settled, decay_point}
 use Rattle.sk_model.specs.Sharp.{stop_number, rare_number, decay_number, sharp}
 use Rattle.sk_query.specs.declared.form.Form.{Form}
 use Rattle.sk_query.specs.Trees.{unbounded, number, bytes, Tree, nothing, all, term, wildcard, parts, near, phrase, synonym, scale, range, Trees, no_trees, tree}
+
+-- ids rise
+abbrev pub rising : OrderBy → Order
+rising by = record { by = by; falling = false }
+
+abbrev pub relevance : Order
+relevance = rising OrderBy.Relevance
 
 -- a filter `lang` and a number `year`
 abbrev fields : List Field
@@ -121,10 +130,10 @@ bool_score : score (term (codes "red")) Scheme.Bool 1 (red 2) ≡ Some 0
 bool_score = refl
 
 -- a term is no part of a longer one
-no_part : matches (term (codes "re")) Scheme.Nnn Order.Relevance three ≡ []
+no_part : matches (term (codes "re")) Scheme.Nnn relevance three ≡ []
 no_part = refl
 
-matches_of_red : matches (term (codes "red")) Scheme.Nnn Order.Relevance three ≡ record { weight = 2; value = []; id = 1 } ∷ record { weight = 1; value = []; id = 4 } ∷ []
+matches_of_red : matches (term (codes "red")) Scheme.Nnn relevance three ≡ record { weight = 2; value = []; id = 1 } ∷ record { weight = 1; value = []; id = 4 } ∷ []
 matches_of_red = refl
 
 -- a term of a document, and a document of terms alone
@@ -353,25 +362,25 @@ range_point = refl
 
 -- the heavier first, and of equal weights the lower id
 in_order :
-    best_first Order.Relevance (record { weight = 1; value = []; id = 1 } ∷ record { weight = 2; value = []; id = 9 } ∷ record { weight = 2; value = []; id = 3 } ∷ [])
+    best_first relevance (record { weight = 1; value = []; id = 1 } ∷ record { weight = 2; value = []; id = 9 } ∷ record { weight = 2; value = []; id = 3 } ∷ [])
     ≡ record { weight = 2; value = []; id = 3 } ∷ record { weight = 2; value = []; id = 9 } ∷ record { weight = 1; value = []; id = 1 } ∷ []
 in_order = refl
 
 -- by value, the greater first; the id still decides upwards
 by_value :
-    best_first (Order.Value (record { slot = 0; reverse = true })) (record { weight = 1; value = codes "b"; id = 9 } ∷ record { weight = 2; value = codes "b"; id = 3 } ∷ record { weight = 2; value = codes "ba"; id = 4 } ∷ [])
+    best_first (rising (OrderBy.Value (record { slot = 0; reverse = true }))) (record { weight = 1; value = codes "b"; id = 9 } ∷ record { weight = 2; value = codes "b"; id = 3 } ∷ record { weight = 2; value = codes "ba"; id = 4 } ∷ [])
     ≡ record { weight = 2; value = codes "ba"; id = 4 } ∷ record { weight = 2; value = codes "b"; id = 3 } ∷ record { weight = 1; value = codes "b"; id = 9 } ∷ []
 by_value = refl
 
 -- of equal weights the empty value is first, since it is the least
 empty_first :
-    best_first (Order.RelevanceThenValue (record { slot = 0; reverse = false })) (record { weight = 2; value = codes "a"; id = 1 } ∷ record { weight = 3; value = codes "z"; id = 2 } ∷ record { weight = 2; value = []; id = 3 } ∷ [])
+    best_first (rising (OrderBy.RelevanceThenValue (record { slot = 0; reverse = false }))) (record { weight = 2; value = codes "a"; id = 1 } ∷ record { weight = 3; value = codes "z"; id = 2 } ∷ record { weight = 2; value = []; id = 3 } ∷ [])
     ≡ record { weight = 3; value = codes "z"; id = 2 } ∷ record { weight = 2; value = []; id = 3 } ∷ record { weight = 2; value = codes "a"; id = 1 } ∷ []
 empty_first = refl
 
 -- of equal values the heavier first
 value_then_weight :
-    best_first (Order.ValueThenRelevance (record { slot = 0; reverse = false })) (record { weight = 2; value = codes "a"; id = 1 } ∷ record { weight = 3; value = codes "z"; id = 2 } ∷ record { weight = 4; value = codes "a"; id = 3 } ∷ [])
+    best_first (rising (OrderBy.ValueThenRelevance (record { slot = 0; reverse = false }))) (record { weight = 2; value = codes "a"; id = 1 } ∷ record { weight = 3; value = codes "z"; id = 2 } ∷ record { weight = 4; value = codes "a"; id = 3 } ∷ [])
     ≡ record { weight = 4; value = codes "a"; id = 3 } ∷ record { weight = 2; value = codes "a"; id = 1 } ∷ record { weight = 3; value = codes "z"; id = 2 } ∷ []
 value_then_weight = refl
 
@@ -395,10 +404,10 @@ four =
 
 -- a find of its first hits, so many, counting no further than it must
 abbrev first_hits : Scheme → ℕ → Order → Option Collapse → Find
-first_hits scheme size order collapse = record { ask = Ask.Text (codes "red") Join.Or; options = record { scheme = scheme; first = 0; size = size; check = 0 }; order = order; collapse = collapse }
+first_hits scheme size order collapse = record { ask = Ask.Text (codes "red") Join.Or; options = record { scheme = scheme; first = 0; size = size; check = 0; cutoff = 0 }; order = order; collapse = collapse }
 
 abbrev ten : Find
-ten = first_hits Scheme.Nnn 10 Order.Relevance None
+ten = first_hits Scheme.Nnn 10 relevance None
 
 -- ids with weights
 abbrev weights : List Rank → List (ℕ × ℕ)
@@ -460,14 +469,14 @@ filter_found : finds (parts Form.Filter (two_parts red_term (term (codes "den"))
 filter_found = refl
 
 -- by year, the later first: a document of no year is last
-by_year : hits red_fox (first_hits Scheme.Nnn 10 (Order.Value (record { slot = 0; reverse = true })) None) ≡ (3, 1) ∷ (2, 1) ∷ (1, 3) ∷ (4, 2) ∷ []
+by_year : hits red_fox (first_hits Scheme.Nnn 10 (rising (OrderBy.Value (record { slot = 0; reverse = true }))) None) ≡ (3, 1) ∷ (2, 1) ∷ (1, 3) ∷ (4, 2) ∷ []
 by_year = refl
 
 -- of equal weights the one of no year first
-coord_by_year : hits red_fox (first_hits Scheme.Coord 10 (Order.RelevanceThenValue (record { slot = 0; reverse = false })) None) ≡ (4, 2) ∷ (1, 2) ∷ (2, 1) ∷ (3, 1) ∷ []
+coord_by_year : hits red_fox (first_hits Scheme.Coord 10 (rising (OrderBy.RelevanceThenValue (record { slot = 0; reverse = false }))) None) ≡ (4, 2) ∷ (1, 2) ∷ (2, 1) ∷ (3, 1) ∷ []
 coord_by_year = refl
 
-second_page : weights (slice 1 2 (kept_by ten four (matches red_fox Scheme.Nnn Order.Relevance four))) ≡ (4, 2) ∷ (2, 1) ∷ []
+second_page : weights (slice 1 2 (kept_by ten four (matches red_fox Scheme.Nnn relevance four))) ≡ (4, 2) ∷ (2, 1) ∷ []
 second_page = refl
 
 -- ---- collapsing
@@ -477,28 +486,28 @@ abbrev sites : ℕ → Order → Find
 sites most order = first_hits Scheme.Nnn 10 order (Some (record { slot = 1; max = most }))
 
 -- the best of each site, and one dropped of each
-one_of_each : hits red_fox (sites 1 Order.Relevance) ≡ (1, 3) ∷ (4, 2) ∷ []
+one_of_each : hits red_fox (sites 1 relevance) ≡ (1, 3) ∷ (4, 2) ∷ []
 one_of_each = refl
 
-one_dropped : dropped_by (sites 1 Order.Relevance) four (codes "a") (matches red_fox Scheme.Nnn Order.Relevance four) ≡ 1
+one_dropped : dropped_by (sites 1 relevance) four (codes "a") (matches red_fox Scheme.Nnn relevance four) ≡ 1
 one_dropped = refl
 
-two_of_each : hits red_fox (sites 2 Order.Relevance) ≡ (1, 3) ∷ (4, 2) ∷ (2, 1) ∷ (3, 1) ∷ []
+two_of_each : hits red_fox (sites 2 relevance) ≡ (1, 3) ∷ (4, 2) ∷ (2, 1) ∷ (3, 1) ∷ []
 two_of_each = refl
 
 -- which is the best depends on the order
-best_by_year : hits red_fox (sites 1 (Order.Value (record { slot = 0; reverse = true }))) ≡ (3, 1) ∷ (2, 1) ∷ []
+best_by_year : hits red_fox (sites 1 (rising (OrderBy.Value (record { slot = 0; reverse = true })))) ≡ (3, 1) ∷ (2, 1) ∷ []
 best_by_year = refl
 
 -- what has no value in the slot is kept: of the years all are different, and document 4 has none
-all_years : hits red_fox (first_hits Scheme.Nnn 10 Order.Relevance (Some (record { slot = 0; max = 1 }))) ≡ (1, 3) ∷ (4, 2) ∷ (2, 1) ∷ (3, 1) ∷ []
+all_years : hits red_fox (first_hits Scheme.Nnn 10 relevance (Some (record { slot = 0; max = 1 }))) ≡ (1, 3) ∷ (4, 2) ∷ (2, 1) ∷ (3, 1) ∷ []
 all_years = refl
 
 -- no document has a value in slot 7, so all are kept and none is dropped
-no_keys : hits red_fox (first_hits Scheme.Nnn 10 Order.Relevance (Some (record { slot = 7; max = 1 }))) ≡ (1, 3) ∷ (4, 2) ∷ (2, 1) ∷ (3, 1) ∷ []
+no_keys : hits red_fox (first_hits Scheme.Nnn 10 relevance (Some (record { slot = 7; max = 1 }))) ≡ (1, 3) ∷ (4, 2) ∷ (2, 1) ∷ (3, 1) ∷ []
 no_keys = refl
 
-no_key_dropped : dropped_by (first_hits Scheme.Nnn 10 Order.Relevance (Some (record { slot = 7; max = 1 }))) four [] (matches red_fox Scheme.Nnn Order.Relevance four) ≡ 0
+no_key_dropped : dropped_by (first_hits Scheme.Nnn 10 relevance (Some (record { slot = 7; max = 1 }))) four [] (matches red_fox Scheme.Nnn relevance four) ≡ 0
 no_key_dropped = refl
 
 -- ---- counts
@@ -511,10 +520,10 @@ wanted_check : wanted (record ten { options = record ten.options { check = 12 } 
 wanted_check = refl
 
 -- it sees the first by id, and not the best: of the first two of one site one is a duplicate
-seen_first : weights (seen (record ten { options = record ten.options { size = 2 } }) (matches red_fox Scheme.Nnn Order.Relevance four)) ≡ (1, 3) ∷ (2, 1) ∷ []
+seen_first : weights (seen (record ten { options = record ten.options { size = 2 } }) (matches red_fox Scheme.Nnn relevance four)) ≡ (1, 3) ∷ (2, 1) ∷ []
 seen_first = refl
 
-one_duplicate : (let find : Find = record (sites 1 Order.Relevance) { options = record (first_hits Scheme.Nnn 2 Order.Relevance None).options { size = 2 } } in duplicates find four (seen find (matches red_fox Scheme.Nnn Order.Relevance four))) ≡ 1
+one_duplicate : (let find : Find = record (sites 1 relevance) { options = record (first_hits Scheme.Nnn 2 relevance None).options { size = 2 } } in duplicates find four (seen find (matches red_fox Scheme.Nnn relevance four))) ≡ 1
 one_duplicate = refl
 
 -- ---- bounds
@@ -597,7 +606,7 @@ steps_of_red_fox : allowance red_fox ten four 4 4 ≡ 10
 steps_of_red_fox = refl
 
 -- by value, and collapsed: four readings more for each; two hits
-steps_by_value : allowance red_fox (sites 1 (Order.Value (record { slot = 0; reverse = true }))) four 4 2 ≡ 16
+steps_by_value : allowance red_fox (sites 1 (rising (OrderBy.Value (record { slot = 0; reverse = true })))) four 4 2 ≡ 16
 steps_by_value = refl
 
 -- the lists of a phrase twice, a wildcard's lists, and those of a range and of `all`
@@ -613,34 +622,48 @@ other_steps = refl
 -- ---- where a page is settled
 
 -- no match after the first is so heavy as all can be: one is wanted, and two are never there
-settled_one : settled (record ten { options = record ten.options { size = 1 } }) (matches red_fox Scheme.Nnn Order.Relevance four) 3 ≡ 1
+settled_one : settled (record ten { options = record ten.options { size = 1 } }) (matches red_fox Scheme.Nnn relevance four) 3 ≡ 1
 settled_one = refl
 
-settled_two : settled (record ten { options = record ten.options { size = 2 } }) (matches red_fox Scheme.Nnn Order.Relevance four) 3 ≡ 4294967295
+settled_two : settled (record ten { options = record ten.options { size = 2 } }) (matches red_fox Scheme.Nnn relevance four) 3 ≡ 4294967295
 settled_two = refl
 
 -- two that weigh 2 are there at document 4
-settled_lighter : settled (record ten { options = record ten.options { size = 2 } }) (matches red_fox Scheme.Nnn Order.Relevance four) 2 ≡ 4
+settled_lighter : settled (record ten { options = record ten.options { size = 2 } }) (matches red_fox Scheme.Nnn relevance four) 2 ≡ 4
 settled_lighter = refl
 
 -- three matches are to be checked, though the page is full at the first
-settled_check : settled (record ten { options = record ten.options { size = 1; check = 3 } }) (matches red_fox Scheme.Nnn Order.Relevance four) 3 ≡ 3
+settled_check : settled (record ten { options = record ten.options { size = 1; check = 3 } }) (matches red_fox Scheme.Nnn relevance four) 3 ≡ 3
 settled_check = refl
 
 -- nothing is wanted
-settled_none : settled (record ten { options = record ten.options { size = 0 } }) (matches red_fox Scheme.Nnn Order.Relevance four) 3 ≡ 0
+settled_none : settled (record ten { options = record ten.options { size = 0 } }) (matches red_fox Scheme.Nnn relevance four) 3 ≡ 0
 settled_none = refl
 
 -- a part that weighs 1 at most cannot matter alone behind the first document
 decays : decay_point red_fox fox (record ten { options = record ten.options { size = 1 } }) four ≡ 1
 decays = refl
 
+-- below the cutoff nothing is looked for
+settled_below : settled (record ten { options = record ten.options { size = 1; cutoff = 4 } }) (matches red_fox Scheme.Nnn relevance four) 3 ≡ 0
+settled_below = refl
+
+settled_at : settled (record ten { options = record ten.options { size = 1; cutoff = 3 } }) (matches red_fox Scheme.Nnn relevance four) 3 ≡ 1
+settled_at = refl
+
+-- where ids fall a later one that weighs as much comes before, so only a greater weight settles a place
+settled_falling : settled (record ten { options = record ten.options { size = 1 }; order = record relevance { falling = true } }) (matches red_fox Scheme.Nnn relevance four) 2 ≡ 1
+settled_falling = refl
+
+settled_never : settled (record ten { options = record ten.options { size = 1 }; order = record relevance { falling = true } }) (matches red_fox Scheme.Nnn relevance four) 3 ≡ 4294967295
+settled_never = refl
+
 -- without weights two hits are settled at document 2: two entries of `red` and one of `fox`, one more for each list, and two hits
-stops : sharp red_fox (first_hits Scheme.Bool 2 Order.Relevance None) four 2 ≡ 7
+stops : sharp red_fox (first_hits Scheme.Bool 2 relevance None) four 2 ≡ 7
 stops = refl
 
 -- a scale is not a flat query
-no_stop : stop_number (scale 2 red_fox) (first_hits Scheme.Bool 2 Order.Relevance None) four 2 ≡ None
+no_stop : stop_number (scale 2 red_fox) (first_hits Scheme.Bool 2 relevance None) four 2 ≡ None
 no_stop = refl
 
 -- the lists are shorter than 128 readings for each entry of the rare one

@@ -6,14 +6,16 @@ use Rattle.sk_base.specs.declared.find.Find.{Find}
 use Rattle.sk_base.specs.declared.find.Join.TheVariants as Join
 use Rattle.sk_base.specs.declared.find.Scheme.{Scheme}
 use Rattle.sk_base.specs.declared.rank.Order.{Order}
+use Rattle.sk_base.specs.declared.rank.OrderBy.{OrderBy}
+use Rattle.sk_base.specs.declared.rank.OrderBy.TheVariants as OrderBy
 use Rattle.sk_base.specs.declared.rank.SortKey.{SortKey}
 use Rattle.sk_base.specs.Numbers.{Docs}
 use Rattle.sk_query.specs.declared.form.Form.{Form}
 use Rattle.sk_query.specs.Trees.{Tree, nothing, all, term, parts, phrase, trees_from}
-use Rattle.sk_model.specs.Matches.{key_of}
+use Rattle.sk_model.specs.Matches.{found_by, key_of}
 use Rattle.sk_model.specs.Counts.{kept_by, dropped_by}
-use Rattle.sk_model.specs.Reports.{found_by, page_of}
-use Rattle.sk_model.proofs.Examples.{four, has, site}
+use Rattle.sk_model.specs.Reports.{page_of}
+use Rattle.sk_model.proofs.Examples.{four, has, site, rising, relevance}
 
 abbrev key : ℕ → Bool → SortKey
 key slot reverse = record { slot = slot; reverse = reverse }
@@ -23,7 +25,7 @@ by slot most = Some (record { slot = slot; max = most })
 
 -- a find, of which the query is given beside it
 abbrev asks : Scheme → Order → Option Collapse → ℕ → ℕ → Find
-asks scheme order collapse first size = record { ask = Ask.Text (codes "red") Join.Or; options = record { scheme = scheme; first = first; size = size; check = 0 }; order = order; collapse = collapse }
+asks scheme order collapse first size = record { ask = Ask.Text (codes "red") Join.Or; options = record { scheme = scheme; first = first; size = size; check = 0; cutoff = 0 }; order = order; collapse = collapse }
 
 -- its page over documents
 abbrev page : Docs → Tree → Find → List (ℕ × ℕ × ℕ)
@@ -39,29 +41,67 @@ red_fox = parts Form.Or (trees_from (term (codes "red") ∷ term (codes "fox") �
 -- `red` or `fox` in the orders, and pages of them
 abbrev ordered : List (Find × List (ℕ × ℕ × ℕ))
 ordered =
-    (asks Scheme.Nnn Order.Relevance None 0 10, (1, 3, 0) ∷ (4, 2, 0) ∷ (2, 1, 0) ∷ (3, 1, 0) ∷ [])
-    ∷ (asks Scheme.Coord Order.Relevance None 0 10, (1, 2, 0) ∷ (4, 2, 0) ∷ (2, 1, 0) ∷ (3, 1, 0) ∷ [])
-    ∷ (asks Scheme.Bool Order.Relevance None 0 10, (1, 0, 0) ∷ (2, 0, 0) ∷ (3, 0, 0) ∷ (4, 0, 0) ∷ [])
-    ∷ (asks Scheme.Nnn (Order.Value (key 0 false)) None 0 10, (4, 2, 0) ∷ (1, 3, 0) ∷ (2, 1, 0) ∷ (3, 1, 0) ∷ [])
-    ∷ (asks Scheme.Nnn (Order.Value (key 0 true)) None 0 10, (3, 1, 0) ∷ (2, 1, 0) ∷ (1, 3, 0) ∷ (4, 2, 0) ∷ [])
-    ∷ (asks Scheme.Nnn (Order.Value (key 1 false)) None 0 10, (1, 3, 0) ∷ (2, 1, 0) ∷ (3, 1, 0) ∷ (4, 2, 0) ∷ [])
-    ∷ (asks Scheme.Nnn (Order.Value (key 1 true)) None 0 10, (3, 1, 0) ∷ (4, 2, 0) ∷ (1, 3, 0) ∷ (2, 1, 0) ∷ [])
-    ∷ (asks Scheme.Nnn (Order.Value (key 7 true)) None 0 10, (1, 3, 0) ∷ (2, 1, 0) ∷ (3, 1, 0) ∷ (4, 2, 0) ∷ [])
-    ∷ (asks Scheme.Nnn (Order.ValueThenRelevance (key 1 false)) None 0 10, (1, 3, 0) ∷ (2, 1, 0) ∷ (4, 2, 0) ∷ (3, 1, 0) ∷ [])
-    ∷ (asks Scheme.Nnn (Order.ValueThenRelevance (key 1 true)) None 0 10, (4, 2, 0) ∷ (3, 1, 0) ∷ (1, 3, 0) ∷ (2, 1, 0) ∷ [])
-    ∷ (asks Scheme.Bool (Order.ValueThenRelevance (key 1 true)) None 0 10, (3, 0, 0) ∷ (4, 0, 0) ∷ (1, 0, 0) ∷ (2, 0, 0) ∷ [])
-    ∷ (asks Scheme.Coord (Order.RelevanceThenValue (key 0 false)) None 0 2, (4, 2, 0) ∷ (1, 2, 0) ∷ [])
-    ∷ (asks Scheme.Coord (Order.RelevanceThenValue (key 0 true)) None 0 10, (1, 2, 0) ∷ (4, 2, 0) ∷ (3, 1, 0) ∷ (2, 1, 0) ∷ [])
-    ∷ (asks Scheme.Nnn Order.Relevance None 1 2, (4, 2, 0) ∷ (2, 1, 0) ∷ [])
-    ∷ (asks Scheme.Nnn Order.Relevance None 3 10, (3, 1, 0) ∷ [])
-    ∷ (asks Scheme.Nnn Order.Relevance None 4 10, [])
-    ∷ (asks Scheme.Nnn Order.Relevance None 4294967295 4294967295, [])
-    ∷ (asks Scheme.Nnn Order.Relevance None 0 0, [])
-    ∷ (asks Scheme.Nnn Order.Relevance None 2 1, (2, 1, 0) ∷ [])
+    (asks Scheme.Nnn relevance None 0 10, (1, 3, 0) ∷ (4, 2, 0) ∷ (2, 1, 0) ∷ (3, 1, 0) ∷ [])
+    ∷ (asks Scheme.Coord relevance None 0 10, (1, 2, 0) ∷ (4, 2, 0) ∷ (2, 1, 0) ∷ (3, 1, 0) ∷ [])
+    ∷ (asks Scheme.Bool relevance None 0 10, (1, 0, 0) ∷ (2, 0, 0) ∷ (3, 0, 0) ∷ (4, 0, 0) ∷ [])
+    ∷ (asks Scheme.Nnn (rising (OrderBy.Value (key 0 false))) None 0 10, (4, 2, 0) ∷ (1, 3, 0) ∷ (2, 1, 0) ∷ (3, 1, 0) ∷ [])
+    ∷ (asks Scheme.Nnn (rising (OrderBy.Value (key 0 true))) None 0 10, (3, 1, 0) ∷ (2, 1, 0) ∷ (1, 3, 0) ∷ (4, 2, 0) ∷ [])
+    ∷ (asks Scheme.Nnn (rising (OrderBy.Value (key 1 false))) None 0 10, (1, 3, 0) ∷ (2, 1, 0) ∷ (3, 1, 0) ∷ (4, 2, 0) ∷ [])
+    ∷ (asks Scheme.Nnn (rising (OrderBy.Value (key 1 true))) None 0 10, (3, 1, 0) ∷ (4, 2, 0) ∷ (1, 3, 0) ∷ (2, 1, 0) ∷ [])
+    ∷ (asks Scheme.Nnn (rising (OrderBy.Value (key 7 true))) None 0 10, (1, 3, 0) ∷ (2, 1, 0) ∷ (3, 1, 0) ∷ (4, 2, 0) ∷ [])
+    ∷ (asks Scheme.Nnn (rising (OrderBy.ValueThenRelevance (key 1 false))) None 0 10, (1, 3, 0) ∷ (2, 1, 0) ∷ (4, 2, 0) ∷ (3, 1, 0) ∷ [])
+    ∷ (asks Scheme.Nnn (rising (OrderBy.ValueThenRelevance (key 1 true))) None 0 10, (4, 2, 0) ∷ (3, 1, 0) ∷ (1, 3, 0) ∷ (2, 1, 0) ∷ [])
+    ∷ (asks Scheme.Bool (rising (OrderBy.ValueThenRelevance (key 1 true))) None 0 10, (3, 0, 0) ∷ (4, 0, 0) ∷ (1, 0, 0) ∷ (2, 0, 0) ∷ [])
+    ∷ (asks Scheme.Coord (rising (OrderBy.RelevanceThenValue (key 0 false))) None 0 2, (4, 2, 0) ∷ (1, 2, 0) ∷ [])
+    ∷ (asks Scheme.Coord (rising (OrderBy.RelevanceThenValue (key 0 true))) None 0 10, (1, 2, 0) ∷ (4, 2, 0) ∷ (3, 1, 0) ∷ (2, 1, 0) ∷ [])
+    ∷ (asks Scheme.Nnn relevance None 1 2, (4, 2, 0) ∷ (2, 1, 0) ∷ [])
+    ∷ (asks Scheme.Nnn relevance None 3 10, (3, 1, 0) ∷ [])
+    ∷ (asks Scheme.Nnn relevance None 4 10, [])
+    ∷ (asks Scheme.Nnn relevance None 4294967295 4294967295, [])
+    ∷ (asks Scheme.Nnn relevance None 0 0, [])
+    ∷ (asks Scheme.Nnn relevance None 2 1, (2, 1, 0) ∷ [])
     ∷ []
 
 ordered_pages : map (λ row. page four red_fox row.0) ordered ≡ map (λ row. row.1) ordered
 ordered_pages = refl
+
+-- ids that fall: of matches that are equal otherwise the one with the greater id comes first
+abbrev falls : OrderBy → Order
+falls order = record { by = order; falling = true }
+
+abbrev fallen : List (Find × List (ℕ × ℕ × ℕ))
+fallen =
+    (asks Scheme.Nnn (falls OrderBy.Relevance) None 0 10, (1, 3, 0) ∷ (4, 2, 0) ∷ (3, 1, 0) ∷ (2, 1, 0) ∷ [])
+    ∷ (asks Scheme.Nnn (falls (OrderBy.Value (key 1 false))) None 0 10, (2, 1, 0) ∷ (1, 3, 0) ∷ (4, 2, 0) ∷ (3, 1, 0) ∷ [])
+    ∷ (asks Scheme.Bool (falls OrderBy.Relevance) None 0 1, (4, 0, 0) ∷ [])
+    ∷ (asks Scheme.Nnn (falls (OrderBy.Value (key 0 true))) None 0 10, (3, 1, 0) ∷ (2, 1, 0) ∷ (1, 3, 0) ∷ (4, 2, 0) ∷ [])
+    ∷ []
+
+fallen_pages : map (λ row. page four red_fox row.0) fallen ≡ map (λ row. row.1) fallen
+fallen_pages = refl
+
+-- the same find with a cutoff
+abbrev above : ℕ → Find → Find
+above cutoff find = record find { options = record find.options { cutoff = cutoff } }
+
+-- what weighs less is in no page, in no count, and collapses nothing
+abbrev cut : List (Find × List (ℕ × ℕ × ℕ) × ℕ)
+cut =
+    (above 1 (asks Scheme.Nnn relevance None 0 10), (1, 3, 0) ∷ (4, 2, 0) ∷ (2, 1, 0) ∷ (3, 1, 0) ∷ [], 4)
+    ∷ (above 2 (asks Scheme.Nnn relevance None 0 10), (1, 3, 0) ∷ (4, 2, 0) ∷ [], 2)
+    ∷ (above 3 (asks Scheme.Nnn relevance None 0 10), (1, 3, 0) ∷ [], 1)
+    ∷ (above 4 (asks Scheme.Nnn relevance None 0 10), [], 0)
+    ∷ (above 2 (asks Scheme.Nnn relevance None 1 10), (4, 2, 0) ∷ [], 2)
+    ∷ (above 1 (asks Scheme.Bool relevance None 0 10), [], 0)
+    ∷ (above 2 (asks Scheme.Nnn relevance (by 1 1) 0 10), (1, 3, 0) ∷ (4, 2, 0) ∷ [], 2)
+    ∷ (above 2 (asks Scheme.Nnn (rising (OrderBy.Value (key 1 true))) (by 1 1) 0 10), (4, 2, 0) ∷ (1, 3, 0) ∷ [], 2)
+    ∷ []
+
+cut_pages : map (λ row. page four red_fox row.0) cut ≡ map (λ row. row.1) cut
+cut_pages = refl
+
+cut_counts : map (λ row. count four red_fox row.0) cut ≡ map (λ row. row.2) cut
+cut_counts = refl
 
 ordered_counts : map (λ row. count four red_fox row.0) ordered ≡ map (λ row. 4) ordered
 ordered_counts = refl
@@ -77,24 +117,24 @@ queries =
     ∷ (nothing, [], 0)
     ∷ []
 
-query_pages : map (λ row. page four row.0 (asks Scheme.Nnn Order.Relevance None 0 10)) queries ≡ map (λ row. row.1) queries
+query_pages : map (λ row. page four row.0 (asks Scheme.Nnn relevance None 0 10)) queries ≡ map (λ row. row.1) queries
 query_pages = refl
 
-query_counts : map (λ row. count four row.0 (asks Scheme.Nnn Order.Relevance None 0 10)) queries ≡ map (λ row. row.2) queries
+query_counts : map (λ row. count four row.0 (asks Scheme.Nnn relevance None 0 10)) queries ≡ map (λ row. row.2) queries
 query_counts = refl
 
 -- collapsed on the site or the year
 abbrev collapsed : List (Find × List (ℕ × ℕ × ℕ) × ℕ)
 collapsed =
-    (asks Scheme.Nnn Order.Relevance (by 1 1) 0 10, (1, 3, 1) ∷ (4, 2, 1) ∷ [], 2)
-    ∷ (asks Scheme.Nnn Order.Relevance (by 1 2) 0 10, (1, 3, 0) ∷ (4, 2, 0) ∷ (2, 1, 0) ∷ (3, 1, 0) ∷ [], 4)
-    ∷ (asks Scheme.Nnn Order.Relevance (by 0 1) 0 10, (1, 3, 0) ∷ (4, 2, 0) ∷ (2, 1, 0) ∷ (3, 1, 0) ∷ [], 4)
-    ∷ (asks Scheme.Nnn Order.Relevance (by 7 1) 0 10, (1, 3, 0) ∷ (4, 2, 0) ∷ (2, 1, 0) ∷ (3, 1, 0) ∷ [], 4)
-    ∷ (asks Scheme.Nnn (Order.Value (key 0 true)) (by 1 1) 0 10, (3, 1, 1) ∷ (2, 1, 1) ∷ [], 2)
-    ∷ (asks Scheme.Nnn Order.Relevance (by 1 1) 0 1, (1, 3, 1) ∷ [], 2)
-    ∷ (asks Scheme.Nnn Order.Relevance (by 1 1) 1 10, (4, 2, 1) ∷ [], 2)
-    ∷ (asks Scheme.Nnn Order.Relevance (by 1 1) 2 10, [], 2)
-    ∷ (asks Scheme.Nnn Order.Relevance None 1 1, (4, 2, 0) ∷ [], 4)
+    (asks Scheme.Nnn relevance (by 1 1) 0 10, (1, 3, 1) ∷ (4, 2, 1) ∷ [], 2)
+    ∷ (asks Scheme.Nnn relevance (by 1 2) 0 10, (1, 3, 0) ∷ (4, 2, 0) ∷ (2, 1, 0) ∷ (3, 1, 0) ∷ [], 4)
+    ∷ (asks Scheme.Nnn relevance (by 0 1) 0 10, (1, 3, 0) ∷ (4, 2, 0) ∷ (2, 1, 0) ∷ (3, 1, 0) ∷ [], 4)
+    ∷ (asks Scheme.Nnn relevance (by 7 1) 0 10, (1, 3, 0) ∷ (4, 2, 0) ∷ (2, 1, 0) ∷ (3, 1, 0) ∷ [], 4)
+    ∷ (asks Scheme.Nnn (rising (OrderBy.Value (key 0 true))) (by 1 1) 0 10, (3, 1, 1) ∷ (2, 1, 1) ∷ [], 2)
+    ∷ (asks Scheme.Nnn relevance (by 1 1) 0 1, (1, 3, 1) ∷ [], 2)
+    ∷ (asks Scheme.Nnn relevance (by 1 1) 1 10, (4, 2, 1) ∷ [], 2)
+    ∷ (asks Scheme.Nnn relevance (by 1 1) 2 10, [], 2)
+    ∷ (asks Scheme.Nnn relevance None 1 1, (4, 2, 0) ∷ [], 4)
     ∷ []
 
 collapsed_pages : map (λ row. page four red_fox row.0) collapsed ≡ map (λ row. row.1) collapsed
@@ -117,12 +157,12 @@ six =
 -- documents of no site are kept apart
 abbrev apart : List (Find × List (ℕ × ℕ × ℕ) × ℕ)
 apart =
-    (asks Scheme.Nnn Order.Relevance None 0 10, (5, 4, 0) ∷ (3, 3, 0) ∷ (2, 2, 0) ∷ (1, 1, 0) ∷ (4, 1, 0) ∷ (6, 1, 0) ∷ [], 6)
-    ∷ (asks Scheme.Nnn Order.Relevance (by 1 1) 0 10, (5, 4, 0) ∷ (3, 3, 2) ∷ (4, 1, 0) ∷ (6, 1, 0) ∷ [], 4)
-    ∷ (asks Scheme.Nnn Order.Relevance (by 1 2) 0 10, (5, 4, 0) ∷ (3, 3, 1) ∷ (2, 2, 1) ∷ (4, 1, 0) ∷ (6, 1, 0) ∷ [], 5)
-    ∷ (asks Scheme.Nnn Order.Relevance (by 1 3) 0 10, (5, 4, 0) ∷ (3, 3, 0) ∷ (2, 2, 0) ∷ (1, 1, 0) ∷ (4, 1, 0) ∷ (6, 1, 0) ∷ [], 6)
-    ∷ (asks Scheme.Nnn Order.Relevance (by 1 1) 1 2, (3, 3, 2) ∷ (4, 1, 0) ∷ [], 4)
-    ∷ (asks Scheme.Nnn Order.Relevance (by 1 2) 2 2, (2, 2, 1) ∷ (4, 1, 0) ∷ [], 5)
+    (asks Scheme.Nnn relevance None 0 10, (5, 4, 0) ∷ (3, 3, 0) ∷ (2, 2, 0) ∷ (1, 1, 0) ∷ (4, 1, 0) ∷ (6, 1, 0) ∷ [], 6)
+    ∷ (asks Scheme.Nnn relevance (by 1 1) 0 10, (5, 4, 0) ∷ (3, 3, 2) ∷ (4, 1, 0) ∷ (6, 1, 0) ∷ [], 4)
+    ∷ (asks Scheme.Nnn relevance (by 1 2) 0 10, (5, 4, 0) ∷ (3, 3, 1) ∷ (2, 2, 1) ∷ (4, 1, 0) ∷ (6, 1, 0) ∷ [], 5)
+    ∷ (asks Scheme.Nnn relevance (by 1 3) 0 10, (5, 4, 0) ∷ (3, 3, 0) ∷ (2, 2, 0) ∷ (1, 1, 0) ∷ (4, 1, 0) ∷ (6, 1, 0) ∷ [], 6)
+    ∷ (asks Scheme.Nnn relevance (by 1 1) 1 2, (3, 3, 2) ∷ (4, 1, 0) ∷ [], 4)
+    ∷ (asks Scheme.Nnn relevance (by 1 2) 2 2, (2, 2, 1) ∷ (4, 1, 0) ∷ [], 5)
     ∷ []
 
 apart_pages : map (λ row. page six (term (codes "x")) row.0) apart ≡ map (λ row. row.1) apart

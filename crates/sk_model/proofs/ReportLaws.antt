@@ -9,10 +9,10 @@ use Rattle.sk_base.specs.Numbers.{Docs}
 use Rattle.sk_query.specs.Trees.{Tree}
 use Rattle.sk_query.specs.Fits.{is_sound}
 use Rattle.sk_model.specs.Edits.{document_at}
-use Rattle.sk_model.specs.Matches.{key_of}
+use Rattle.sk_model.specs.Matches.{found_by, key_of}
 use Rattle.sk_model.specs.Bounds.{ceil}
 use Rattle.sk_model.specs.Counts.{kept_by, dropped_by}
-use Rattle.sk_model.specs.Reports.{payload_of, found_by, page_of, IsHit, ReportsFor}
+use Rattle.sk_model.specs.Reports.{payload_of, page_of, IsHit, ReportsFor}
 use Rattle.sk_model.proofs.CountLaws.{found_counts, true_collapse}
 
 module _ (query : Tree) (find : Find) (docs : Docs) where
@@ -38,7 +38,7 @@ module _ (query : Tree) (find : Find) (docs : Docs) where
   pub exact_is : (above : ℕ) → is_sound above query ≡ true → ReportsFor query find docs exact
   exact_is above e = record {
     hits = each_hit (page_of query find docs);
-    counts = found_counts query find above docs e;
+    counts = found_counts query find above (ceil query find.options.scheme 1 docs) docs e;
     estimate = refl;
     greatest = refl;
     least_steps = omega arith;

@@ -1,5 +1,5 @@
 -- The point at which a page is settled is the least id that it is said to be, and the sharper bound the least of its numbers.
-use Rattle.std.proofs.Common.{◌≡◌, ◌<◌, ◌≤◌, ◌+◌, ◌-◌, ℕ, suc, Bool, true, false, cond, ◌&&◌, ◌==◌, nat_le, List, [], ◌∷◌, length, Option, Some, None, refl, sym, ap, ◌∙◌, subst, arith, slice_index_or, AllPairs}
+use Rattle.std.proofs.Common.{◌≡◌, ◌<◌, ◌≤◌, ◌+◌, ◌-◌, ℕ, suc, Bool, true, false, cond, ◌&&◌, ◌||◌, ◌==◌, nat_le, nat_lt, true≢false, List, [], ◌∷◌, length, Option, Some, None, refl, sym, ap, ◌∙◌, subst, arith, slice_index_or, AllPairs}
 use Rattle.std.proofs.lemmas.Bool.Decides.{nat_tests}
 use Rattle.std.proofs.lemmas.List.Sums.{sum_by-cons}
 use Rattle.sk_base.specs.declared.find.Find.{Find}
@@ -9,8 +9,8 @@ use Rattle.sk_query.specs.Trees.{Tree}
 use Rattle.sk_model.specs.Allowance.{allowance}
 use Rattle.sk_model.specs.Counts.{wanted}
 use Rattle.sk_model.specs.Edits.{last_id}
-use Rattle.sk_model.specs.Matches.{matches}
-use Rattle.sk_model.specs.Settled.{less_heavy, settled_from, settled, seen_up_to, heavy_up_to}
+use Rattle.sk_model.specs.Matches.{found_by}
+use Rattle.sk_model.specs.Settled.{less_heavy, settled_from, settled, settling_weight, seen_up_to, heavy_up_to}
 use Rattle.sk_model.proofs.OrderLaws.{both_so}
 use Rattle.sk_model.specs.Sharp.{stop_number, rare_number, decay_number, at_most, sharp}
 
@@ -109,15 +109,16 @@ least_from weight id n m [] rising some a b = absurd (omega (arith, some, a, b))
 least_from weight id n m (x ∷ xs) rising some a b =
     least_step weight id n m x xs (nat_le x.id id) (nat_le weight x.weight) refl refl rising.0 some a b (least_from weight id (n - 1) (less_heavy weight m x) xs rising.1)
 
-want_least : (id n k weight : ℕ) (ranks : List Rank) (none : Bool) → (n == 0) ≡ none → (1 ≤ n → settled_from n k weight ranks ≤ id) → cond none 0 (settled_from n k weight ranks) ≤ id
-want_least id n k weight ranks true e rest = omega arith
-want_least id n k weight ranks false e rest = rest (is_some n e)
+want_least : (id n k weight : ℕ) (ranks : List Rank) (none low : Bool) → (n == 0) ≡ none → (1 ≤ n → settled_from n k weight ranks ≤ id) → cond (none || low) 0 (settled_from n k weight ranks) ≤ id
+want_least id n k weight ranks true low e rest = omega arith
+want_least id n k weight ranks false true e rest = omega arith
+want_least id n k weight ranks false false e rest = rest (is_some n e)
 
-pub least : (find : Find) (ranks : List Rank) (weight id : ℕ) → AllPairs (λ (x y : Rank). x.id < y.id) ranks → wanted find ≤ seen_up_to id ranks → find.options.first + find.options.size ≤ heavy_up_to weight id ranks
+pub least : (find : Find) (ranks : List Rank) (weight id : ℕ) → AllPairs (λ (x y : Rank). x.id < y.id) ranks → wanted find ≤ seen_up_to id ranks → find.options.first + find.options.size ≤ heavy_up_to (settling_weight find weight) id ranks
     → settled find ranks weight ≤ id
 least find ranks weight id rising a b =
-    want_least id (wanted find) (find.options.first + find.options.size) weight ranks (wanted find == 0) refl
-    (λ some. least_from weight id (wanted find) (find.options.first + find.options.size) ranks (rising_of ranks rising) (omega (arith, some)) a b)
+    want_least id (wanted find) (find.options.first + find.options.size) (settling_weight find weight) ranks (wanted find == 0) (nat_lt weight find.options.cutoff) refl
+    (λ some. least_from (settling_weight find weight) id (wanted find) (find.options.first + find.options.size) ranks (rising_of ranks rising) (omega (arith, some)) a b)
 
 -- ---- up to it there is enough
 
@@ -161,16 +162,33 @@ enough_from weight n m [] rising within = absurd (omega (arith, within))
 enough_from weight n m (x ∷ xs) rising within =
     enough_end weight n m x xs (((n - 1) == 0) && (less_heavy weight m x == 0)) refl rising.0 within (enough_from weight (n - 1) (less_heavy weight m x) xs rising.1)
 
-want_enough : (n k weight : ℕ) (ranks : List Rank) (none : Bool) → (n == 0) ≡ none → k ≤ n → cond none 0 (settled_from n k weight ranks) < last_id
-    → (settled_from n k weight ranks < last_id → Enough n k weight (settled_from n k weight ranks) ranks) → Enough n k weight (cond none 0 (settled_from n k weight ranks)) ranks
-want_enough n k weight ranks true e within some rest = let zero_is : n ≡ 0 = is_none n e in (omega (arith, zero_is), omega (arith, zero_is, within))
-want_enough n k weight ranks false e within some rest = rest some
+want_enough : (n k weight : ℕ) (ranks : List Rank) (none low : Bool) → (n == 0) ≡ none → low ≡ false → k ≤ n → cond (none || low) 0 (settled_from n k weight ranks) < last_id
+    → (settled_from n k weight ranks < last_id → Enough n k weight (settled_from n k weight ranks) ranks) → Enough n k weight (cond (none || low) 0 (settled_from n k weight ranks)) ranks
+want_enough n k weight ranks none true e high within some rest = absurd (true≢false high)
+want_enough n k weight ranks true false e high within some rest = let zero_is : n ≡ 0 = is_none n e in (omega (arith, zero_is), omega (arith, zero_is, within))
+want_enough n k weight ranks false false e high within some rest = rest some
 
-pub enough : (find : Find) (ranks : List Rank) (weight : ℕ) → AllPairs (λ (x y : Rank). x.id < y.id) ranks → settled find ranks weight < last_id
-    → Enough (wanted find) (find.options.first + find.options.size) weight (settled find ranks weight) ranks
-enough find ranks weight rising within =
-    want_enough (wanted find) (find.options.first + find.options.size) weight ranks (wanted find == 0) refl (omega arith) within
-    (enough_from weight (wanted find) (find.options.first + find.options.size) ranks (rising_of ranks rising))
+not_below : (a b : ℕ) → b ≤ a → nat_lt a b ≡ false
+not_below a b le = grind (arith, nat_tests)
+
+is_below : (a b : ℕ) → a < b → nat_lt a b ≡ true
+is_below a b lt = grind (arith, nat_tests)
+
+pub enough : (find : Find) (ranks : List Rank) (weight : ℕ) → AllPairs (λ (x y : Rank). x.id < y.id) ranks → settled find ranks weight < last_id → find.options.cutoff ≤ weight
+    → Enough (wanted find) (find.options.first + find.options.size) (settling_weight find weight) (settled find ranks weight) ranks
+enough find ranks weight rising within high =
+    want_enough (wanted find) (find.options.first + find.options.size) (settling_weight find weight) ranks (wanted find == 0) (nat_lt weight find.options.cutoff) refl (not_below weight find.options.cutoff high) (omega arith) within
+    (enough_from (settling_weight find weight) (wanted find) (find.options.first + find.options.size) ranks (rising_of ranks rising))
+
+-- no match can weigh as much as the cutoff
+or_true : (b : Bool) → (b || true) ≡ true
+or_true true = refl
+or_true false = refl
+
+pub below : (find : Find) (ranks : List Rank) (weight : ℕ) → weight < find.options.cutoff → settled find ranks weight ≡ 0
+below find ranks weight lt =
+    ap (λ (b : Bool). cond ((wanted find == 0) || b) 0 (settled_from (wanted find) (find.options.first + find.options.size) (settling_weight find weight) ranks)) (is_below weight find.options.cutoff lt)
+    ∙ ap (λ (b : Bool). cond b 0 (settled_from (wanted find) (find.options.first + find.options.size) (settling_weight find weight) ranks)) (or_true (wanted find == 0))
 
 -- ---- the least of several numbers
 
@@ -183,18 +201,18 @@ within_other n m o e = subst (λ (p : Option ℕ). at_most n p ≤ m) (sym e) (o
 
 module _ (query : Tree) (find : Find) (docs : Docs) (hits : ℕ) where
   abbrev of_list : ℕ
-  of_list = allowance query find docs (length (matches query find.options.scheme find.order docs)) hits
+  of_list = allowance query find docs (length (found_by query find docs)) hits
 
   abbrev of_stop : Option ℕ
   of_stop = stop_number query find docs hits
 
   abbrev of_rare : Option ℕ
-  of_rare = rare_number query find docs (length (matches query find.options.scheme find.order docs)) hits
+  of_rare = rare_number query find docs (length (found_by query find docs)) hits
 
   abbrev of_decay : Option ℕ
   of_decay = decay_number query find docs hits
 
-  pub sharp_allowed : sharp query find docs hits ≤ allowance query find docs (length (matches query find.options.scheme find.order docs)) hits
+  pub sharp_allowed : sharp query find docs hits ≤ allowance query find docs (length (found_by query find docs)) hits
   sharp_allowed =
       let one = within_first of_list of_stop in
       let two = within_first (at_most of_list of_stop) of_rare in
@@ -208,7 +226,7 @@ module _ (query : Tree) (find : Find) (docs : Docs) (hits : ℕ) where
       let three = within_first (at_most (at_most of_list of_stop) of_rare) of_decay in
       omega (arith, one, two, three)
 
-  pub sharp_rare : (n : ℕ) → rare_number query find docs (length (matches query find.options.scheme find.order docs)) hits ≡ Some n → sharp query find docs hits ≤ n
+  pub sharp_rare : (n : ℕ) → rare_number query find docs (length (found_by query find docs)) hits ≡ Some n → sharp query find docs hits ≤ n
   sharp_rare n e =
       let two = within_other (at_most of_list of_stop) n of_rare e in
       let three = within_first (at_most (at_most of_list of_stop) of_rare) of_decay in

@@ -3,7 +3,8 @@
 use Rattle.std.specs.Prelude.{ℕ, ◌+◌, sum_by, Option, Some, None}
 use Rattle.sk_base.specs.declared.find.Collapse.{Collapse}
 use Rattle.sk_base.specs.declared.find.Find.{Find}
-use Rattle.sk_base.specs.declared.rank.Order.{Order}
+use Rattle.sk_base.specs.declared.rank.OrderBy.{OrderBy}
+use Rattle.sk_base.specs.declared.rank.OrderBy.TheVariants as OrderBy
 use Rattle.sk_base.specs.Numbers.{Docs, live_of, length_of, slot_length_of, terms_with}
 use Rattle.sk_query.specs.Trees.{Tree, nothing, all, term, wildcard, parts, near, phrase, synonym, scale, range, Trees, no_trees, tree}
 use Rattle.sk_model.specs.Bounds.{lengths_of}
@@ -33,15 +34,15 @@ key_readings None matching = 0
 key_readings (Some collapse) matching = matching
 
 -- One reading for each match where the order uses a value.
-abbrev pub value_readings : Order → ℕ → ℕ
-value_readings Order.Relevance matching = 0
-value_readings (Order.Value key) matching = matching
-value_readings (Order.ValueThenRelevance key) matching = matching
-value_readings (Order.RelevanceThenValue key) matching = matching
+abbrev pub value_readings : OrderBy → ℕ → ℕ
+value_readings OrderBy.Relevance matching = 0
+value_readings (OrderBy.Value key) matching = matching
+value_readings (OrderBy.ValueThenRelevance key) matching = matching
+value_readings (OrderBy.RelevanceThenValue key) matching = matching
 
 -- Beside the lists: the keys and the values of matches, and the payloads of hits.
 abbrev pub extra : Find → ℕ → ℕ → ℕ
-extra find matching hits = key_readings find.collapse matching + value_readings find.order matching + hits
+extra find matching hits = key_readings find.collapse matching + value_readings find.order.by matching + hits
 
 -- Each list once, and the extra readings.
 abbrev pub allowance : Tree → Find → Docs → ℕ → ℕ → ℕ

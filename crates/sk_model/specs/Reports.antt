@@ -10,7 +10,7 @@ use Rattle.sk_base.specs.Numbers.{Docs}
 use Rattle.sk_query.specs.Trees.{Tree}
 use Rattle.sk_model.specs.Documents.{Document}
 use Rattle.sk_model.specs.Edits.{document_at}
-use Rattle.sk_model.specs.Matches.{matches, key_of}
+use Rattle.sk_model.specs.Matches.{found_by, key_of}
 use Rattle.sk_model.specs.Page.{slice}
 use Rattle.sk_model.specs.Bounds.{ceil, static_count}
 use Rattle.sk_model.specs.Counts.{Counts, CollapseCount, kept_by}
@@ -20,10 +20,6 @@ use Rattle.sk_model.specs.Allowance.{allowance}
 abbrev pub payload_of : Option Document → List ℕ
 payload_of None = []
 payload_of (Some document) = document.payload
-
--- All that a find's query matches.
-abbrev pub found_by : Tree → Find → Docs → List Rank
-found_by query find docs = matches query find.options.scheme find.order docs
 
 -- The page that a find asks for.
 abbrev pub page_of : Tree → Find → Docs → List Rank
@@ -39,7 +35,7 @@ pub record IsHit (query : Tree) (find : Find) (docs : Docs) (rank : Rank) (hit :
 -- The hits are the asked page of all matching live documents, in order; the counts enclose the true one; the steps are within the allowance.
 pub record ReportsFor (query : Tree) (find : Find) (docs : Docs) (report : Report) : Type 0 where
   pub hits : AllZip (IsHit query find docs) (page_of query find docs) report.hits
-  pub counts : Counts find docs (found_by query find docs) (static_count query docs) report.lower report.upper
+  pub counts : Counts find docs (found_by query find docs) (ceil query find.options.scheme 1 docs) (static_count query docs) report.lower report.upper
   pub estimate : report.estimate ≡ (report.lower + report.upper) / 2
   pub greatest : report.greatest ≡ ceil query find.options.scheme 1 docs
   pub least_steps : length report.hits ≤ report.steps

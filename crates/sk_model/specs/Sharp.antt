@@ -3,14 +3,15 @@
 use Rattle.std.specs.Prelude.{ℕ, ◌+◌, ◌*◌, ◌&&◌, min, nat_le, nat_lt, Bool, true, false, List, [], ◌∷◌, length, count_by, is_none, Option, Some, None, if◌then◌else◌}
 use Rattle.std.specs.Option.{option_map}
 use Rattle.sk_base.specs.declared.find.Find.{Find}
-use Rattle.sk_base.specs.declared.rank.Order.{Order}
+use Rattle.sk_base.specs.declared.rank.OrderBy.{OrderBy}
+use Rattle.sk_base.specs.declared.rank.OrderBy.TheVariants as OrderBy
 use Rattle.sk_base.specs.Documents.{has_term}
 use Rattle.sk_base.specs.Numbers.{Docs, length_of, terms_with}
 use Rattle.sk_query.specs.declared.form.Form.{Form}
 use Rattle.sk_query.specs.Trees.{Tree, term, wildcard, parts, synonym, Trees, no_trees, tree}
 use Rattle.sk_model.specs.Allowance.{allowance, extra}
 use Rattle.sk_model.specs.Bounds.{least_length}
-use Rattle.sk_model.specs.Matches.{matches}
+use Rattle.sk_model.specs.Matches.{found_by}
 use Rattle.sk_model.specs.Settled.{stop_point, decay_point}
 
 -- The postings of a term up to an id.
@@ -43,13 +44,13 @@ ups (t ∷ ts) id docs = (up t id docs + 1) + ups ts id docs
 
 -- The heavier first, and nothing collapsed.
 abbrev pub is_plain : Find → Bool
-is_plain find = is_relevance find.order && is_none find.collapse
+is_plain find = is_relevance find.order.by && is_none find.collapse
   where
-    is_relevance : Order → Bool
-    is_relevance Order.Relevance = true
-    is_relevance (Order.Value key) = false
-    is_relevance (Order.ValueThenRelevance key) = false
-    is_relevance (Order.RelevanceThenValue key) = false
+    is_relevance : OrderBy → Bool
+    is_relevance OrderBy.Relevance = true
+    is_relevance (OrderBy.Value key) = false
+    is_relevance (OrderBy.ValueThenRelevance key) = false
+    is_relevance (OrderBy.RelevanceThenValue key) = false
 
 -- The stop number: each list up to the stop point and one more, and the hits. It applies to flat queries, by relevance and without collapsing.
 abbrev pub stop_number : Tree → Find → Docs → ℕ → Option ℕ
@@ -107,5 +108,5 @@ at_most n (Some m) = min n m
 -- The least of the allowance and of the numbers that apply.
 abbrev pub sharp : Tree → Find → Docs → ℕ → ℕ
 sharp query find docs hits =
-    at_most (at_most (at_most (allowance query find docs (length (matches query find.options.scheme find.order docs)) hits) (stop_number query find docs hits))
-    (rare_number query find docs (length (matches query find.options.scheme find.order docs)) hits)) (decay_number query find docs hits)
+    at_most (at_most (at_most (allowance query find docs (length (found_by query find docs)) hits) (stop_number query find docs hits))
+    (rare_number query find docs (length (found_by query find docs)) hits)) (decay_number query find docs hits)

@@ -7,19 +7,19 @@ ghost use Rattle.sk_query.specs.Trees.{Tree};
 ghost use Rattle.sk_query.specs.Fits.{is_sound};
 ghost use Rattle.sk_model.specs.Bounds.{static_count};
 ghost use Rattle.sk_model.specs.Counts.{Counts, CollapseCount, kept_by, dropped_by};
-ghost use Rattle.sk_model.specs.Reports.{found_by};
+ghost use Rattle.sk_model.specs.Matches.{found_by};
 
 /// A law: the lower bound on the number of matches is not above the upper one.
 pub fn counts_in_order()
-    ensures { (find : Find) (docs : Docs) (ranks : List Rank) (static lower upper : ℕ)
-        → Counts find docs ranks static lower upper → lower ≤ upper }
+    ensures { (find : Find) (docs : Docs) (ranks : List Rank) (greatest static lower upper : ℕ)
+        → Counts find docs ranks greatest static lower upper → lower ≤ upper }
 {}
 
 /// Laws: whatever a sound query finds, the true count may stand as both bounds, and what is dropped of a key as its
 /// collapse count. So no find is without bounds that it may have.
 pub fn counts_are_there()
-    ensures both { (query : Tree) (find : Find) (above : ℕ) (docs : Docs) → is_sound above query ≡ true
-        → Counts find docs (found_by query find docs) (static_count query docs)
+    ensures both { (query : Tree) (find : Find) (above greatest : ℕ) (docs : Docs) → is_sound above query ≡ true
+        → Counts find docs (found_by query find docs) greatest (static_count query docs)
         (length (kept_by find docs (found_by query find docs))) (length (kept_by find docs (found_by query find docs))) }
     ensures collapsed { (find : Find) (docs : Docs) (ranks : List Rank) (k : List ℕ)
         → CollapseCount find docs ranks k (dropped_by find docs k ranks) }

@@ -7,31 +7,32 @@ ghost use Rattle.sk_query.specs.Trees.{Tree};
 ghost use Rattle.sk_model.specs.Allowance.{allowance};
 ghost use Rattle.sk_model.specs.Counts.{wanted};
 ghost use Rattle.sk_model.specs.Edits.{last_id};
-ghost use Rattle.sk_model.specs.Matches.{matches};
-ghost use Rattle.sk_model.specs.Settled.{settled, seen_up_to, heavy_up_to};
+ghost use Rattle.sk_model.specs.Matches.{found_by};
+ghost use Rattle.sk_model.specs.Settled.{settled, settling_weight, seen_up_to, heavy_up_to};
 ghost use Rattle.sk_model.specs.Sharp.{stop_number, rare_number, decay_number, sharp};
 
 /// Laws: `settled` is the least id up to which there are as many matches as a find wants to see, and as many of at
-/// least the weight as its page needs, where there are as many up to an id below the last. The matches stand by rising
-/// id.
+/// least the weight (more than it where ids fall) as its page needs, where there are as many up to an id below the last
+/// and the weight is not below the cutoff; below that it is 0. The matches stand by rising id.
 pub fn settled_is_least()
     ensures least { (find : Find) (ranks : List Rank) (weight id : ℕ) → AllPairs (λ x y. x.id < y.id) ranks
-        → wanted find ≤ seen_up_to id ranks → find.options.first + find.options.size ≤ heavy_up_to weight id ranks
+        → wanted find ≤ seen_up_to id ranks → find.options.first + find.options.size ≤ heavy_up_to (settling_weight find weight) id ranks
         → settled find ranks weight ≤ id }
     ensures enough { (find : Find) (ranks : List Rank) (weight : ℕ) → AllPairs (λ x y. x.id < y.id) ranks
-        → settled find ranks weight < last_id
+        → settled find ranks weight < last_id → find.options.cutoff ≤ weight
         → (wanted find ≤ seen_up_to (settled find ranks weight) ranks)
-        × (find.options.first + find.options.size ≤ heavy_up_to weight (settled find ranks weight) ranks) }
+        × (find.options.first + find.options.size ≤ heavy_up_to (settling_weight find weight) (settled find ranks weight) ranks) }
+    ensures below { (find : Find) (ranks : List Rank) (weight : ℕ) → weight < find.options.cutoff → settled find ranks weight ≡ 0 }
 {}
 
 /// Laws: the sharper bound on steps is not above the allowance, nor above any of the numbers that apply.
 pub fn sharp_is_least()
     ensures allowed { (query : Tree) (find : Find) (docs : Docs) (hits : ℕ)
-        → sharp query find docs hits ≤ allowance query find docs (length (matches query find.options.scheme find.order docs)) hits }
+        → sharp query find docs hits ≤ allowance query find docs (length (found_by query find docs)) hits }
     ensures stop { (query : Tree) (find : Find) (docs : Docs) (hits n : ℕ)
         → stop_number query find docs hits ≡ Some n → sharp query find docs hits ≤ n }
     ensures rare { (query : Tree) (find : Find) (docs : Docs) (hits n : ℕ)
-        → rare_number query find docs (length (matches query find.options.scheme find.order docs)) hits ≡ Some n
+        → rare_number query find docs (length (found_by query find docs)) hits ≡ Some n
         → sharp query find docs hits ≤ n }
     ensures decay { (query : Tree) (find : Find) (docs : Docs) (hits n : ℕ)
         → decay_number query find docs hits ≡ Some n → sharp query find docs hits ≤ n }
