@@ -7,7 +7,7 @@ ghost use Rattle.sk_base.specs.Loads.{IsLight};
 
 use crate::scores::score;
 use crate::terms::value_in;
-use sk_base::{Bytes, Doc, DocId, Order, Rank, Scheme};
+use sk_base::{Bytes, Doc, DocId, Find, Order, OrderBy, Rank, Scheme};
 use sk_query::Query;
 use std::alloc::{AllocError, Global};
 use std::collections::BTreeMap;
@@ -61,10 +61,10 @@ fn value_for(order: Order, doc: &Doc) -> &[u8]
     ensures { result.now ≡ value_for order doc.now }
 {
     let values = doc.values.as_slice();
-    match order {
-        Order::Relevance => &[],
-        Order::Value(key) => value_in(key.slot, values),
-        Order::ValueThenRelevance(key) => value_in(key.slot, values),
-        Order::RelevanceThenValue(key) => value_in(key.slot, values),
+    match order.by {
+        OrderBy::Relevance => &[],
+        OrderBy::Value(key) => value_in(key.slot, values),
+        OrderBy::ValueThenRelevance(key) => value_in(key.slot, values),
+        OrderBy::RelevanceThenValue(key) => value_in(key.slot, values),
     }
 }

@@ -1,5 +1,5 @@
 -- How examples of lines are written.
-use Rattle.std.proofs.Common.{◌≡◌, ℕ, ◌==◌, cond, Bool, ◌∷◌, [], List, Option, Some, None, Result, Ok, Err, map, codes}
+use Rattle.std.proofs.Common.{◌≡◌, ℕ, ◌==◌, cond, Bool, false, ◌∷◌, [], List, Option, Some, None, Result, Ok, Err, map, codes}
 use Rattle.std.specs.Str.{is_utf8, chars}
 use Rattle.std.specs.Float.{float_is_finite}
 use Rattle.std.specs.Float.Numeral.{scan_numeral}
@@ -16,6 +16,8 @@ use Rattle.sk_base.specs.declared.find.Options.{Options}
 use Rattle.sk_base.specs.declared.find.Scheme.{Scheme}
 use Rattle.sk_base.specs.declared.find.Join.{Join}
 use Rattle.sk_base.specs.declared.rank.Order.{Order}
+use Rattle.sk_base.specs.declared.rank.OrderBy.{OrderBy}
+use Rattle.sk_base.specs.declared.rank.OrderBy.TheVariants as OrderBy
 use Rattle.sk_base.specs.declared.rank.SortKey.{SortKey}
 use Rattle.sk_base.specs.declared.record.Edit.{Edit}
 use Rattle.sk_base.specs.declared.record.Entry.{Entry}
@@ -95,7 +97,14 @@ deleted_by term = Ok (edits (Edit.DeleteBy term))
 
 -- a find
 abbrev pub plain : Options
-plain = record { scheme = Scheme.Nnn; first = 0; size = 10; check = 0 }
+plain = record { scheme = Scheme.Nnn; first = 0; size = 10; check = 0; cutoff = 0 }
+
+-- ids rise
+abbrev pub rising : OrderBy → Order
+rising by = record { by = by; falling = false }
+
+abbrev pub relevance : Order
+relevance = rising OrderBy.Relevance
 
 abbrev pub key : ℕ → Bool → SortKey
 key slot reverse = record { slot = slot; reverse = reverse }
@@ -116,7 +125,7 @@ sought asked options order collapse = Ok (finds (record { asked = asked; options
 
 -- a find with every option as it is where nothing is said
 abbrev pub found : Asked → Result Told LineFault
-found asked = sought asked plain Order.Relevance None
+found asked = sought asked plain relevance None
 
 abbrev pub shown : List ℕ → Join → Result Told LineFault
 shown text join = Ok (shows text join)

@@ -2,9 +2,9 @@
 use Rattle.std.proofs.Common.{◌∷◌, [], refl, Some, None, codes, true, false}
 use Rattle.sk_base.specs.declared.find.Join.{Join}
 use Rattle.sk_base.specs.declared.find.Scheme.{Scheme}
-use Rattle.sk_base.specs.declared.rank.Order.{Order}
+use Rattle.sk_base.specs.declared.rank.OrderBy.TheVariants as OrderBy
 use Rattle.sk_record.specs.Shapes.{words}
-use Rattle.sk_record.proofs.ExampleLines.{on_lines, AreGiven, row, fields, plain, key, collapsed_on, tree_of, found, sought, shown, bad_shape, bad_field}
+use Rattle.sk_record.proofs.ExampleLines.{on_lines, AreGiven, row, fields, plain, rising, relevance, key, collapsed_on, tree_of, found, sought, shown, bad_shape, bad_field}
 
 -- A text, and how its words are joined.
 texts : AreGiven (Some fields) (
@@ -27,8 +27,8 @@ texts = refl
 
 -- A scheme.
 schemes : AreGiven (Some fields) (
-    row (codes "{'find':'a','scheme':'bool'}") (sought (words (codes "a") Join.Or) (record plain { scheme = Scheme.Bool }) Order.Relevance None) ∷
-    row (codes "{'find':'a','scheme':'coord'}") (sought (words (codes "a") Join.Or) (record plain { scheme = Scheme.Coord }) Order.Relevance None) ∷
+    row (codes "{'find':'a','scheme':'bool'}") (sought (words (codes "a") Join.Or) (record plain { scheme = Scheme.Bool }) relevance None) ∷
+    row (codes "{'find':'a','scheme':'coord'}") (sought (words (codes "a") Join.Or) (record plain { scheme = Scheme.Coord }) relevance None) ∷
     row (codes "{'find':'a','scheme':'nnn'}") (found (words (codes "a") Join.Or)) ∷
     row (codes "{'find':'a','scheme':'tfn'}") bad_shape ∷
     row (codes "{'find':'a','scheme':7}") bad_shape ∷
@@ -39,12 +39,12 @@ schemes = refl
 
 -- A page ends within 100,000.
 pages : AreGiven (Some fields) (
-    row (codes "{'find':'a','first':99990}") (sought (words (codes "a") Join.Or) (record plain { first = 99990 }) Order.Relevance None) ∷
+    row (codes "{'find':'a','first':99990}") (sought (words (codes "a") Join.Or) (record plain { first = 99990 }) relevance None) ∷
     row (codes "{'find':'a','first':99991}") bad_shape ∷
-    row (codes "{'find':'a','size':100000}") (sought (words (codes "a") Join.Or) (record plain { size = 100000 }) Order.Relevance None) ∷
+    row (codes "{'find':'a','size':100000}") (sought (words (codes "a") Join.Or) (record plain { size = 100000 }) relevance None) ∷
     row (codes "{'find':'a','size':100001}") bad_shape ∷
-    row (codes "{'find':'a','size':0}") (sought (words (codes "a") Join.Or) (record plain { size = 0 }) Order.Relevance None) ∷
-    row (codes "{'find':'a','first':100000,'size':0}") (sought (words (codes "a") Join.Or) (record plain { first = 100000; size = 0 }) Order.Relevance None) ∷
+    row (codes "{'find':'a','size':0}") (sought (words (codes "a") Join.Or) (record plain { size = 0 }) relevance None) ∷
+    row (codes "{'find':'a','first':100000,'size':0}") (sought (words (codes "a") Join.Or) (record plain { first = 100000; size = 0 }) relevance None) ∷
     row (codes "{'find':'a','first':100000,'size':1}") bad_shape ∷
     row (codes "{'find':'a','first':100001,'size':0}") bad_shape ∷
     row (codes "{'find':'a','first':18446744073709551615,'size':1}") bad_shape ∷
@@ -63,7 +63,7 @@ pages = refl
 
 -- How many matches are counted.
 checks : AreGiven (Some fields) (
-    row (codes "{'find':'a','check':4294967295}") (sought (words (codes "a") Join.Or) (record plain { check = 4294967295 }) Order.Relevance None) ∷
+    row (codes "{'find':'a','check':4294967295}") (sought (words (codes "a") Join.Or) (record plain { check = 4294967295 }) relevance None) ∷
     row (codes "{'find':'a','check':4294967296}") bad_shape ∷
     row (codes "{'find':'a','check':1e2}") bad_shape ∷
     row (codes "{'find':'a','check':true}") bad_shape ∷
@@ -83,9 +83,9 @@ orders : AreGiven (Some fields) (
     row (codes "{'find':'a','order':'value','reverse':true}") bad_shape ∷
     row (codes "{'find':'a','order':'year','by':'year'}") bad_shape ∷
     row (codes "{'find':'a','order':null,'by':'year'}") bad_shape ∷
-    row (codes "{'find':'a','order':'value','by':'year'}") (sought (words (codes "a") Join.Or) plain (Order.Value (key 0 false)) None) ∷
-    row (codes "{'find':'a','order':'value_relevance','by':'site','reverse':true}") (sought (words (codes "a") Join.Or) plain (Order.ValueThenRelevance (key 1 true)) None) ∷
-    row (codes "{'find':'a','order':'relevance_value','by':'site','reverse':false}") (sought (words (codes "a") Join.Or) plain (Order.RelevanceThenValue (key 1 false)) None) ∷
+    row (codes "{'find':'a','order':'value','by':'year'}") (sought (words (codes "a") Join.Or) plain (rising (OrderBy.Value (key 0 false))) None) ∷
+    row (codes "{'find':'a','order':'value_relevance','by':'site','reverse':true}") (sought (words (codes "a") Join.Or) plain (rising (OrderBy.ValueThenRelevance (key 1 true))) None) ∷
+    row (codes "{'find':'a','order':'relevance_value','by':'site','reverse':false}") (sought (words (codes "a") Join.Or) plain (rising (OrderBy.RelevanceThenValue (key 1 false))) None) ∷
     row (codes "{'find':'a','order':'value','by':'year','reverse':null}") bad_shape ∷
     row (codes "{'find':'a','order':'value','by':'year','reverse':1}") bad_shape ∷
     row (codes "{'find':'a','order':'value','by':null}") bad_shape ∷
@@ -98,10 +98,31 @@ orders : AreGiven (Some fields) (
 unfolding on_lines
 orders = refl
 
+-- The least weight of a match, and ids that fall.
+cutoffs : AreGiven (Some fields) (
+    row (codes "{'find':'a','cutoff':0}") (found (words (codes "a") Join.Or)) ∷
+    row (codes "{'find':'a','cutoff':18446744073709551615}") (sought (words (codes "a") Join.Or) (record plain { cutoff = 18446744073709551615 }) relevance None) ∷
+    row (codes "{'find':'a','cutoff':18446744073709551616}") bad_shape ∷
+    row (codes "{'find':'a','cutoff':-1}") bad_shape ∷
+    row (codes "{'find':'a','cutoff':2.0}") bad_shape ∷
+    row (codes "{'find':'a','cutoff':'2'}") bad_shape ∷
+    row (codes "{'find':'a','cutoff':null}") bad_shape ∷
+    row (codes "{'find':'a','ids':'rising'}") (found (words (codes "a") Join.Or)) ∷
+    row (codes "{'find':'a','ids':'falling'}") (sought (words (codes "a") Join.Or) plain (record relevance { falling = true }) None) ∷
+    row (codes "{'find':'a','ids':'Falling'}") bad_shape ∷
+    row (codes "{'find':'a','ids':true}") bad_shape ∷
+    row (codes "{'find':'a','ids':null}") bad_shape ∷
+    row (codes "{'tree':7,'ids':'falling','cutoff':3}") (sought (tree_of (codes "7")) (record plain { cutoff = 3 }) (record relevance { falling = true }) None) ∷
+    row (codes "{'find':'a','order':'value','by':'year','ids':'falling'}") (sought (words (codes "a") Join.Or) plain (record (rising (OrderBy.Value (key 0 false))) { falling = true }) None) ∷
+    row (codes "{'show':'a','cutoff':1}") bad_shape ∷
+    [])
+unfolding on_lines
+cutoffs = refl
+
 -- A field that is collapsed on, and how many are kept.
 collapses : AreGiven (Some fields) (
-    row (codes "{'find':'a','collapse':'site'}") (sought (words (codes "a") Join.Or) plain Order.Relevance (collapsed_on 1 1)) ∷
-    row (codes "{'find':'a','collapse':'year','max':100000}") (sought (words (codes "a") Join.Or) plain Order.Relevance (collapsed_on 0 100000)) ∷
+    row (codes "{'find':'a','collapse':'site'}") (sought (words (codes "a") Join.Or) plain relevance (collapsed_on 1 1)) ∷
+    row (codes "{'find':'a','collapse':'year','max':100000}") (sought (words (codes "a") Join.Or) plain relevance (collapsed_on 0 100000)) ∷
     row (codes "{'find':'a','collapse':'site','max':0}") bad_shape ∷
     row (codes "{'find':'a','collapse':'site','max':100001}") bad_shape ∷
     row (codes "{'find':'a','collapse':'site','max':1.0}") bad_shape ∷
@@ -121,8 +142,8 @@ collapses = refl
 trees : AreGiven (Some fields) (
     row (codes "{'tree':null}") (found (tree_of (codes "null"))) ∷
     row (codes "{'tree':{'b':[1,'x'],'a':-0}}") (found (tree_of (codes "{'a':-0.0,'b':[1,'x']}"))) ∷
-    row (codes "{'tree':7,'scheme':'bool','first':1,'size':2,'check':3}") (sought (tree_of (codes "7")) (record plain { scheme = Scheme.Bool; first = 1; size = 2; check = 3 }) Order.Relevance None) ∷
-    row (codes "{'tree':[],'order':'value','by':'year','collapse':'site','max':2}") (sought (tree_of (codes "[]")) plain (Order.Value (key 0 false)) (collapsed_on 1 2)) ∷
+    row (codes "{'tree':7,'scheme':'bool','first':1,'size':2,'check':3}") (sought (tree_of (codes "7")) (record plain { scheme = Scheme.Bool; first = 1; size = 2; check = 3 }) relevance None) ∷
+    row (codes "{'tree':[],'order':'value','by':'year','collapse':'site','max':2}") (sought (tree_of (codes "[]")) plain (rising (OrderBy.Value (key 0 false))) (collapsed_on 1 2)) ∷
     row (codes "{'tree':null,'op':'or'}") bad_shape ∷
     row (codes "{'tree':null,'find':'a'}") bad_shape ∷
     row (codes "{'tree':null,'by':'year'}") bad_shape ∷

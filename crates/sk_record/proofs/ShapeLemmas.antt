@@ -8,7 +8,7 @@ use Rattle.sk_base.specs.declared.find.Options.{Options}
 use Rattle.sk_base.specs.Records.{most_bytes}
 use Rattle.sk_json.specs.Values.{has, has_only, text_at, whole_number, between, optional_text, optional_number, bytes_in}
 use Rattle.sk_record.specs.Shapes.{Given, Asked, words, tree, Collapsed, Wanted, Shape, schema, add, replace, replace_by, delete, delete_by, seek, show}
-use Rattle.sk_record.specs.Options.{query_at, join_at, scheme_at, page_at, check_at, sorted_at, collapsed_on, collapsed_by, collapsed_at, options_at, wanted_at, option_names, find_row, tree_row}
+use Rattle.sk_record.specs.Options.{query_at, join_at, scheme_at, page_at, check_at, cutoff_at, falling_at, sorted_at, collapsed_on, collapsed_by, collapsed_at, options_at, wanted_at, option_names, find_row, tree_row}
 use Rattle.sk_record.specs.Rows.{values_of, given_at, id_at, pair_at, add_row, replace_row, replace_by_row, delete_row, delete_by_row, show_row, later_shape}
 use Rattle.sk_record.proofs.Choices.{some_is, chained, mapped, guarded, either, first_true, second_true}
 
@@ -90,15 +90,17 @@ options_fit : (d : Data) (options : Options) → options_at d ≡ Some options �
 options_fit d options =
     chained WithinHits _ (scheme_at d) options
     (λ scheme i. chained WithinHits _ (page_at d) options
-    (λ page j. mapped WithinHits _ (check_at d) options
-    (λ check k. page_fits d page j)))
+    (λ page j. chained WithinHits _ (check_at d) options
+    (λ check k. mapped WithinHits _ (cutoff_at d) options
+    (λ cutoff l. page_fits d page j))))
 
 wanted_fits : (d : Data) (asked : Asked) (wanted : Wanted) → FitsAsked asked → wanted_at d asked ≡ Some wanted → FitsWanted wanted
 wanted_fits d asked wanted fits =
     chained FitsWanted _ (options_at d) wanted
     (λ options i. chained FitsWanted _ (sorted_at d) wanted
-    (λ sorted j. mapped FitsWanted _ (collapsed_at d) wanted
-    (λ collapsed k. record { asked = fits; page = options_fit d options i; collapsed = collapsed_keeps_by d (get (codes "collapse") d) collapsed k })))
+    (λ sorted j. chained FitsWanted _ (falling_at d) wanted
+    (λ falling l. mapped FitsWanted _ (collapsed_at d) wanted
+    (λ collapsed k. record { asked = fits; page = options_fit d options i; collapsed = collapsed_keeps_by d (get (codes "collapse") d) collapsed k }))))
 
 find_fits : (d : Data) (wanted : Wanted) → find_row d ≡ Some wanted → FitsWanted wanted
 find_fits d wanted =

@@ -5,6 +5,7 @@ use Rattle.serde_json.specs.Data.{Data, null, boolean, number, string, array, ob
 use Rattle.serde_json.specs.Find.{get, as_str}
 use Rattle.sk_base.specs.declared.find.Collapse.{Collapse}
 use Rattle.sk_base.specs.declared.rank.Order.{Order}
+use Rattle.sk_base.specs.declared.rank.OrderBy.{OrderBy}
 use Rattle.sk_base.specs.declared.rank.SortKey.{SortKey}
 use Rattle.sk_base.specs.declared.record.Edit.{Edit}
 use Rattle.sk_base.specs.declared.record.Entry.{Entry}
@@ -103,15 +104,15 @@ kind_slot (FieldKind.Word slot) = Some slot
 abbrev pub slot_named : List Field → List ℕ → Option ℕ
 slot_named fields name = option_and_then (λ field. kind_slot field.kind) (field_named fields name)
 
--- The order by this key.
-abbrev pub keyed : Sort → SortKey → Order
-keyed Sort.Value key = Order.Value key
-keyed Sort.ValueThenRelevance key = Order.ValueThenRelevance key
-keyed Sort.RelevanceThenValue key = Order.RelevanceThenValue key
+-- What decides, by this key.
+abbrev pub keyed : Sort → SortKey → OrderBy
+keyed Sort.Value key = OrderBy.Value key
+keyed Sort.ValueThenRelevance key = OrderBy.ValueThenRelevance key
+keyed Sort.RelevanceThenValue key = OrderBy.RelevanceThenValue key
 
--- The order, with the slot of its field.
-abbrev pub order_of : List Field → Sorted → Option Order
-order_of fields by_relevance = Some Order.Relevance
+-- What decides, with the slot of its field.
+abbrev pub order_of : List Field → Sorted → Option OrderBy
+order_of fields by_relevance = Some OrderBy.Relevance
 order_of fields (by_field sort field reverse) = option_map (λ slot. keyed sort (record { slot = slot; reverse = reverse })) (slot_named fields field)
 
 -- The collapsing, with the slot of its field.
@@ -122,8 +123,8 @@ collapse_of fields (Some collapsed) = option_map (λ slot. Some (record { slot =
 -- The find, with the slots of its fields.
 abbrev pub sought_of : List Field → Wanted → Option Sought
 sought_of fields wanted =
-    option_and_then (λ order.
-    option_map (λ collapse. record { asked = wanted.asked; options = wanted.options; order = order; collapse = collapse })
+    option_and_then (λ by.
+    option_map (λ collapse. record { asked = wanted.asked; options = wanted.options; order = record { by = by; falling = wanted.falling }; collapse = collapse })
     (collapse_of fields wanted.collapsed)) (order_of fields wanted.sorted)
 
 -- The edit of a new record.

@@ -1,5 +1,5 @@
 -- The options of a find.
-use Rattle.std.specs.Prelude.{ℕ, ◌+◌, ◌||◌, nat_le, List, [], ◌∷◌, length, Option, Some, None, bytes_eq, codes, if◌then◌else◌, option_map}
+use Rattle.std.specs.Prelude.{ℕ, ◌+◌, ◌||◌, nat_le, Bool, true, false, List, [], ◌∷◌, length, Option, Some, None, bytes_eq, codes, if◌then◌else◌, option_map}
 use Rattle.std.specs.Option.{option_and_then}
 use Rattle.serde_json.specs.Data.{Data}
 use Rattle.serde_json.specs.Find.{get, as_str}
@@ -48,6 +48,21 @@ page_at d =
 -- How many matches are counted at the least: none where nothing is said.
 abbrev pub check_at : Data → Option ℕ
 check_at d = option_and_then (between 0 4294967295) (optional_number (codes "check") 0 d)
+
+-- The least weight of a match: any weight where nothing is said.
+abbrev pub cutoff_at : Data → Option ℕ
+cutoff_at d = optional_number (codes "cutoff") 0 d
+
+-- Whether ids fall, by name.
+abbrev pub falling_named : List ℕ → Option Bool
+falling_named name =
+    if bytes_eq name (codes "rising") then Some false
+    else (if bytes_eq name (codes "falling") then Some true
+    else None)
+
+-- Whether of equal matches those with greater ids come first: those with lower ids where nothing is said.
+abbrev pub falling_at : Data → Option Bool
+falling_at d = optional false (λ value. option_and_then falling_named (as_str value)) (get (codes "ids") d)
 
 -- By relevance, with neither a field nor a direction.
 abbrev pub relevance_at : Data → Option Sorted
@@ -99,21 +114,23 @@ abbrev pub options_at : Data → Option Options
 options_at d =
     option_and_then (λ scheme.
     option_and_then (λ page.
-    option_map (λ check. record { scheme = scheme; first = page.0; size = page.1; check = check })
-    (check_at d)) (page_at d)) (scheme_at d)
+    option_and_then (λ check.
+    option_map (λ cutoff. record { scheme = scheme; first = page.0; size = page.1; check = check; cutoff = cutoff })
+    (cutoff_at d)) (check_at d)) (page_at d)) (scheme_at d)
 
 -- A find of this query, with the options of the line.
 abbrev pub wanted_at : Data → Asked → Option Wanted
 wanted_at d asked =
     option_and_then (λ options.
     option_and_then (λ sorted.
-    option_map (λ collapsed. record { asked = asked; options = options; sorted = sorted; collapsed = collapsed })
-    (collapsed_at d)) (sorted_at d)) (options_at d)
+    option_and_then (λ falling.
+    option_map (λ collapsed. record { asked = asked; options = options; sorted = sorted; falling = falling; collapsed = collapsed })
+    (collapsed_at d)) (falling_at d)) (sorted_at d)) (options_at d)
 
 -- The members that the options are.
 abbrev pub option_names : List (List ℕ)
 option_names =
-    codes "scheme" ∷ codes "first" ∷ codes "size" ∷ codes "check" ∷ codes "order" ∷ codes "by" ∷ codes "reverse" ∷ codes "collapse" ∷ codes "max" ∷ []
+    codes "scheme" ∷ codes "first" ∷ codes "size" ∷ codes "check" ∷ codes "order" ∷ codes "by" ∷ codes "reverse" ∷ codes "collapse" ∷ codes "max" ∷ codes "cutoff" ∷ codes "ids" ∷ []
 
 -- A find by text.
 abbrev pub find_row : Data → Option Wanted

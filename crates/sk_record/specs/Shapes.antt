@@ -31,6 +31,7 @@ pub record Wanted : Type 0 where
   pub asked : Asked
   pub options : Options
   pub sorted : Sorted
+  pub falling : Bool
   pub collapsed : Option Collapsed
 
 -- The rows. A field and a text are those of `replace_by` and `delete_by`.

@@ -35,7 +35,7 @@ collapsed_shown row = record { field = row.field.now; max = row.max }
 -- A find.
 abbrev pub wanted_shown : FindRow → Wanted
 wanted_shown row =
-    record { asked = asked_shown row.ask; options = row.options; sorted = sorted_shown row.order; collapsed = option_map collapsed_shown row.collapse }
+    record { asked = asked_shown row.ask; options = row.options; sorted = sorted_shown row.order; falling = row.falling; collapsed = option_map collapsed_shown row.collapse }
 
 -- A row.
 abbrev pub shape_shown : Row → Shape

@@ -10,7 +10,7 @@ ghost use Rattle.sk_record.specs.FieldRules.{field_named, filter_texts, value_of
 use crate::row::{AskRow, CollapseRow, FindRow, OrderRow, RecordRow, Row, Sort, TextRow};
 use serde_json::{Map, Value};
 use sk_base::{
-    Ask, Collapse, Command, Edit, Entries, Entry, Field, FieldKind, FieldValue, Find, Items, Order,
+    Ask, Collapse, Command, Edit, Entries, Entry, Field, FieldKind, FieldValue, Find, Items, Order, OrderBy,
     Record, SortKey, Term, Text, Texts, prefixed,
 };
 use sk_json::{texts_of, whole_number};
@@ -125,7 +125,7 @@ fn kind_slot(kind: &FieldKind) -> Option<u32>
 fn find_of(alloc: Global, fields: &[Field], wanted: FindRow<'_>) -> Result<Option<Find>, AllocError>
     ensures { IfOk result (λ f. option_map sought_by f ≡ sought_of fields.now (wanted_shown wanted.entry)) }
 {
-    let Some(order) = order_of(fields, wanted.order) else {
+    let Some(by) = order_of(fields, wanted.order) else {
         return Ok(None);
     };
     let Some(collapse) = collapse_of(fields, wanted.collapse) else {
@@ -135,7 +135,10 @@ fn find_of(alloc: Global, fields: &[Field], wanted: FindRow<'_>) -> Result<Optio
     Ok(Some(Find {
         ask,
         options: wanted.options,
-        order,
+        order: Order {
+            by,
+            falling: wanted.falling,
+        },
         collapse,
     }))
 }
@@ -155,11 +158,11 @@ fn ask_of(alloc: Global, ask: AskRow<'_>) -> Result<Ask, AllocError>
     }
 }
 
-fn order_of(fields: &[Field], order: OrderRow<'_>) -> Option<Order>
+fn order_of(fields: &[Field], order: OrderRow<'_>) -> Option<OrderBy>
     ensures { result ≡ order_of fields.now (sorted_shown order.entry) }
 {
     match order {
-        OrderRow::Relevance => Some(Order::Relevance),
+        OrderRow::Relevance => Some(OrderBy::Relevance),
         OrderRow::By(sort, field, reverse) => {
             let slot = slot_named(fields, field)?;
             Some(keyed(sort, SortKey { slot, reverse }))
@@ -167,13 +170,13 @@ fn order_of(fields: &[Field], order: OrderRow<'_>) -> Option<Order>
     }
 }
 
-fn keyed(sort: Sort, key: SortKey) -> Order
+fn keyed(sort: Sort, key: SortKey) -> OrderBy
     ensures { result ≡ keyed sort key }
 {
     match sort {
-        Sort::Value => Order::Value(key),
-        Sort::ValueThenRelevance => Order::ValueThenRelevance(key),
-        Sort::RelevanceThenValue => Order::RelevanceThenValue(key),
+        Sort::Value => OrderBy::Value(key),
+        Sort::ValueThenRelevance => OrderBy::ValueThenRelevance(key),
+        Sort::RelevanceThenValue => OrderBy::RelevanceThenValue(key),
     }
 }
 

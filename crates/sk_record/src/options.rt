@@ -1,12 +1,12 @@
 //! The rows of finds: their query and their options.
 ghost use Rattle.std.specs.Prelude.{◌≡◌, option_map};
 ghost use Rattle.serde_json.specs.View.{view};
-ghost use Rattle.sk_record.specs.Options.{query_at, join_named, join_at, scheme_named, scheme_at, page_at, check_at, relevance_at, by_field_at, sorted_named, sorted_at, not_collapsed, collapsed_on, collapsed_at, options_at, wanted_at, find_row, tree_row};
+ghost use Rattle.sk_record.specs.Options.{query_at, join_named, join_at, cutoff_at, falling_named, falling_at, scheme_named, scheme_at, page_at, check_at, relevance_at, by_field_at, sorted_named, sorted_at, not_collapsed, collapsed_on, collapsed_at, options_at, wanted_at, find_row, tree_row};
 ghost use Rattle.sk_record.specs.Shown.{asked_shown, sorted_shown, collapsed_shown, wanted_shown};
 
 use crate::row::{AskRow, CollapseRow, FindRow, OrderRow, Sort};
 use serde_json::Value;
-use sk_base::{Join, MOST_HITS, MOST_TEXT, Options, Scheme};
+use sk_base::{Join, MOST_HITS, MOST_TEXT, Options, Scheme, Weight};
 use sk_json::{between, has, has_only, optional_flag, optional_number, text_at};
 
 /// A find by text.
@@ -15,7 +15,7 @@ pub fn find_row(line: &Value) -> Option<FindRow<'_>>
 {
     let names = [
         "find", "op", "scheme", "first", "size", "check", "order", "by", "reverse", "collapse",
-        "max",
+        "max", "cutoff", "ids",
     ];
     if !has_only(line, &names) {
         return None;
@@ -31,6 +31,7 @@ pub fn tree_row(line: &Value) -> Option<FindRow<'_>>
 {
     let names = [
         "tree", "scheme", "first", "size", "check", "order", "by", "reverse", "collapse", "max",
+        "cutoff", "ids",
     ];
     if !has_only(line, &names) {
         return None;
@@ -75,11 +76,13 @@ fn wanted_at<'a>(line: &'a Value, ask: AskRow<'a>) -> Option<FindRow<'a>>
 {
     let options = options_at(line)?;
     let order = sorted_at(line)?;
+    let falling = falling_at(line)?;
     let collapse = collapsed_at(line)?;
     Some(FindRow {
         ask,
         options,
         order,
+        falling,
         collapse,
     })
 }
@@ -91,11 +94,13 @@ fn options_at(line: &Value) -> Option<Options>
     let scheme = scheme_at(line)?;
     let (first, size) = page_at(line)?;
     let check = check_at(line)?;
+    let cutoff = cutoff_at(line)?;
     Some(Options {
         scheme,
         first,
         size,
         check,
+        cutoff,
     })
 }
 
@@ -136,6 +141,32 @@ fn check_at(line: &Value) -> Option<u32>
     ensures { result ≡ check_at (view line.now) }
 {
     between(0, u32::MAX, optional_number(line, "check", 0)?)
+}
+
+fn cutoff_at(line: &Value) -> Option<Weight>
+    ensures { result ≡ cutoff_at (view line.now) }
+{
+    optional_number(line, "cutoff", 0)
+}
+
+/// Whether of equal matches those with greater ids come first.
+fn falling_at(line: &Value) -> Option<bool>
+    ensures { result ≡ falling_at (view line.now) }
+{
+    match line.get("ids") {
+        Some(value) => falling_named(value.as_str()?),
+        None => Some(false),
+    }
+}
+
+fn falling_named(name: &str) -> Option<bool>
+    ensures { result ≡ falling_named name.now }
+{
+    match name {
+        "rising" => Some(false),
+        "falling" => Some(true),
+        _ => None,
+    }
 }
 
 fn sorted_at(line: &Value) -> Option<OrderRow<'_>>

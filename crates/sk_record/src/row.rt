@@ -51,6 +51,8 @@ pub struct FindRow<'a> {
     pub ask: AskRow<'a>,
     pub options: Options,
     pub order: OrderRow<'a>,
+    /// Whether ids fall.
+    pub falling: bool,
     pub collapse: Option<CollapseRow<'a>>,
 }
 
