@@ -30,7 +30,7 @@ true_counts find docs ranks greatest static within =
       exact_upper = λ _. refl;
     }
 
-within : (p : Rank → Bool) (xs : List Rank) → length (filter p xs) ≤ length xs
+pub within : (p : Rank → Bool) (xs : List Rank) → length (filter p xs) ≤ length xs
 within p xs = omega (arith, length-filter p xs, count_by-le-length p xs)
 
 -- no more than match without a cutoff

@@ -1,5 +1,5 @@
 -- The exact report is one that the find may have; and no more match, or are kept, than there are.
-use Rattle.std.proofs.Common.{◌≡◌, ◌<◌, ◌≤◌, ◌+◌, ◌/◌, ◌^◌, ℕ, true, List, [], ◌∷◌, length, Option, Some, None, refl, sym, subst, arith}
+use Rattle.std.proofs.Common.{◌≡◌, ◌<◌, ◌≤◌, ◌+◌, ◌/◌, ◌^◌, ℕ, true, nat_le, List, [], ◌∷◌, length, Option, Some, None, refl, sym, subst, arith}
 use Rattle.std.specs.List.{cons_option}
 use Rattle.sk_base.specs.declared.find.Find.{Find}
 use Rattle.sk_base.specs.declared.find.Scheme.{Scheme}
@@ -8,10 +8,11 @@ use Rattle.sk_base.specs.declared.rank.Rank.{Rank}
 use Rattle.sk_base.specs.Numbers.{Docs}
 use Rattle.sk_query.specs.Trees.{Tree}
 use Rattle.sk_query.specs.Fits.{is_sound}
-use Rattle.sk_model.specs.Matches.{rank_of, matches, key_of}
+use Rattle.sk_model.specs.Matches.{rank_of, matches, found_by, key_of}
 use Rattle.sk_model.specs.Counts.{kept_by}
 use Rattle.sk_model.specs.Reports.{ReportsFor}
 use Rattle.sk_model.proofs.KeptLaws.{kept_few}
+use Rattle.sk_model.proofs.CountLaws.{within}
 use Rattle.sk_model.proofs.ReportLaws.{exact_is}
 use Rattle.sk_plain.specs.Pages.{count_of, report_for}
 
@@ -42,8 +43,11 @@ matches_few tree scheme order (one ∷ more) =
     omega (arith, step)
 
 -- fewer than 2^32 documents, so fewer matches
-pub few_found : (tree : Tree) (scheme : Scheme) (order : Order) (docs : Docs) (ranks : List Rank) → ranks ≡ matches tree scheme order docs → length docs < 2 ^ 32 → length ranks < 2 ^ 32
-few_found tree scheme order docs ranks is few = subst (λ xs. length xs < 2 ^ 32) (sym is) (omega (arith, few, matches_few tree scheme order docs))
+pub few_found : (tree : Tree) (find : Find) (docs : Docs) (ranks : List Rank) → ranks ≡ found_by tree find docs → length docs < 2 ^ 32 → length ranks < 2 ^ 32
+few_found tree find docs ranks is few =
+    let all : length (matches tree find.options.scheme find.order docs) ≤ length docs = matches_few tree find.options.scheme find.order docs in
+    let some : length (found_by tree find docs) ≤ length (matches tree find.options.scheme find.order docs) = within (λ (x : Rank). nat_le find.options.cutoff x.weight) (matches tree find.options.scheme find.order docs) in
+    subst (λ xs. length xs < 2 ^ 32) (sym is) (omega (arith, few, all, some))
 
 -- and fewer that are kept
 pub few_kept : (find : Find) (docs : Docs) (ranks kept : List Rank) → kept ≡ kept_by find docs ranks → length ranks < 2 ^ 32 → length kept < 2 ^ 32

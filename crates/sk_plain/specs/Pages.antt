@@ -7,10 +7,10 @@ use Rattle.sk_base.specs.declared.report.Report.{Report}
 use Rattle.sk_base.specs.Numbers.{Docs}
 use Rattle.sk_query.specs.Trees.{Tree}
 use Rattle.sk_model.specs.Edits.{document_at}
-use Rattle.sk_model.specs.Matches.{key_of}
+use Rattle.sk_model.specs.Matches.{found_by, key_of}
 use Rattle.sk_model.specs.Bounds.{ceil}
 use Rattle.sk_model.specs.Counts.{kept_by, dropped_by}
-use Rattle.sk_model.specs.Reports.{payload_of, found_by, page_of}
+use Rattle.sk_model.specs.Reports.{payload_of, page_of}
 
 -- A match of these as a hit: its id and weight, its document's payload, and how many of them were collapsed into it.
 abbrev pub hit_of : Find → Docs → List Rank → Rank → Ranked

@@ -2,7 +2,7 @@
 ghost use Rattle.std.specs.Prelude.{◌≡◌, ◌≢◌, ◌≤◌, ◌<◌, ◌^◌, true, All, AllPairs, IfOk};
 ghost use Rattle.sk_query.specs.Trees.{query_view};
 ghost use Rattle.sk_query.specs.Fits.{is_sound, leaves_of};
-ghost use Rattle.sk_model.specs.Matches.{value_for, rank_of, matches};
+ghost use Rattle.sk_model.specs.Matches.{value_for, rank_of, matches, found_by};
 ghost use Rattle.sk_base.specs.Loads.{IsLight};
 
 use crate::scores::score;
@@ -12,8 +12,26 @@ use sk_query::Query;
 use std::alloc::{AllocError, Global};
 use std::collections::BTreeMap;
 
+/// All that a find matches, by rising id: what weighs less than its cutoff is no match.
+pub fn found_by(
+    alloc: Global,
+    docs: &BTreeMap<DocId, Doc>,
+    query: &Query,
+    find: &Find,
+) -> Result<Vec<Rank>, AllocError>
+    requires sound { is_sound 1 (query_view query.now) ≡ true }
+    requires leaves { leaves_of (query_view query.now) ≤ 1024 }
+    requires light { All IsLight docs.now.entries }
+    ensures all { IfOk result (λ ranks. ranks.items ≡ found_by (query_view query.now) find.now docs.now.entries) }
+    ensures differ { IfOk result (λ ranks. AllPairs (λ x y. x.id ≢ y.id) ranks.items) }
+{
+    let mut ranks = matches(alloc, docs, query, find.options.scheme, find.order)?;
+    ranks.retain(|rank| rank.weight >= find.options.cutoff);
+    Ok(ranks)
+}
+
 /// All live documents that the query matches, each scored by itself, by rising id.
-pub fn matches(
+fn matches(
     alloc: Global,
     docs: &BTreeMap<DocId, Doc>,
     query: &Query,

@@ -15,7 +15,7 @@ mod terms;
 mod wilds;
 
 pub use counted::Counted;
-pub use found::matches;
+pub use found::found_by;
 pub use kept::{dropped_by, kept_by, key_of};
 pub use page::report_of;
 pub use reports::plain_reports;

@@ -9,7 +9,7 @@ ghost use Rattle.sk_base.specs.Loads.{IsLight};
 ghost use Rattle.sk_plain.specs.Pages.{hit_of, report_for};
 
 use crate::counted::Counted;
-use crate::found::matches;
+use crate::found::found_by;
 use crate::kept::{dropped_by, kept_by, key_of};
 use sk_base::{Doc, DocId, Find, Hits, Rank, Ranked, Report, Text};
 use sk_model::slice;
@@ -31,7 +31,7 @@ pub fn report_of(
     requires few { length docs.now.entries < 2 ^ 32 }
     ensures { IfOk result (λ report. report ≡ report_for (query_view query.now) find.now docs.now.entries) }
 {
-    let ranks = matches(alloc, docs, query, find.options.scheme, find.order)?;
+    let ranks = found_by(alloc, docs, query, find)?;
     let kept = kept_by(alloc, docs, find, ranks.as_slice())?;
     let asked = slice(kept.as_slice(), find.options.first, find.options.size);
     let hits = hits_of(alloc, docs, find, ranks.as_slice(), kept.as_slice(), asked)?;
