@@ -1,2 +1,0 @@
-pub mod Collapsed
-pub mod Verdicts

@@ -1,8 +1,0 @@
-//! The best hits of those that were offered, and when one cannot be among them.
-#![tactic(auto)]
-
-mod heap;
-mod hit;
-
-pub use heap::ResultHeap;
-pub use hit::Hit;
