@@ -8,12 +8,13 @@ use Rattle.sk_base.specs.declared.rank.Order.{Order}
 use Rattle.sk_base.specs.declared.report.Report.{Report}
 use Rattle.sk_base.specs.Numbers.{Docs}
 use Rattle.sk_query.specs.Trees.{Tree}
-use Rattle.sk_model.specs.Matches.{matches, key_of}
+use Rattle.sk_model.specs.Matches.{found_by, key_of}
+use Rattle.sk_match.specs.Asking.{by_weight}
 use Rattle.sk_model.specs.Page.{best_first, kept, slice, dropped}
 use Rattle.sk_model.specs.Bounds.{ceil, static_count}
 use Rattle.sk_model.specs.Counts.{Counts, wanted, seen, kept_by, dropped_by}
 use Rattle.sk_model.specs.Allowance.{allowance, leaf_readings, key_readings, value_readings}
-use Rattle.sk_model.specs.Reports.{IsHit, found_by, page_of, ReportsFor}
+use Rattle.sk_model.specs.Reports.{IsHit, page_of, ReportsFor}
 use Rattle.sk_model.proofs.OrderLaws.{length-best_first}
 use Rattle.sk_match.specs.Pages.{hit_of, IsPageOf}
 
@@ -29,8 +30,8 @@ none_dropped : (find : Find) (docs : Docs) (rank : Rank) (ranks : List Rank) →
 none_dropped find docs rank ranks alone = ap (λ c. dropped find.order c (key_of c docs) (key_of c docs rank) ranks) alone
 
 -- all matches are counted
-counts : (find : Find) (docs : Docs) (ranks : List Rank) (static n lower upper : ℕ) → find.collapse ≡ None → length ranks ≡ n → n ≤ static → lower ≡ n → upper ≡ n → Counts find docs ranks static lower upper
-counts find docs ranks static n lower upper alone size within low high =
+counts : (find : Find) (docs : Docs) (ranks : List Rank) (greatest static n lower upper : ℕ) → find.collapse ≡ None → length ranks ≡ n → n ≤ static → lower ≡ n → upper ≡ n → Counts find docs ranks greatest static lower upper
+counts find docs ranks greatest static n lower upper alone size within low high =
     let all : length (kept_by find docs ranks) ≡ length ranks = all_kept find docs ranks alone in
     let some : length (kept_by find docs (seen find ranks)) ≡ length (seen find ranks) = all_kept find docs (seen find ranks) alone in
     let first : length (seen find ranks) ≡ min (wanted find) (length ranks) = length-take (wanted find) ranks in
@@ -59,11 +60,11 @@ each_hit query find docs (rank ∷ page) alone =
     )
 
 -- where the heavier come first and nothing is collapsed, the allowance is that of the leaves and of the hits
-allowed : (query : Tree) (find : Find) (docs : Docs) (matching hits : ℕ) → find.order ≡ Order.Relevance → find.collapse ≡ None → allowance query find docs matching hits ≡ leaf_readings query docs + (0 + 0 + hits)
-allowed query find docs matching hits order alone i = leaf_readings query docs + (key_readings (alone i) matching + value_readings (order i) matching + hits)
+allowed : (query : Tree) (find : Find) (docs : Docs) (matching hits : ℕ) → find.order ≡ by_weight → find.collapse ≡ None → allowance query find docs matching hits ≡ leaf_readings query docs + (0 + 0 + hits)
+allowed query find docs matching hits order alone i = leaf_readings query docs + (key_readings (alone i) matching + value_readings (order i).by matching + hits)
 
 -- the page of all matches of a query is a report of it
-pub reported : (query : Tree) (find : Find) (docs : Docs) (ranks : List Rank) (greatest spent : ℕ) (report : Report) → find.order ≡ Order.Relevance → find.collapse ≡ None
+pub reported : (query : Tree) (find : Find) (docs : Docs) (ranks : List Rank) (greatest spent : ℕ) (report : Report) → find.order ≡ by_weight → find.collapse ≡ None
     → ranks ≡ found_by query find docs
     → greatest ≡ ceil query find.options.scheme 1 docs
     → length (found_by query find docs) ≤ static_count query docs
@@ -71,13 +72,13 @@ pub reported : (query : Tree) (find : Find) (docs : Docs) (ranks : List Rank) (g
     → IsPageOf find.options docs ranks greatest spent report
     → ReportsFor query find docs report
 reported query find docs ranks greatest spent report order alone is bound within few so =
-    let page : page_of query find docs ≡ slice find.options.first find.options.size (best_first Order.Relevance ranks) =
+    let page : page_of query find docs ≡ slice find.options.first find.options.size (best_first by_weight ranks) =
     ap (slice find.options.first find.options.size) (kept_all find docs (found_by query find docs) alone ∙ (λ i. best_first (order i) (sym is i))) in
     let hits : report.hits ≡ map (hit_of docs) (page_of query find docs) = so.hits ∙ ap (map (hit_of docs)) (sym page) in
     let size : length ranks ≡ length (found_by query find docs) = ap length is in
     record {
       hits = subst (AllZip (IsHit query find docs) (page_of query find docs)) (sym hits) (each_hit query find docs (page_of query find docs) alone);
-      counts = counts find docs (found_by query find docs) (static_count query docs) (length (found_by query find docs)) report.lower report.upper alone refl within (so.lower ∙ size) (so.upper ∙ size);
+      counts = counts find docs (found_by query find docs) (ceil query find.options.scheme 1 docs) (static_count query docs) (length (found_by query find docs)) report.lower report.upper alone refl within (so.lower ∙ size) (so.upper ∙ size);
       estimate = so.estimate;
       greatest = so.greatest ∙ bound;
       least_steps = omega (arith, so.steps);

@@ -1,10 +1,12 @@
 -- What a search has seen and has still to see.
-use Rattle.std.proofs.Common.{◌≡◌, ◌≢◌, ◌≤◌, ◌<◌, ◌+◌, ◌-◌, ◌^◌, ℕ, zero, suc, get_or, AllPairs, List, [], ◌∷◌, ◌++◌, length, map, drop, Option, None, Some, option_map, refl, sym, ap, ◌∙◌, subst, arith, append_assoc, append-nil, is_some, is_none, true, true≢false, ◌&&◌, nat_le}
+use Rattle.std.proofs.Common.{◌≡◌, ◌≢◌, ◌≤◌, ◌<◌, ◌+◌, ◌-◌, ◌^◌, ℕ, zero, suc, get_or, AllPairs, List, [], ◌∷◌, ◌++◌, length, map, drop, Option, None, Some, option_map, refl, sym, ap, ◌∙◌, subst, arith, append_assoc, append-nil, is_some, is_none, Bool, true, false, not, true≢false, ◌&&◌, ◌==◌, nat_le, cond}
 use Rattle.std.specs.List.{filter_map, cons_option}
 use Rattle.std.proofs.lemmas.List.{length-map}
+use Rattle.std.proofs.lemmas.Bool.Decides.{nat_tests}
 use Rattle.sk_base.specs.declared.rank.Rank.{Rank}
 use Rattle.sk_base.specs.declared.rank.Order.{Order}
-use Rattle.sk_base.specs.declared.rank.Order.TheVariants as Order
+use Rattle.sk_base.specs.declared.rank.OrderBy.{OrderBy}
+use Rattle.sk_base.specs.declared.rank.OrderBy.TheVariants as OrderBy
 use Rattle.sk_base.specs.declared.find.Collapse.{Collapse}
 use Rattle.sk_base.specs.declared.find.Find.{Find}
 use Rattle.sk_base.specs.declared.find.Scheme.{Scheme}
@@ -16,17 +18,17 @@ use Rattle.sk_sorted.proofs.PlaceLaws.{ids_rise, id_at-get_or}
 use Rattle.sk_query.specs.Trees.{Tree}
 use Rattle.sk_model.specs.Documents.{Document}
 use Rattle.sk_model.specs.Scores.{score}
-use Rattle.sk_model.specs.Matches.{matches}
+use Rattle.sk_model.specs.Matches.{matches, at_least, found_by}
 use Rattle.sk_query.specs.Fits.{is_sound, leaves_of, depth_of, fits_tree}
 use Rattle.sk_model.specs.Bounds.{ceil}
 use Rattle.sk_model.specs.Allowance.{leaf_readings}
 use Rattle.sk_model.specs.Reports.{ReportsFor}
 use Rattle.sk_model.proofs.OrderLaws.{both_so}
-use Rattle.sk_model.proofs.StaticLaws.{matches_within}
+use Rattle.sk_model.proofs.CountLaws.{found_within}
 use Rattle.sk_index.specs.Indexed.{Indexed}
 use Rattle.sk_nodes.specs.Built.{weighed_ids, gives, left, scored, first_weight, IsTree, Built}
 use Rattle.sk_match.specs.declared.turns.Search.{Search}
-use Rattle.sk_match.specs.Asking.{is_relevance, is_built}
+use Rattle.sk_match.specs.Asking.{by_weight, is_relevance, is_by_weight, is_built}
 use Rattle.sk_match.specs.Searches.{rank_at, ahead, all_of, IsOn, Stands}
 use Rattle.sk_match.specs.Pages.{IsPageOf}
 use Rattle.sk_match.proofs.ReportLemmas.{reported}
@@ -52,7 +54,7 @@ pub weighed_sorted : (f : ℕ × Document → Option ℕ) (docs : Docs) → AreS
 weighed_sorted f docs sound = record { rise = rises f 0 docs sound.rise; small = lie f (2 ^ 32) docs sound.small }
 
 -- what is left of a query that was opened is what it matches
-pub scored_matches : (query : Tree) (scheme : Scheme) (docs : Docs) → map rank_at (scored query scheme 1 docs) ≡ matches query scheme Order.Relevance docs
+pub scored_matches : (query : Tree) (scheme : Scheme) (docs : Docs) → map rank_at (scored query scheme 1 docs) ≡ matches query scheme by_weight docs
 scored_matches query scheme [] = refl
 scored_matches query scheme (one ∷ docs) = step (score query scheme 1 one.1) one.0 _ _ (scored_matches query scheme docs)
   where
@@ -112,21 +114,34 @@ seen_more seen (p ∷ ps) h r e is =
 
 -- ---- a search
 
-relevance_is : (o : Order) → is_relevance o ≡ true → o ≡ Order.Relevance
-relevance_is Order.Relevance e = refl
-relevance_is (Order.Value key) e = absurd (true≢false (sym e))
-relevance_is (Order.ValueThenRelevance key) e = absurd (true≢false (sym e))
-relevance_is (Order.RelevanceThenValue key) e = absurd (true≢false (sym e))
+relevance_is : (by : OrderBy) (falling : Bool) → (is_relevance by && not falling) ≡ true → record { by = by; falling = falling } ≡ by_weight
+relevance_is OrderBy.Relevance false e = refl
+relevance_is OrderBy.Relevance true e = absurd (true≢false (sym e))
+relevance_is (OrderBy.Value key) falling e = absurd (true≢false (sym e))
+relevance_is (OrderBy.ValueThenRelevance key) falling e = absurd (true≢false (sym e))
+relevance_is (OrderBy.RelevanceThenValue key) falling e = absurd (true≢false (sym e))
+
+is_zero : (n : ℕ) → (n == 0) ≡ true → n ≡ 0
+is_zero n e = grind (arith, nat_tests)
+
+zero_least : (n : ℕ) → nat_le 0 n ≡ true
+zero_least n = grind (arith, nat_tests)
+
+-- every weight is at least 0
+all_at_least : (ranks : List Rank) → at_least 0 ranks ≡ ranks
+all_at_least [] = refl
+all_at_least (x ∷ xs) = ap (λ b. cond b (x ∷ at_least 0 xs) (at_least 0 xs)) (zero_least x.weight) ∙ ap (λ ys. x ∷ ys) (all_at_least xs)
 
 none_is : (c : Option Collapse) → is_none c ≡ true → c ≡ None
 none_is None e = refl
 none_is (Some c) e = absurd (true≢false (sym e))
 
 -- a search that is built is by relevance, and collapses nothing
-by_relevance : (find : Find) → is_built find ≡ true → (find.order ≡ Order.Relevance) × (find.collapse ≡ None)
+by_relevance : (find : Find) → is_built find ≡ true → (find.order ≡ by_weight) × (find.collapse ≡ None) × (find.options.cutoff ≡ 0)
 by_relevance find e =
-    let b = both_so (is_relevance find.order) (is_none find.collapse) e in
-    (relevance_is find.order b.0, none_is find.collapse b.1)
+    let a = both_so (is_by_weight find.order && is_none find.collapse) (find.options.cutoff == 0) e in
+    let b = both_so (is_by_weight find.order) (is_none find.collapse) a.0 in
+    (relevance_is find.order.by find.order.falling b.0, none_is find.collapse b.1, is_zero find.options.cutoff a.1)
 
 pub opened_on : (i : Indexed) (s : Search) → IsTree i s.tree → s.tree.need ≡ 0 → s.seen.items ≡ [] → IsOn s i
 opened_on i s tree free none =
@@ -156,7 +171,9 @@ opened_stands i s find query built none all asked fits options greatest =
           ap (λ (xs : List Rank). xs ++ map rank_at (left i s.tree)) none
           ∙ ap (map rank_at) all
           ∙ scored_matches query find.options.scheme i.live.documents
-          ∙ ap (λ o. matches query find.options.scheme o i.live.documents) (sym so.0);
+          ∙ ap (λ o. matches query find.options.scheme o i.live.documents) (sym so.0)
+          ∙ sym (all_at_least (matches query find.options.scheme find.order i.live.documents))
+          ∙ ap (λ n. at_least n (matches query find.options.scheme find.order i.live.documents)) (sym so.2);
     }
 
 -- a turn moved the head from what is ahead to what was seen
@@ -191,5 +208,5 @@ pub finished : (i : Indexed) (s : Search) (find : Find) (query : Tree) (report :
     → ReportsFor query find i.live.documents report
 finished i s find query report spent stands done few page =
     reported query find i.live.documents s.seen.items s.greatest spent report stands.order stands.alone (sym (all_seen i s done) ∙ stands.matches) stands.greatest
-    (matches_within query find.options.scheme find.order 1 i.live.documents stands.sound) few
+    (found_within query find 1 i.live.documents stands.sound) few
     (subst (λ o. IsPageOf o i.live.documents s.seen.items s.greatest spent report) stands.options page)

@@ -2,14 +2,14 @@
 use Rattle.std.specs.Prelude.{◌≡◌, ◌≢◌, ◌<◌, ◌^◌, ℕ, List, [], length, ◌++◌, map, AllPairs, None, true}
 use Rattle.sk_base.specs.declared.find.Find.{Find}
 use Rattle.sk_base.specs.declared.rank.Rank.{Rank}
-use Rattle.sk_base.specs.declared.rank.Order.TheVariants as Order
 use Rattle.sk_sorted.specs.Entries.{AreSorted}
 use Rattle.sk_query.specs.Trees.{Tree}
 use Rattle.sk_query.specs.Fits.{is_sound}
 use Rattle.sk_model.specs.Bounds.{ceil}
-use Rattle.sk_model.specs.Reports.{found_by}
+use Rattle.sk_model.specs.Matches.{found_by}
 use Rattle.sk_index.specs.Indexed.{Indexed}
 use Rattle.sk_nodes.specs.Built.{left, IsTree, Built}
+use Rattle.sk_match.specs.Asking.{by_weight}
 use Rattle.sk_match.specs.declared.turns.Search.{Search}
 
 -- The rank of a document that weighs so, where its value does not matter.
@@ -37,7 +37,7 @@ pub record Stands (search : Search) (index : Indexed) (find : Find) (query : Tre
   pub built : Built search.tree index query find.options.scheme
   pub sound : is_sound 1 query ≡ true
   pub options : search.options ≡ find.options
-  pub order : find.order ≡ Order.Relevance
+  pub order : find.order ≡ by_weight
   pub alone : find.collapse ≡ None
   pub greatest : search.greatest ≡ ceil query find.options.scheme 1 index.live.documents
   pub matches : all_of index search ≡ found_by query find index.live.documents

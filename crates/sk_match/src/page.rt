@@ -4,7 +4,7 @@ ghost use Rattle.sk_base.specs.declared.rank.Rank.{Rank};
 ghost use Rattle.sk_model.specs.Page.{slice};
 ghost use Rattle.sk_match.specs.Pages.{hit_of, IsPageOf};
 
-use sk_base::{Hits, Items, Options, Order, Rank, Ranked, Report, Text, Weight};
+use sk_base::{Hits, Items, Options, Order, OrderBy, Rank, Ranked, Report, Text, Weight};
 use sk_index::Index;
 use sk_model::{slice, sort_best_first};
 use sk_steps::Steps;
@@ -30,7 +30,11 @@ pub(crate) fn page_of<L: Ledger>(
 {
     let mut ranks = seen;
     let count = ranks.len() as u32;
-    sort_best_first(&mut ranks, &Order::Relevance);
+    let by_weight = Order {
+        by: OrderBy::Relevance,
+        falling: false,
+    };
+    sort_best_first(&mut ranks, &by_weight);
     let hits = hits_of(
         alloc,
         index,
