@@ -206,7 +206,7 @@ number_up : (most m n : ℕ) (none : Bool) → m ≤ n → cond none m (min most
 number_up most m n true h = h
 number_up most m n false h = omega arith
 
-kept_up : (order other : Order) (collapse : Option Collapse) (key : Rank → List ℕ) (ranks more : List Rank) → length ranks ≤ length more → ((k : List ℕ) → count_key key k ranks ≤ count_key key k more)
+pub kept_up : (order other : Order) (collapse : Option Collapse) (key : Rank → List ℕ) (ranks more : List Rank) → length ranks ≤ length more → ((k : List ℕ) → count_key key k ranks ≤ count_key key k more)
     → length (kept order collapse key ranks) ≤ length (kept other collapse key more)
 kept_up order other None key ranks more long h = omega (arith, length-best_first order ranks, length-best_first other more, long)
 kept_up order other (Some collapse) key ranks more long h =

@@ -10,8 +10,8 @@ ghost use Rattle.sk_record.specs.FieldRules.{field_named, filter_texts, value_of
 use crate::row::{AskRow, CollapseRow, FindRow, OrderRow, RecordRow, Row, Sort, TextRow};
 use serde_json::{Map, Value};
 use sk_base::{
-    Ask, Collapse, Command, Edit, Entries, Entry, Field, FieldKind, FieldValue, Find, Items, Order, OrderBy,
-    Record, SortKey, Term, Text, Texts, prefixed,
+    Ask, Collapse, Command, Edit, Entries, Entry, Field, FieldKind, FieldValue, Find, Items, Order,
+    OrderBy, Record, SortKey, Term, Text, Texts, prefixed,
 };
 use sk_json::{texts_of, whole_number};
 use std::alloc::{AllocError, Global};
