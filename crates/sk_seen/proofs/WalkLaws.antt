@@ -1,0 +1,398 @@
+-- A search that goes on, and one that ends.
+use Rattle.std.proofs.Common.{◌≡◌, ◌≤◌, ◌<◌, ◌+◌, ◌⊎◌, ℕ, zero, suc, Bool, true, false, not, cond, nat_le, List, [], ◌∷◌, ◌++◌, length, take, filter, Option, None, Some, option_map, is_some, unwrap_or, refl, sym, ap, ◌∙◌, subst, arith, inl, inr, true≢false, append_assoc, append-nil}
+use Rattle.std.specs.List.{AllByRecursion, filter_map, cons_option}
+use Rattle.std.proofs.lemmas.Bool.Decides.{nat_tests}
+use Rattle.std.proofs.lemmas.List.{take-append-le, length-append}
+use Rattle.std.proofs.lemmas.List.Elements.{filter_map-append, filter-append}
+use Rattle.sk_base.specs.declared.find.Find.{Find}
+use Rattle.sk_base.specs.declared.rank.Rank.{Rank}
+use Rattle.sk_base.specs.Numbers.{Docs}
+use Rattle.sk_sorted.specs.Entries.{RiseAbove, first_id}
+use Rattle.sk_sorted.proofs.EntryLaws.{RiseAbove-lower}
+use Rattle.sk_query.specs.Trees.{Tree}
+use Rattle.sk_model.specs.Covers.{CoversAt}
+use Rattle.sk_model.specs.Counts.{wanted}
+use Rattle.sk_model.specs.Documents.{Document}
+use Rattle.sk_model.specs.Matches.{value_for, rank_of, matches, at_least, found_by}
+use Rattle.sk_model.specs.Scores.{score}
+use Rattle.sk_model.proofs.CoverLaws.{covers_then}
+use Rattle.sk_seen.specs.Shown.{is_behind, Shown}
+use Rattle.sk_seen.specs.Walks.{page_end, held_by, IsFull, IsPassed, IsNeed, Walk, Ended}
+use Rattle.sk_seen.proofs.ShownLaws.{shown_same, shown_append, shown_weaker, shown_beside}
+
+-- ---- tests and lists
+
+is_most : (a b : ℕ) → nat_le a b ≡ true → a ≤ b
+is_most a b e = grind (arith, nat_tests)
+
+not_most : (a b : ℕ) → nat_le a b ≡ false → b < a
+not_most a b e = grind (arith, nat_tests)
+
+most_is : (a b : ℕ) → a ≤ b → nat_le a b ≡ true
+most_is a b l = grind (arith, nat_tests)
+
+none_some : {X : Type 0} (o : Option X) (x : X) → o ≡ None → o ≡ Some x → ⊥
+none_some o x none e = true≢false (sym (ap is_some (sym none ∙ e)))
+
+all_append : {X : Type 0} (P : X → Type 0) (xs ys : List X) → AllByRecursion P xs → AllByRecursion P ys → AllByRecursion P (xs ++ ys)
+all_append P [] ys h g = g
+all_append P (x ∷ xs) ys h g = (h.0, all_append P xs ys h.1 g)
+
+all_mapped : {X : Type 0} (P Q : X → Type 0) → ((x : X) → P x → Q x) → (xs : List X) → AllByRecursion P xs → AllByRecursion Q xs
+all_mapped P Q f [] h = tt
+all_mapped P Q f (x ∷ xs) h = (f x h.0, all_mapped P Q f xs h.1)
+
+-- ---- ids and weights that are given
+
+abbrev weighed : (ℕ → Option ℕ) → Docs → List (ℕ × ℕ)
+weighed give docs = filter_map (λ one. option_map (λ w. (one.0, w)) (give one.0)) docs
+
+abbrev first_weight : List (ℕ × ℕ) → ℕ
+first_weight [] = 0
+first_weight (p ∷ ps) = p.1
+
+-- nothing is given before
+pub weighed_behind : (give : ℕ → Option ℕ) (before rest : Docs) → AllByRecursion (λ (one : ℕ × Document). give one.0 ≡ None) before → weighed give (before ++ rest) ≡ weighed give rest
+weighed_behind give [] rest quiet = refl
+weighed_behind give (one ∷ before) rest quiet =
+    ap (λ o. cons_option (option_map (λ w. (one.0, w)) o) (weighed give (before ++ rest))) quiet.0 ∙ weighed_behind give before rest quiet.1
+
+-- the documents up to the first that is given
+pub record AtHead (give : ℕ → Option ℕ) (last head weight : ℕ) (rest : Docs) : Type 0 where
+  pub skipped : Docs
+  pub one : ℕ × Document
+  pub later : Docs
+  pub is : rest ≡ skipped ++ one ∷ later
+  pub id : one.0 ≡ head
+  pub gives : give one.0 ≡ Some weight
+  pub quiet : AllByRecursion (λ (d : ℕ × Document). give d.0 ≡ None) skipped
+  pub above : AllByRecursion (λ (d : ℕ × Document). last < d.0) skipped
+  pub low : AllByRecursion (λ (d : ℕ × Document). d.0 < head) skipped
+  pub higher : last < head
+  pub rises : RiseAbove head later
+
+here : (give : ℕ → Option ℕ) (last head weight : ℕ) (d : ℕ × Document) (more : Docs) → RiseAbove last (d ∷ more) → d.0 ≡ head → give d.0 ≡ Some weight → AtHead give last head weight (d ∷ more)
+here give last head weight d more up id is = record {
+  skipped = [];
+  one = d;
+  later = more;
+  is = refl;
+  id = id;
+  gives = is;
+  quiet = tt;
+  above = tt;
+  low = tt;
+  higher = omega (arith, up.0, id);
+  rises = subst (λ n. RiseAbove n more) id up.1;
+}
+
+behind : (give : ℕ → Option ℕ) (last head weight : ℕ) (d : ℕ × Document) (more : Docs) → RiseAbove last (d ∷ more) → give d.0 ≡ None → AtHead give d.0 head weight more → AtHead give last head weight (d ∷ more)
+behind give last head weight d more up none h = record {
+  skipped = d ∷ h.skipped;
+  one = h.one;
+  later = h.later;
+  is = ap (λ ds. d ∷ ds) h.is;
+  id = h.id;
+  gives = h.gives;
+  quiet = (none, h.quiet);
+  above = (up.0, all_mapped (λ (e : ℕ × Document). d.0 < e.0) (λ (e : ℕ × Document). last < e.0) (λ e l. omega (arith, l, up.0)) h.skipped h.above);
+  low = (h.higher, h.low);
+  higher = omega (arith, up.0, h.higher);
+  rises = h.rises;
+}
+
+some_is : (a b : ℕ) → Some a ≡ Some b → a ≡ b
+some_is a b e = ap (λ o. unwrap_or o 0) e
+
+at_step : (give : ℕ → Option ℕ) (last head : ℕ) (d : ℕ × Document) (more : Docs) (o : Option ℕ) → give d.0 ≡ o → RiseAbove last (d ∷ more)
+    → first_id (cons_option (option_map (λ w. (d.0, w)) o) (weighed give more)) ≡ Some head
+    → (first_id (weighed give more) ≡ Some head → AtHead give d.0 head (first_weight (weighed give more)) more)
+    → AtHead give last head (first_weight (cons_option (option_map (λ w. (d.0, w)) o) (weighed give more))) (d ∷ more)
+at_step give last head d more None e up h later = behind give last head (first_weight (weighed give more)) d more up e (later h)
+at_step give last head d more (Some w) e up h later = here give last head w d more up (some_is d.0 head h) e
+
+pub at_head : (give : ℕ → Option ℕ) (last head : ℕ) (rest : Docs) → RiseAbove last rest → first_id (weighed give rest) ≡ Some head → AtHead give last head (first_weight (weighed give rest)) rest
+at_head give last head [] up h = absurd (none_some None head refl h)
+at_head give last head (d ∷ more) up h = at_step give last head d more (give d.0) refl up h (at_head give d.0 head more up.1)
+
+-- no head: nothing is given
+quiet_step : (give : ℕ → Option ℕ) (d : ℕ × Document) (more : Docs) (o : Option ℕ) → give d.0 ≡ o → cons_option (option_map (λ w. (d.0, w)) o) (weighed give more) ≡ []
+    → (weighed give more ≡ [] → AllByRecursion (λ (e : ℕ × Document). give e.0 ≡ None) more) → AllByRecursion (λ (e : ℕ × Document). give e.0 ≡ None) (d ∷ more)
+quiet_step give d more None e none later = (e, later none)
+quiet_step give d more (Some w) e none later = let long : suc (length (weighed give more)) ≡ 0 = ap length none in absurd (omega (arith, long))
+
+all_quiet : (give : ℕ → Option ℕ) (rest : Docs) → weighed give rest ≡ [] → AllByRecursion (λ (d : ℕ × Document). give d.0 ≡ None) rest
+all_quiet give [] none = tt
+all_quiet give (d ∷ more) none = quiet_step give d more (give d.0) refl none (all_quiet give more)
+
+-- ---- matches among documents
+
+module _ (query : Tree) (find : Find) where
+  abbrev cutoff : ℕ
+  cutoff = find.options.cutoff
+
+  abbrev scores : ℕ × Document → Option ℕ
+  scores one = score query find.options.scheme 1 one.1
+
+  abbrev ranked : ℕ × Document → ℕ → Rank
+  ranked one w = record { weight = w; value = value_for find.order one.1; id = one.0 }
+
+  -- a document with what it scores, where it is no less than the cutoff
+  abbrev taken : ℕ × Document → Option ℕ → List Rank
+  taken one None = []
+  taken one (Some w) = cond (nat_le cutoff w) (ranked one w ∷ []) []
+
+  pub found_append : (xs ys : Docs) → found_by query find (xs ++ ys) ≡ found_by query find xs ++ found_by query find ys
+  found_append xs ys =
+      ap (at_least cutoff) (filter_map-append (rank_of query find.options.scheme find.order) xs ys)
+      ∙ filter-append (λ (r : Rank). nat_le cutoff r.weight) (matches query find.options.scheme find.order xs) (matches query find.options.scheme find.order ys)
+
+  onto : (b : Bool) (r : Rank) (rs : List Rank) → cond b (r ∷ rs) rs ≡ cond b (r ∷ []) [] ++ rs
+  onto true r rs = refl
+  onto false r rs = refl
+
+  found_step : (one : ℕ × Document) (more : Docs) (o : Option ℕ) → scores one ≡ o → found_by query find (one ∷ more) ≡ taken one o ++ found_by query find more
+  found_step one more None e = ap (λ o. at_least cutoff (cons_option (option_map (ranked one) o) (matches query find.options.scheme find.order more))) e
+  found_step one more (Some w) e =
+      ap (λ o. at_least cutoff (cons_option (option_map (ranked one) o) (matches query find.options.scheme find.order more))) e
+      ∙ onto (nat_le cutoff w) (ranked one w) (found_by query find more)
+
+  found_one : (one : ℕ × Document) (o : Option ℕ) → scores one ≡ o → found_by query find (one ∷ []) ≡ taken one o
+  found_one one o e = found_step one [] o e ∙ append-nil (taken one o)
+
+  -- ---- documents that are passed over
+
+  module _ (is : Rank → Bool) where
+    abbrev PassesBelow : ℕ → ℕ → Type 0
+    PassesBelow last need = (r : Rank) → r.weight < need → cutoff ≤ r.weight → last < r.id → is r ≡ true
+
+    taken_passed : (one : ℕ × Document) (o : Option ℕ) (last need : ℕ) → PassesBelow last need → last < one.0 → CoversAt o None need → Shown is (taken one o) []
+    taken_passed one None last need pass above covers = refl
+    taken_passed one (Some w) last need pass above covers =
+        elim (nat_le cutoff w) as (λ b. nat_le cutoff w ≡ b → Shown is (cond b (ranked one w ∷ []) []) []) [
+          | true ↦ λ e. inl (pass (ranked one w) covers (is_most cutoff w e) above, refl)
+          | false ↦ λ e. refl
+        ] refl
+
+    pub passed : (give : ℕ → Option ℕ) (last need : ℕ) (docs : Docs) → PassesBelow last need → AllByRecursion (λ (d : ℕ × Document). last < d.0) docs
+        → AllByRecursion (λ (d : ℕ × Document). give d.0 ≡ None) docs → AllByRecursion (λ (d : ℕ × Document). CoversAt (scores d) (give d.0) need) docs
+        → Shown is (found_by query find docs) []
+    passed give last need [] pass above quiet covers = refl
+    passed give last need (d ∷ docs) pass above quiet covers =
+        subst (λ rs. Shown is rs []) (sym (found_step d docs (scores d) refl))
+        (shown_append is (taken d (scores d)) [] (found_by query find docs) []
+        (taken_passed d (scores d) last need pass above.0 (subst (λ o. CoversAt (scores d) o need) quiet.0 covers.0))
+        (passed give last need docs pass above.1 quiet.1 covers.1))
+
+    -- ---- the document at the head
+
+    -- what a search takes of it
+    abbrev offered : ℕ × Document → ℕ → List Rank
+    offered one w = taken one (Some w)
+
+    lighter : (one : ℕ × Document) (v w last need : ℕ) → PassesBelow last need → last < one.0 → v < need → w ≤ v → Shown is (taken one (Some v)) (offered one w)
+    lighter one v w last need pass above less low =
+        elim (nat_le cutoff v) as (λ b. nat_le cutoff v ≡ b → Shown is (cond b (ranked one v ∷ []) []) (offered one w)) [
+          | true ↦ λ e.
+              elim (nat_le cutoff w) as (λ c. nat_le cutoff w ≡ c → Shown is (ranked one v ∷ []) (cond c (ranked one w ∷ []) [])) [
+                | true ↦ λ f. inr (ranked one w, [], refl, refl, inr (pass (ranked one v) less (is_most cutoff v e) above, pass (ranked one w) (omega (arith, less, low)) (is_most cutoff w f) above), refl)
+                | false ↦ λ f. inl (pass (ranked one v) less (is_most cutoff v e) above, refl)
+              ] refl
+          | false ↦ λ e. subst (λ c. cond c (ranked one w ∷ []) [] ≡ []) (sym (too_light w v e low)) refl
+        ] refl
+      where
+        too_light : (w v : ℕ) → nat_le cutoff v ≡ false → w ≤ v → nat_le cutoff w ≡ false
+        too_light w v e l = grind (arith, nat_tests)
+
+    split_need : (v need : ℕ) → (need ≤ v) ⊎ (v < need)
+    split_need v need =
+        elim (nat_le need v) as (λ b. nat_le need v ≡ b → (need ≤ v) ⊎ (v < need)) [
+          | true ↦ λ e. inl (is_most need v e)
+          | false ↦ λ e. inr (not_most need v e)
+        ] refl
+
+    met_by : (one : ℕ × Document) (v w last need : ℕ) → PassesBelow last need → last < one.0 → CoversAt (Some v) (Some w) need → (need ≤ v) ⊎ (v < need) → Shown is (taken one (Some v)) (offered one w)
+    met_by one v w last need pass above covers (inl heavy) = subst (λ u. Shown is (taken one (Some v)) (taken one (Some u))) (sym (covers.1 heavy)) (shown_same is (taken one (Some v)))
+    met_by one v w last need pass above covers (inr light) = lighter one v w last need pass above light covers.0
+
+    pub met : (one : ℕ × Document) (o : Option ℕ) (w last need : ℕ) → PassesBelow last need → last < one.0 → CoversAt o (Some w) need → Shown is (taken one o) (offered one w)
+    met one None w last need pass above covers = absurd covers
+    met one (Some v) w last need pass above covers = met_by one v w last need pass above covers (split_need v need)
+
+  -- ---- where no match is passed over
+
+  no_need : (is : Rank → Bool) (last need : ℕ) → need ≤ cutoff → (r : Rank) → r.weight < need → cutoff ≤ r.weight → last < r.id → is r ≡ true
+  no_need is last need low r less most above = absurd (omega (arith, low, less, most))
+
+  nothing_shown : (xs ys : List Rank) → Shown (λ _. false) xs ys → xs ≡ ys
+  nothing_shown [] ys h = sym h
+  nothing_shown (x ∷ xs) ys (inl h) = absurd (true≢false (sym h.0))
+  nothing_shown (x ∷ xs) ys (inr h) = same_first x h.0 xs h.1 h.4 (nothing_shown xs h.1 h.5) ∙ sym h.2
+    where
+      same_first : (x s : Rank) (xs ys : List Rank) → (s ≡ x) ⊎ ((false ≡ true) × (false ≡ true)) → xs ≡ ys → x ∷ xs ≡ s ∷ ys
+      same_first x s xs ys (inl e) f = ap (λ zs. x ∷ zs) f ∙ ap (λ z. z ∷ ys) (sym e)
+      same_first x s xs ys (inr e) f = absurd (true≢false (sym e.0))
+
+-- ---- a search at its start, as it goes on, and at its end
+
+module _ (query : Tree) (find : Find) (docs : Docs) where
+  abbrev covered : (ℕ → Option ℕ) → ℕ → ℕ × Document → Type 0
+  covered give need one = CoversAt (scores query find one) (give one.0) need
+
+  pub started : (give : ℕ → Option ℕ) → RiseAbove 0 docs → AllByRecursion (λ (one : ℕ × Document). give one.0 ≡ scores query find one) docs → Walk query find docs give 0 []
+  started give up same = record {
+    last = 0;
+    before = [];
+    rest = docs;
+    split = refl;
+    shown = refl;
+    first = refl;
+    exact = λ _. refl;
+    few = λ _. omega arith;
+    quiet = tt;
+    low = tt;
+    under = tt;
+    rises = up;
+    covers = all_mapped (λ (one : ℕ × Document). give one.0 ≡ scores query find one) (covered give 0) (λ one e. subst (λ o. CoversAt (scores query find one) o 0) (sym e) (itself (scores query find one))) docs same;
+    right = inl (omega arith);
+  }
+    where
+      itself : (o : Option ℕ) → CoversAt o o 0
+      itself None = tt
+      itself (Some w) = (omega arith, λ _. refl)
+
+  module _ (give : ℕ → Option ℕ) (need : ℕ) (seen : List Rank) (walk : Walk query find docs give need seen) where
+    -- below the need nothing that is a match enters the page
+    passes : IsFull find docs seen × ((r : Rank) → r.weight < need → walk.last < r.id → IsPassed find docs seen r) → (r : Rank) → r.weight < need → find.options.cutoff ≤ r.weight → walk.last < r.id → IsPassed find docs seen r
+    passes full r less most above = full.1 r less above
+
+    -- the documents up to the head
+    module _ (head weight : ℕ) (at : AtHead give walk.last head weight walk.rest) where
+      abbrev more : List Rank
+      more = taken query find at.one (Some weight)
+
+      abbrev up_to : Docs
+      up_to = (walk.before ++ at.skipped) ++ at.one ∷ []
+
+      covers_rest : AllByRecursion (covered give need) (at.skipped ++ at.one ∷ at.later)
+      covers_rest = subst (AllByRecursion (covered give need)) at.is walk.covers
+
+      covers_skipped : (xs ys : Docs) → AllByRecursion (covered give need) (xs ++ ys) → AllByRecursion (covered give need) xs × AllByRecursion (covered give need) ys
+      covers_skipped [] ys h = (tt, h)
+      covers_skipped (x ∷ xs) ys h = let rest = covers_skipped xs ys h.1 in ((h.0, rest.0), rest.1)
+
+      found_up_to : found_by query find up_to ≡ found_by query find walk.before ++ (found_by query find at.skipped ++ taken query find at.one (scores query find at.one))
+      found_up_to =
+          found_append query find (walk.before ++ at.skipped) (at.one ∷ [])
+          ∙ ap (λ rs. rs ++ found_by query find (at.one ∷ [])) (found_append query find walk.before at.skipped)
+          ∙ append_assoc (found_by query find walk.before) (found_by query find at.skipped) (found_by query find (at.one ∷ []))
+          ∙ ap (λ rs. found_by query find walk.before ++ (found_by query find at.skipped ++ rs)) (found_one query find at.one (scores query find at.one) refl)
+
+      -- what stands between, under any test that what is passed over meets
+      between : (is : Rank → Bool) → ((r : Rank) → r.weight < need → find.options.cutoff ≤ r.weight → walk.last < r.id → is r ≡ true)
+          → Shown is (found_by query find at.skipped ++ taken query find at.one (scores query find at.one)) more
+      between is pass =
+          let both = covers_skipped at.skipped (at.one ∷ at.later) covers_rest in
+          shown_append is (found_by query find at.skipped) [] (taken query find at.one (scores query find at.one)) more
+          (passed query find is give walk.last need at.skipped pass at.above at.quiet both.0)
+          (met query find is at.one (scores query find at.one) weight walk.last need pass (omega (arith, at.higher, at.id)) (subst (λ o. CoversAt (scores query find at.one) o need) at.gives both.1.0))
+
+      -- where all is asked for, all is seen as it is
+      seen_exactly : need ≤ find.options.cutoff → found_by query find up_to ≡ seen ++ more
+      seen_exactly low =
+          found_up_to
+          ∙ ap (λ rs. rs ++ (found_by query find at.skipped ++ taken query find at.one (scores query find at.one))) (walk.exact low)
+          ∙ ap (λ rs. seen ++ rs) (nothing_shown query find (found_by query find at.skipped ++ taken query find at.one (scores query find at.one)) more (between (λ _. false) (no_need query find (λ _. false) walk.last need low)))
+
+      shown_on : (is : Rank → Bool) → IsNeed find docs seen walk.last need → (IsFull find docs seen → (r : Rank) → IsPassed find docs seen r → is r ≡ true) → Shown is (found_by query find up_to) (seen ++ more)
+      shown_on is (inl low) keeps = subst (λ rs. Shown is rs (seen ++ more)) (sym (seen_exactly low)) (shown_same is (seen ++ more))
+      shown_on is (inr full) keeps =
+          subst (λ rs. Shown is rs (seen ++ more)) (sym found_up_to)
+          (shown_append is (found_by query find walk.before) seen (found_by query find at.skipped ++ taken query find at.one (scores query find at.one)) more
+          (shown_weaker (is_behind find.order (held_by find docs seen)) is (keeps full.0) (found_by query find walk.before) seen walk.shown)
+          (between is (λ r less most above. keeps full.0 r (full.1 r less above))))
+
+      enough : (length seen < wanted find) ⊎ (wanted find ≤ length seen)
+      enough = either (wanted find) (length seen)
+        where
+          either : (n m : ℕ) → (m < n) ⊎ (n ≤ m)
+          either n m =
+              elim (nat_le n m) as (λ b. nat_le n m ≡ b → (m < n) ⊎ (n ≤ m)) [
+                | true ↦ λ e. inr (is_most n m e)
+                | false ↦ λ e. inl (not_most n m e)
+              ] refl
+
+      first_on : (length seen < wanted find) ⊎ (wanted find ≤ length seen) → take (wanted find) (found_by query find up_to) ≡ take (wanted find) (seen ++ more)
+      first_on (inl few) = ap (take (wanted find)) (seen_exactly (walk.few few))
+      first_on (inr many) =
+          let long = (shown_beside (is_behind find.order (held_by find docs seen)) (λ _. []) (λ _ _ _. refl) (found_by query find walk.before) seen walk.shown).long in
+          ap (take (wanted find)) found_up_to
+          ∙ take-append-le (wanted find) (found_by query find walk.before) (found_by query find at.skipped ++ taken query find at.one (scores query find at.one)) (omega (arith, many, long))
+          ∙ walk.first
+          ∙ sym (take-append-le (wanted find) seen more many)
+
+      splits : docs ≡ up_to ++ at.later
+      splits =
+          walk.split
+          ∙ ap (λ ds. walk.before ++ ds) at.is
+          ∙ sym (append_assoc walk.before at.skipped (at.one ∷ at.later))
+          ∙ sym (append_assoc (walk.before ++ at.skipped) (at.one ∷ []) at.later)
+
+      -- from the head on nothing is given up to it, and what is behind it is covered
+      module _ (give2 : ℕ → Option ℕ) (need2 : ℕ) (over : (id : ℕ) → CoversAt (cond (nat_le (head + 1) id) (give id) None) (give2 id) need2) where
+        none_given : (id : ℕ) → id ≤ head → give2 id ≡ None
+        none_given id low = none_left (give2 id) (subst (λ (b : Bool). CoversAt (cond b (give id) None) (give2 id) need2) (below id low) (over id))
+          where
+            none_left : (o : Option ℕ) → CoversAt None o need2 → o ≡ None
+            none_left None h = refl
+            none_left (Some w) h = absurd h
+
+            below : (id : ℕ) → id ≤ head → nat_le (head + 1) id ≡ false
+            below id low = grind (arith, nat_tests)
+
+        quiet_at : (ds : Docs) → AllByRecursion (λ (d : ℕ × Document). d.0 ≤ head) ds → AllByRecursion (λ (d : ℕ × Document). give2 d.0 ≡ None) ds
+        quiet_at ds = all_mapped (λ (d : ℕ × Document). d.0 ≤ head) (λ (d : ℕ × Document). give2 d.0 ≡ None) (λ d low. none_given d.0 low) ds
+
+        covers_later : (low : ℕ) (ds : Docs) → head ≤ low → need ≤ need2 → RiseAbove low ds → AllByRecursion (covered give need) ds → AllByRecursion (covered give2 need2) ds
+        covers_later low [] from rise up h = tt
+        covers_later low (d ∷ ds) from rise up h = (
+          covers_then (scores query find d) (give d.0) (give2 d.0) need need2 rise h.0 (subst (λ (b : Bool). CoversAt (cond b (give d.0) None) (give2 d.0) need2) (most_is (head + 1) d.0 (omega (arith, from, up.0))) (over d.0)),
+          covers_later d.0 ds (omega (arith, from, up.0)) rise up.1 h.1,
+        )
+
+        lows : AllByRecursion (λ (d : ℕ × Document). d.0 ≤ head) up_to
+        lows =
+            all_append (λ (d : ℕ × Document). d.0 ≤ head) (walk.before ++ at.skipped) (at.one ∷ [])
+            (all_append (λ (d : ℕ × Document). d.0 ≤ head) walk.before at.skipped
+            (all_mapped (λ (d : ℕ × Document). d.0 ≤ walk.last) (λ (d : ℕ × Document). d.0 ≤ head) (λ d l. omega (arith, l, at.higher)) walk.before walk.low)
+            (all_mapped (λ (d : ℕ × Document). d.0 < head) (λ (d : ℕ × Document). d.0 ≤ head) (λ d l. omega (arith, l)) at.skipped at.low))
+            (omega (arith, at.id), tt)
+
+        under_more : (b : Bool) → AllByRecursion (λ (s : Rank). s.id ≤ head) (cond b (ranked query find at.one weight ∷ []) [])
+        under_more true = (omega (arith, at.id), tt)
+        under_more false = tt
+
+        pub walked : need ≤ need2
+            → (IsFull find docs seen → (r : Rank) → IsPassed find docs seen r → IsPassed find docs (seen ++ more) r)
+            → (length (seen ++ more) < wanted find → need2 ≤ find.options.cutoff)
+            → IsNeed find docs (seen ++ more) head need2
+            → Walk query find docs give2 need2 (seen ++ more)
+        walked rise keeps few right = record {
+          last = head;
+          before = up_to;
+          rest = at.later;
+          split = splits;
+          shown = shown_on (is_behind find.order (held_by find docs (seen ++ more))) walk.right keeps;
+          first = first_on enough;
+          exact = λ low. seen_exactly (omega (arith, low, rise));
+          few = few;
+          quiet = quiet_at up_to lows;
+          low = lows;
+          under =
+              all_append (λ (s : Rank). s.id ≤ head) seen more
+              (all_mapped (λ (s : Rank). s.id ≤ walk.last) (λ (s : Rank). s.id ≤ head) (λ s l. omega (arith, l, at.higher)) seen walk.under)
+              (under_more (nat_le find.options.cutoff weight));
+          rises = at.rises;
+          covers = covers_later head at.later (omega arith) rise at.rises (covers_skipped at.skipped (at.one ∷ at.later) covers_rest).1.1;
+          right = right;
+        }
