@@ -396,3 +396,145 @@ module _ (query : Tree) (find : Find) (docs : Docs) where
           covers = covers_later head at.later (omega arith) rise at.rises (covers_skipped at.skipped (at.one ∷ at.later) covers_rest).1.1;
           right = right;
         }
+
+    -- ---- its end
+
+    abbrev whole : found_by query find docs ≡ found_by query find walk.before ++ found_by query find walk.rest
+    whole = ap (found_by query find) walk.split ∙ found_append query find walk.before walk.rest
+
+    -- where what is left is passed over
+    end_with : (full : (find.options.cutoff < need) → IsFull find docs seen)
+        → Shown (is_behind find.order (held_by find docs seen)) (found_by query find walk.rest) []
+        → (need ≤ find.options.cutoff → (found_by query find walk.rest ≡ []) ⊎ (wanted find ≤ length seen × IsFull find docs seen))
+        → Ended query find docs seen
+    end_with full rest none = ends (nat_le need find.options.cutoff) refl
+      where
+        all_of : List Rank
+        all_of = found_by query find walk.before ++ found_by query find walk.rest
+
+        shown_all : Shown (is_behind find.order (held_by find docs seen)) (found_by query find docs) seen
+        shown_all =
+            subst (λ rs. Shown (is_behind find.order (held_by find docs seen)) rs seen) (sym whole)
+            (subst (Shown (is_behind find.order (held_by find docs seen)) all_of) (append-nil seen)
+            (shown_append (is_behind find.order (held_by find docs seen)) (found_by query find walk.before) seen (found_by query find walk.rest) [] walk.shown rest))
+
+        long_all : length seen ≤ length (found_by query find docs)
+        long_all =
+            let long = (shown_beside (is_behind find.order (held_by find docs seen)) (λ _. []) (λ _ _ _. refl) (found_by query find docs) seen shown_all).long in
+            omega (arith, long)
+
+        long_before : length seen ≤ length (found_by query find walk.before)
+        long_before =
+            let long = (shown_beside (is_behind find.order (held_by find docs seen)) (λ _. []) (λ _ _ _. refl) (found_by query find walk.before) seen walk.shown).long in
+            omega (arith, long)
+
+        first_many : wanted find ≤ length seen → take (wanted find) (found_by query find docs) ≡ take (wanted find) seen
+        first_many many =
+            ap (take (wanted find)) whole
+            ∙ take-append-le (wanted find) (found_by query find walk.before) (found_by query find walk.rest) (omega (arith, many, long_before))
+            ∙ walk.first
+
+        all_exactly : need ≤ find.options.cutoff → found_by query find walk.rest ≡ [] → found_by query find docs ≡ seen
+        all_exactly low none = whole ∙ ap (λ rs. found_by query find walk.before ++ rs) none ∙ append-nil (found_by query find walk.before) ∙ walk.exact low
+
+        many_of : find.options.cutoff < need → wanted find ≤ length seen
+        many_of high =
+            elim (nat_le (wanted find) (length seen)) as (λ b. nat_le (wanted find) (length seen) ≡ b → wanted find ≤ length seen) [
+              | true ↦ λ e. is_most (wanted find) (length seen) e
+              | false ↦ λ e. let low = walk.few (not_most (wanted find) (length seen) e) in absurd (omega (arith, low, high))
+            ] refl
+
+        all_there : found_by query find docs ≡ seen → Ended query find docs seen
+        all_there same = record { shown = shown_all; first = ap (take (wanted find)) same; full = inl same; exact = λ _. same }
+
+        some_there : wanted find ≤ length seen → IsFull find docs seen → Ended query find docs seen
+        some_there many full = record { shown = shown_all; first = first_many many; full = inr full; exact = λ few. absurd (omega (arith, few, many, long_all)) }
+
+        either : need ≤ find.options.cutoff → (found_by query find walk.rest ≡ []) ⊎ (wanted find ≤ length seen × IsFull find docs seen) → Ended query find docs seen
+        either low (inl none) = all_there (all_exactly low none)
+        either low (inr both) = some_there both.0 both.1
+
+        ends : (b : Bool) → nat_le need find.options.cutoff ≡ b → Ended query find docs seen
+        ends true e = let low = is_most need find.options.cutoff e in either low (none low)
+        ends false e = let high = not_most need find.options.cutoff e in some_there (many_of high) (full high)
+
+    full_of : IsNeed find docs seen walk.last need → find.options.cutoff < need → IsFull find docs seen
+    full_of (inl low) high = absurd (omega (arith, low, high))
+    full_of (inr full) high = full.0
+
+    passes_of : IsNeed find docs seen walk.last need → (r : Rank) → r.weight < need → find.options.cutoff ≤ r.weight → walk.last < r.id → is_behind find.order (held_by find docs seen) r ≡ true
+    passes_of (inl low) r less most above = absurd (omega (arith, low, less, most))
+    passes_of (inr full) r less most above = full.1 r less above
+
+    above_all : (low : ℕ) (ds : Docs) → walk.last ≤ low → RiseAbove low ds → AllByRecursion (λ (d : ℕ × Document). walk.last < d.0) ds
+    above_all low [] from up = tt
+    above_all low (d ∷ ds) from up = (omega (arith, from, up.0), above_all d.0 ds (omega (arith, from, up.0)) up.1)
+
+    -- nothing is given any more
+    quiet_rest : weighed give docs ≡ [] → AllByRecursion (λ (d : ℕ × Document). give d.0 ≡ None) walk.rest
+    quiet_rest none = all_quiet give walk.rest (sym (ap (weighed give) walk.split ∙ weighed_behind give walk.before walk.rest walk.quiet) ∙ none)
+
+    rest_exactly : weighed give docs ≡ [] → need ≤ find.options.cutoff → found_by query find walk.rest ≡ []
+    rest_exactly none low =
+        nothing_shown query find (found_by query find walk.rest) []
+        (passed query find (λ _. false) give walk.last need walk.rest (no_need query find (λ _. false) walk.last need low)
+        (above_all walk.last walk.rest (omega arith) walk.rises) (quiet_rest none) walk.covers)
+
+    pub ended_at_end : weighed give docs ≡ [] → Ended query find docs seen
+    ended_at_end none =
+        end_with (full_of walk.right)
+        (passed query find (is_behind find.order (held_by find docs seen)) give walk.last need walk.rest (passes_of walk.right)
+        (above_all walk.last walk.rest (omega arith) walk.rises) (quiet_rest none) walk.covers)
+        (λ low. inl (rest_exactly none low))
+
+    -- all was asked for, and nothing is given any more: all was seen as it is
+    pub all_at_end : weighed give docs ≡ [] → need ≤ find.options.cutoff → found_by query find docs ≡ seen
+    all_at_end none low = whole ∙ ap (λ rs. found_by query find walk.before ++ rs) (rest_exactly none low) ∙ append-nil (found_by query find walk.before) ∙ walk.exact low
+
+    -- nothing that is given weighs more than the ceiling
+    module _ (ceiling : ℕ) (most : (id : ℕ) → unwrap_or (give id) 0 ≤ ceiling) where
+      module _ (is : Rank → Bool) (light : (r : Rank) → r.weight < need → find.options.cutoff ≤ r.weight → walk.last < r.id → is r ≡ true)
+        (under : (r : Rank) → r.weight ≤ ceiling → find.options.cutoff ≤ r.weight → walk.last < r.id → is r ≡ true) where
+        taken_under : (one : ℕ × Document) (v : ℕ) → walk.last < one.0 → (v ≤ ceiling) ⊎ (v < need) → Shown is (taken query find one (Some v)) []
+        taken_under one v above h =
+            elim (nat_le find.options.cutoff v) as (λ b. nat_le find.options.cutoff v ≡ b → Shown is (cond b (ranked query find one v ∷ []) []) []) [
+              | true ↦ λ e. inl (by h (is_most find.options.cutoff v e), refl)
+              | false ↦ λ e. refl
+            ] refl
+          where
+            by : (v ≤ ceiling) ⊎ (v < need) → find.options.cutoff ≤ v → is (ranked query find one v) ≡ true
+            by (inl low) cut = under (ranked query find one v) low cut above
+            by (inr less) cut = light (ranked query find one v) less cut above
+
+        which : (v : ℕ) (o : Option ℕ) → CoversAt (Some v) o need → unwrap_or o 0 ≤ ceiling → (need ≤ v) ⊎ (v < need) → (v ≤ ceiling) ⊎ (v < need)
+        which v None covers low h = inr covers
+        which v (Some w) covers low (inl heavy) = let same = covers.1 heavy in inl (omega (arith, same, low))
+        which v (Some w) covers low (inr less) = inr less
+
+        taken_any : (one : ℕ × Document) (o : Option ℕ) → walk.last < one.0 → CoversAt o (give one.0) need → Shown is (taken query find one o) []
+        taken_any one None above covers = refl
+        taken_any one (Some v) above covers = taken_under one v above (which v (give one.0) covers (most one.0) (split_need query find is v need))
+
+        all_under : (ds : Docs) → AllByRecursion (λ (d : ℕ × Document). walk.last < d.0) ds → AllByRecursion (covered give need) ds → Shown is (found_by query find ds) []
+        all_under [] above covers = refl
+        all_under (d ∷ ds) above covers =
+            subst (λ rs. Shown is rs []) (sym (found_step query find d ds (scores query find d) refl))
+            (shown_append is (taken query find d (scores query find d)) [] (found_by query find ds) [] (taken_any d (scores query find d) above.0 covers.0) (all_under ds above.1 covers.1))
+
+      -- nothing can weigh as much as the cutoff
+      pub ended_below : ceiling < find.options.cutoff → Ended query find docs seen
+      ended_below low =
+          end_with (full_of walk.right)
+          (all_under (is_behind find.order (held_by find docs seen)) (passes_of walk.right) (λ r at cut above. absurd (omega (arith, low, at, cut)))
+          walk.rest (above_all walk.last walk.rest (omega arith) walk.rises) walk.covers)
+          (λ free. inl (nothing_shown query find (found_by query find walk.rest) []
+          (all_under (λ _. false) (no_need query find (λ _. false) walk.last need free) (λ r at cut above. absurd (omega (arith, low, at, cut)))
+          walk.rest (above_all walk.last walk.rest (omega arith) walk.rises) walk.covers)))
+
+      -- enough was seen, and nothing can enter the page
+      pub ended_settled : wanted find ≤ length seen → IsFull find docs seen → ((r : Rank) → r.weight ≤ ceiling → walk.last < r.id → IsPassed find docs seen r) → Ended query find docs seen
+      ended_settled many full under =
+          end_with (full_of walk.right)
+          (all_under (is_behind find.order (held_by find docs seen)) (passes_of walk.right) (λ r at cut above. under r at above)
+          walk.rest (above_all walk.last walk.rest (omega arith) walk.rises) walk.covers)
+          (λ free. inr (many, full))
