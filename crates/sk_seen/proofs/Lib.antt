@@ -1,3 +1,4 @@
 pub mod ShownLaws
 pub mod FrontLaws
 pub mod WalkLaws
+pub mod ToldLaws

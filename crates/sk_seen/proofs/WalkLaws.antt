@@ -531,6 +531,17 @@ module _ (query : Tree) (find : Find) (docs : Docs) where
           (all_under (λ _. false) (no_need query find (λ _. false) walk.last need free) (λ r at cut above. absurd (omega (arith, low, at, cut)))
           walk.rest (above_all walk.last walk.rest (omega arith) walk.rises) walk.covers)))
 
+      -- and all was asked for: all was seen as it is
+      pub all_below : ceiling < find.options.cutoff → need ≤ find.options.cutoff → found_by query find docs ≡ seen
+      all_below low free =
+          whole
+          ∙ ap (λ rs. found_by query find walk.before ++ rs)
+          (nothing_shown query find (found_by query find walk.rest) []
+          (all_under (λ _. false) (no_need query find (λ _. false) walk.last need free) (λ r at cut above. absurd (omega (arith, low, at, cut)))
+          walk.rest (above_all walk.last walk.rest (omega arith) walk.rises) walk.covers))
+          ∙ append-nil (found_by query find walk.before)
+          ∙ walk.exact free
+
       -- enough was seen, and nothing can enter the page
       pub ended_settled : wanted find ≤ length seen → IsFull find docs seen → ((r : Rank) → r.weight ≤ ceiling → walk.last < r.id → IsPassed find docs seen r) → Ended query find docs seen
       ended_settled many full under =
