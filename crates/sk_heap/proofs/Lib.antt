@@ -1,0 +1,5 @@
+mod HeapLemmas
+mod BestLemmas
+mod CallLemmas
+pub mod HeapLaws
+mod Examples

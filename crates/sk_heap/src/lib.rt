@@ -1,0 +1,13 @@
+//! The best hits of those that were offered, and when one cannot be among them.
+#![tactic(auto)]
+
+mod heap;
+mod hit;
+mod laws;
+mod sift;
+#[cfg(test)]
+mod tests;
+
+pub use heap::ResultHeap;
+pub use hit::Hit;
+pub use laws::{best_of_all, falls_out, need_keeps_out, need_never_falls, ranks_in_order};
