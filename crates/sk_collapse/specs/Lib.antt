@@ -1,0 +1,2 @@
+pub mod Collapsed
+pub mod Verdicts
