@@ -1,8 +1,6 @@
 //! Which matches are kept of those that have the same key.
 #![tactic(auto)]
 
-mod collapser;
 mod verdict;
 
-pub use collapser::Collapser;
 pub use verdict::Verdict;
