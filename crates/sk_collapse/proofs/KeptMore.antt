@@ -99,6 +99,14 @@ module _ (most : ℕ) (key : Rank → List ℕ) where
         | false ↦ strict_kept order b xs s.1
       ]
 
+  pub distinct_kept : (b : List (List ℕ)) (xs : List Rank) → Distinct xs → Distinct (Kept b xs)
+  distinct_kept b [] d = tt
+  distinct_kept b (x ∷ xs) d =
+      elim (is_kept most (key x) b) as (λ i. Distinct (cond i (x ∷ Kept (key x ∷ b) xs) (Kept b xs))) [
+        | true ↦ (each_kept (λ y. x.id ≢ y.id) (key x ∷ b) xs d.0, distinct_kept (key x ∷ b) xs d.1)
+        | false ↦ distinct_kept b xs d.1
+      ]
+
   -- it hangs on how often each key stands before, the empty one left out
   kept_same : (b c : List (List ℕ)) → ((j : List ℕ) → IsEmpty j ≡ false → Count j b ≡ Count j c) → (xs : List Rank) → Kept b xs ≡ Kept c xs
   kept_same b c e [] = refl

@@ -1,2 +1,3 @@
 pub mod PlacedLaws
 pub mod KeptMore
+pub mod CollapseLaws

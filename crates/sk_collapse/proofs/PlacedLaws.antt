@@ -139,6 +139,19 @@ module _ (order : Order) where
   distinct_best [] d = tt
   distinct_best (x ∷ xs) d = distinct_placed x (best_first order xs) (each_best (λ y. x.id ≢ y.id) order xs d.0) (distinct_best xs d.1)
 
+  pub strict_filter : (test : Rank → Bool) (xs : List Rank) → Strict order xs → Strict order (filter test xs)
+  strict_filter test [] s = tt
+  strict_filter test (x ∷ xs) s =
+      elim (test x) as (λ b. Strict order (cond b (x ∷ filter test xs) (filter test xs))) [
+        | true ↦ (each_filter (λ y. is_before order x y ≡ true) test xs s.0, strict_filter test xs s.1)
+        | false ↦ strict_filter test xs s.1
+      ]
+
+  pub strict_take : (n : ℕ) (xs : List Rank) → Strict order xs → Strict order (take n xs)
+  strict_take zero xs s = tt
+  strict_take (suc n) [] s = tt
+  strict_take (suc n) (x ∷ xs) s = (each_take (λ y. is_before order x y ≡ true) n xs s.0, strict_take n xs s.1)
+
 -- ---- the first of a list
 
 abbrev pub no_match : List Rank

@@ -1,0 +1,290 @@
+-- What a collapser knows after one match more, and what it tells.
+use Rattle.std.proofs.Common.{◌≡◌, ◌≢◌, ◌<◌, ◌≤◌, ◌+◌, ◌-◌, ℕ, zero, suc, min, Bool, true, false, cond, not, ◌||◌, ◌==◌, nat_lt, List, [], ◌∷◌, length, take, drop, filter, get_or, count_by, bytes_eq, All, AllPairs, Option, Some, None, refl, sym, ap, ◌∙◌, subst, arith, true≢false, length-take, length-drop}
+use Rattle.std.specs.List.{AllByRecursion, IsAmong}
+use Rattle.std.proofs.lemmas.Bool.Decides.{nat_tests}
+use Rattle.std.proofs.lemmas.List.Elements.{All-from_recursion, recursion_from_All}
+use Rattle.std.proofs.lemmas.List.Sums.{sum_by-cons}
+use Rattle.std.proofs.lemmas.List.Kept.{AllPairs-cons}
+use Rattle.std.specs.Cmp.Lexicographic.{bytes_decides}
+use Rattle.sk_base.specs.declared.find.Collapse.{Collapse}
+use Rattle.sk_base.specs.declared.rank.Rank.{Rank}
+use Rattle.sk_base.specs.declared.rank.Order.{Order}
+use Rattle.sk_base.specs.Before.{is_before}
+use Rattle.sk_model.specs.Page.{place, best_first, is_kept, kept_behind, kept, count_key, dropped}
+use Rattle.sk_model.specs.Laws.{kept_number, kept_first}
+use Rattle.sk_model.proofs.KeptLaws.{kept_each, kept_of_key}
+use Rattle.sk_model.proofs.OrderLaws.{length-best_first}
+use Rattle.sk_collapse.specs.Collapsed.{Collapsed, Group, Knows, group_of, kept_in, dropped_in}
+use Rattle.sk_collapse.specs.Verdicts.{Judges, without_rank}
+use Rattle.sk_collapse.specs.declared.verdict.Verdict.{Verdict}
+use Rattle.sk_collapse.specs.declared.verdict.Verdict.TheVariants as Verdict
+use Rattle.sk_collapse.proofs.PlacedLaws.{same_number, number_same, other_number, each_filter, each_take, each_drop, each_placed, each_best, each_map, Apart, Leads, Strict, Distinct, leads_through, one_first, place_front, place_behind, place_before, strict_placed, strict_best, strict_filter, strict_take, distinct_best, take_nil, drop_nil, take_placed, take_twice, take_less, without, is_gone, without_none, without_kept, without_self, without_first, without_apart, without_placed}
+use Rattle.sk_collapse.proofs.KeptMore.{each_kept, strict_kept, distinct_kept, free_placed, moves, own_placed, other_placed}
+
+-- ---- ids that differ
+
+apart_tail : (x : Rank) (xs : List Rank) → AllPairs (λ x y. x.id ≢ y.id) (x ∷ xs) → AllPairs (λ x y. x.id ≢ y.id) xs
+apart_tail x xs h = λ i j d l m. h (suc i) (suc j) d (omega (arith, l)) (omega (arith, m))
+
+apart_head : (x : Rank) (xs : List Rank) → AllPairs (λ x y. x.id ≢ y.id) (x ∷ xs) → All (λ y. x.id ≢ y.id) xs
+apart_head x xs h = λ k d l. h 0 (suc k) d (omega arith) (omega (arith, l))
+
+pub distinct_from : (xs : List Rank) → AllPairs (λ x y. x.id ≢ y.id) xs → Distinct xs
+distinct_from [] h = tt
+distinct_from (x ∷ xs) h = (recursion_from_All (λ y. x.id ≢ y.id) xs (apart_head x xs h), distinct_from xs (apart_tail x xs h))
+
+pub apart_from : (x : Rank) (xs : List Rank) → All (λ r. r.id ≢ x.id) xs → Apart x xs
+apart_from x xs h = each_map (λ r. r.id ≢ x.id) (λ r. x.id ≢ r.id) xs (λ r f e. f (sym e)) (recursion_from_All (λ r. r.id ≢ x.id) xs h)
+
+pub differ_more : (x : Rank) (xs : List Rank) → AllPairs (λ x y. x.id ≢ y.id) xs → All (λ r. r.id ≢ x.id) xs → AllPairs (λ x y. x.id ≢ y.id) (x ∷ xs)
+differ_more x xs h a = AllPairs-cons (λ x y. x.id ≢ y.id) x xs (λ k d l e. a k d l (sym e)) h
+
+-- ---- one of a list
+
+each_among : (xs : List Rank) → AllByRecursion (λ y. IsAmong xs y) xs
+each_among [] = tt
+each_among (x ∷ xs) =
+    ((0, (omega arith, refl)), each_map (λ y. IsAmong xs y) (λ y. IsAmong (x ∷ xs) y) xs (λ y m. (suc m.0, (omega (arith, m.1.0), m.1.1))) (each_among xs))
+
+each_passes : (test : Rank → Bool) (xs : List Rank) → AllByRecursion (λ y. test y ≡ true) (filter test xs)
+each_passes test [] = tt
+each_passes test (x ∷ xs) =
+    elim (test x) as (λ b. test x ≡ b → AllByRecursion (λ y. test y ≡ true) (cond b (x ∷ filter test xs) (filter test xs))) [
+      | true ↦ λ e. (e, each_passes test xs)
+      | false ↦ λ e. each_passes test xs
+    ] refl
+
+each_both : (P Q : Rank → Type 0) (xs : List Rank) → AllByRecursion P xs → AllByRecursion Q xs → AllByRecursion (λ y. P y × Q y) xs
+each_both P Q [] h g = tt
+each_both P Q (x ∷ xs) h g = ((h.0, g.0), each_both P Q xs h.1 g.1)
+
+among_apart : (x z : Rank) (xs : List Rank) → Apart x xs → IsAmong xs z → x.id ≢ z.id
+among_apart x z xs a m e = All-from_recursion (λ y. x.id ≢ y.id) xs a m.0 z m.1.0 (e ∙ ap (λ (y : Rank). y.id) m.1.1)
+
+length-place : (order : Order) (x : Rank) (ys : List Rank) → length (place order x ys) ≡ suc (length ys)
+length-place order x [] = refl
+length-place order x (y ∷ ys) =
+    elim (is_before order x y) as (λ b. length (cond b (x ∷ y ∷ ys) (y ∷ place order x ys)) ≡ suc (suc (length ys))) [
+      | true ↦ refl
+      | false ↦ ap suc (length-place order x ys)
+    ]
+
+-- without one of them there is one less
+pub length-without_rank : (z : Rank) (xs : List Rank) → Distinct xs → IsAmong xs z → suc (length (without_rank z.id xs)) ≡ length xs
+length-without_rank z xs d m = less xs d m.0 m.1.0 m.1.1
+  where
+    less : (xs : List Rank) → Distinct xs → (i : ℕ) → i < length xs → z ≡ get_or xs i z → suc (length (without_rank z.id xs)) ≡ length xs
+    less [] d i l e = absurd (omega (arith, l))
+    less (h ∷ t) d zero l e =
+        let same : h ≡ z = sym e in
+        ap (λ b. suc (length (cond (not b) (h ∷ without_rank z.id t) (without_rank z.id t)))) (same_number h.id z.id (ap (λ (y : Rank). y.id) same))
+        ∙ ap (λ ys. suc (length ys)) (without_apart z [] t (subst (λ (y : Rank). Apart y t) same d.0))
+    less (h ∷ t) d (suc i) l e =
+        let there : IsAmong t z = (i, (omega (arith, l), e)) in
+        ap (λ b. suc (length (cond (not b) (h ∷ without_rank z.id t) (without_rank z.id t)))) (other_number h.id z.id (among_apart h z t d.0 there))
+        ∙ ap suc (less t d.1 i (omega (arith, l)) e)
+
+-- what stands behind the place of x, x itself aside, comes behind x
+fallen : (order : Order) (P : Rank → Type 0) (x : Rank) (n : ℕ) (ys : List Rank) → length ys ≤ n → Strict order ys → AllByRecursion P ys
+    → AllByRecursion (λ z. z.id ≢ x.id → P z × (is_before order x z ≡ true)) (drop n (place order x ys))
+fallen order P x n [] few s h = each_drop (λ z. z.id ≢ x.id → P z × (is_before order x z ≡ true)) n (x ∷ []) ((λ f. absurd (f refl)), tt)
+fallen order P x zero (y ∷ ys) few s h = absurd (omega (arith, few))
+fallen order P x (suc n) (y ∷ ys) few s h =
+    elim (is_before order x y) as (λ b. is_before order x y ≡ b → AllByRecursion (λ z. z.id ≢ x.id → P z × (is_before order x z ≡ true)) (drop (suc n) (cond b (x ∷ y ∷ ys) (y ∷ place order x ys)))) [
+      | true ↦ λ e.
+        each_drop (λ z. z.id ≢ x.id → P z × (is_before order x z ≡ true)) n (y ∷ ys)
+        (each_map (λ z. P z × (is_before order x z ≡ true)) (λ z. z.id ≢ x.id → P z × (is_before order x z ≡ true)) (y ∷ ys) (λ z g f. g)
+          (each_both P (λ z. is_before order x z ≡ true) (y ∷ ys) h (e, leads_through order x y ys e s.0)))
+      | false ↦ λ e. fallen order P x n ys (omega (arith, few)) s.1 h.1
+    ] refl
+
+-- placed and taken out again
+without_itself : (order : Order) (x : Rank) (zs ys : List Rank) → Apart x ys → without (x ∷ zs) (place order x ys) ≡ ys
+without_itself order x zs [] a = without_first x zs [] a
+without_itself order x zs (y ∷ ys) a =
+    elim (is_before order x y) as (λ b. without (x ∷ zs) (cond b (x ∷ y ∷ ys) (y ∷ place order x ys)) ≡ y ∷ ys) [
+      | true ↦ without_first x zs (y ∷ ys) a
+      | false ↦
+        ap (λ b. cond (not b) (y ∷ without (x ∷ zs) (place order x ys)) (without (x ∷ zs) (place order x ys))) (other_number y.id x.id (λ e. a.0 (sym e)))
+        ∙ ap (λ ws. y ∷ ws) (without_itself order x zs ys a.1)
+    ]
+
+without_like : (x z : Rank) (zs ys : List Rank) → z.id ≡ x.id → without (z ∷ zs) ys ≡ without (x ∷ zs) ys
+without_like x z zs ys e = ap (λ i. filter (λ y. not (y.id == i)) ys) e
+
+-- ---- counts
+
+count_more : (key : Rank → List ℕ) (k : List ℕ) (x : Rank) (xs : List Rank) → count_key key k (x ∷ xs) ≡ cond (bytes_eq (key x) k) 1 0 + count_key key k xs
+count_more key k x xs = sum_by-cons (λ y. cond (bytes_eq (key y) k) 1 0) x xs
+
+count_own : (key : Rank → List ℕ) (k : List ℕ) (xs : List Rank) → length (filter (λ y. bytes_eq (key y) k) xs) ≡ count_key key k xs
+count_own key k [] = refl
+count_own key k (x ∷ xs) =
+    elim (bytes_eq (key x) k) as (λ b. length (cond b (x ∷ filter (λ y. bytes_eq (key y) k) xs) (filter (λ y. bytes_eq (key y) k) xs)) ≡ cond b 1 0 + count_key key k xs) [
+      | true ↦ ap suc (count_own key k xs) ∙ omega arith
+      | false ↦ count_own key k xs ∙ omega arith
+    ] ∙ sym (count_more key k x xs)
+
+count_placed : (order : Order) (key : Rank → List ℕ) (k : List ℕ) (x : Rank) (xs : List Rank) → count_key key k (place order x xs) ≡ count_key key k (x ∷ xs)
+count_placed order key k x [] = refl
+count_placed order key k x (y ∷ ys) =
+    elim (is_before order x y) as (λ b. count_key key k (cond b (x ∷ y ∷ ys) (y ∷ place order x ys)) ≡ count_key key k (x ∷ y ∷ ys)) [
+      | true ↦ refl
+      | false ↦ omega (arith, count_more key k y (place order x ys), count_placed order key k x ys, count_more key k x ys, count_more key k x (y ∷ ys), count_more key k y ys)
+    ]
+
+count_best : (order : Order) (key : Rank → List ℕ) (k : List ℕ) (xs : List Rank) → count_key key k (best_first order xs) ≡ count_key key k xs
+count_best order key k [] = refl
+count_best order key k (x ∷ xs) =
+    count_placed order key k x (best_first order xs) ∙ count_more key k x (best_first order xs) ∙ ap (λ n. cond (bytes_eq (key x) k) 1 0 + n) (count_best order key k xs) ∙ sym (count_more key k x xs)
+
+-- so many are dropped of so many
+module _ (order : Order) (most : ℕ) (key : Rank → List ℕ) (k : List ℕ) (ranks : List Rank) where
+  by_key : count_key key k (kept_in order most key ranks) ≡ kept_number most k (count_key key k ranks)
+  by_key = kept_each order (record { slot = 0; max = most }) key k ranks
+
+  none_dropped : (length k == 0) ≡ true → dropped_in order most key k ranks ≡ 0
+  none_dropped e = ap (λ b. cond b 0 (count_key key k ranks - count_key key k (kept_in order most key ranks))) e
+
+  some_dropped : (length k == 0) ≡ false → dropped_in order most key k ranks ≡ count_key key k ranks - min most (count_key key k ranks)
+  some_dropped e =
+      ap (λ b. cond b 0 (count_key key k ranks - count_key key k (kept_in order most key ranks))) e
+      ∙ ap (λ n. count_key key k ranks - n) (by_key ∙ ap (λ b. cond b (count_key key k ranks) (min most (count_key key k ranks))) e)
+
+  length-group : length (take most (filter (λ y. bytes_eq (key y) k) (best_first order ranks))) ≡ min most (count_key key k ranks)
+  length-group = length-take most (filter (λ y. bytes_eq (key y) k) (best_first order ranks)) ∙ ap (min most) (count_own key k (best_first order ranks) ∙ count_best order key k ranks)
+
+-- ---- one match more
+
+module _ (order : Order) (most : ℕ) (key : Rank → List ℕ) (ranks : List Rank) (x : Rank)
+    (differ : AllPairs (λ x y. x.id ≢ y.id) ranks) (apart : All (λ r. r.id ≢ x.id) ranks) where
+  abbrev Sorted : List Rank
+  Sorted = best_first order ranks
+
+  abbrev Before : List Rank
+  Before = kept_in order most key ranks
+
+  abbrev After : List Rank
+  After = kept_in order most key (x ∷ ranks)
+
+  -- the kept ones of its key
+  abbrev Best : List Rank
+  Best = take most (filter (λ y. bytes_eq (key y) (key x)) Sorted)
+
+  abbrev Gone : List Rank
+  Gone = drop most (place order x Best)
+
+  sorted : Strict order Sorted
+  sorted = strict_best order ranks (distinct_from ranks differ)
+
+  distinct : Distinct Sorted
+  distinct = distinct_best order ranks (distinct_from ranks differ)
+
+  sorted_apart : Apart x Sorted
+  sorted_apart = each_best (λ y. x.id ≢ y.id) order ranks (apart_from x ranks apart)
+
+  before_apart : Apart x Before
+  before_apart = each_kept most key (λ y. x.id ≢ y.id) [] Sorted sorted_apart
+
+  -- under the empty key it comes to the kept ones
+  pub judged_empty : (length (key x) == 0) ≡ true → After ≡ place order x Before
+  judged_empty none = free_placed most key order x none [] Sorted sorted
+
+  module _ (some : (length (key x) == 0) ≡ false) where
+    after_is : After ≡ without Gone (place order x Before)
+    after_is = moves most key (key x) some order x ((bytes_decides (key x) (key x)).1 refl) [] most (omega arith) Sorted sorted distinct sorted_apart
+
+    -- nothing falls out: it comes to them
+    pub judged_keep : Gone ≡ [] → After ≡ place order x Before
+    judged_keep e = after_is ∙ ap (λ g. without g (place order x Before)) e ∙ without_none (place order x Before)
+
+    -- it falls out itself
+    pub judged_drop : (z : Rank) (zs : List Rank) → Gone ≡ z ∷ zs → z.id ≡ x.id → After ≡ Before
+    judged_drop z zs e same =
+        after_is ∙ ap (λ g. without g (place order x Before)) e ∙ without_like x z zs (place order x Before) same ∙ without_itself order x zs Before before_apart
+
+    best_kept : filter (λ y. bytes_eq (key y) (key x)) Before ≡ Best
+    best_kept =
+        kept_of_key order (record { slot = 0; max = most }) key (key x) ranks
+        ∙ ap (λ b. cond b (filter (λ y. bytes_eq (key y) (key x)) Sorted) Best) some
+
+    strict_own : Strict order Best
+    strict_own = strict_take order most (filter (λ y. bytes_eq (key y) (key x)) Sorted) (strict_filter order (λ y. bytes_eq (key y) (key x)) Sorted sorted)
+
+    length-best : length Best ≡ min most (count_key key (key x) ranks)
+    length-best = length-group order most key (key x) ranks
+
+    -- what falls out, itself aside, was kept, has its key, and comes behind it
+    gone_is : (z : Rank) (zs : List Rank) → Gone ≡ z ∷ zs → z.id ≢ x.id → (IsAmong Before z × (bytes_eq (key z) (key x) ≡ true)) × (is_before order x z ≡ true)
+    gone_is z zs e other =
+        let known : AllByRecursion (λ y. IsAmong Before y × (bytes_eq (key y) (key x) ≡ true)) (filter (λ y. bytes_eq (key y) (key x)) Before) =
+        each_both (λ y. IsAmong Before y) (λ y. bytes_eq (key y) (key x) ≡ true) (filter (λ y. bytes_eq (key y) (key x)) Before)
+        (each_filter (λ y. IsAmong Before y) (λ y. bytes_eq (key y) (key x)) Before (each_among Before)) (each_passes (λ y. bytes_eq (key y) (key x)) Before) in
+        let all = fallen order (λ y. IsAmong Before y × (bytes_eq (key y) (key x) ≡ true)) x most Best (omega (arith, length-best)) strict_own
+        (subst (λ (ys : List Rank). AllByRecursion (λ y. IsAmong Before y × (bytes_eq (key y) (key x) ≡ true)) ys) best_kept known) in
+        let one = subst (λ (ys : List Rank). AllByRecursion (λ y. y.id ≢ x.id → (IsAmong Before y × (bytes_eq (key y) (key x) ≡ true)) × (is_before order x y ≡ true)) ys) e all in
+        one.0 other
+
+    -- another falls out: it comes in its place
+    pub judged_for : (z : Rank) (zs : List Rank) → Gone ≡ z ∷ zs → z.id ≢ x.id → Judges (Verdict.KeepFor z.id) order key x Before After
+    judged_for z zs e other =
+        let known = gone_is z zs e other in
+        (z, refl, known.0.0, (bytes_decides (key z) (key x)).0 known.0.1, known.1,
+          after_is ∙ ap (λ g. without g (place order x Before)) e ∙ without_placed order z x zs Before (λ f. other (sym f)) (strict_kept most key order [] Sorted sorted))
+
+    distinct_before : Distinct Before
+    distinct_before = distinct_kept most key [] Sorted distinct
+
+    length-gone : length Gone ≡ suc (min most (count_key key (key x) ranks)) - most
+    length-gone = length-drop most (place order x Best) ∙ ap (λ n. n - most) (length-place order x Best ∙ ap suc length-best)
+
+    -- how many are kept
+    after_kept : (gone : List Rank) → Gone ≡ gone → length After + length gone ≡ suc (length Before)
+    after_kept [] e = let both = ap (λ (ys : List Rank). length ys) (judged_keep e) ∙ length-place order x Before in omega (arith, both)
+    after_kept (z ∷ zs) e =
+        let one : suc (length zs) ≡ suc (min most (count_key key (key x) ranks)) - most = sym (ap (λ (ys : List Rank). length ys) e) ∙ length-gone in
+        elim (z.id == x.id) as (λ b. (z.id == x.id) ≡ b → length After + suc (length zs) ≡ suc (length Before)) [
+          | true ↦ λ same.
+            let both : length After ≡ length Before = ap (λ (ys : List Rank). length ys) (judged_drop z zs e (number_same z.id x.id same)) in
+            omega (arith, both, one)
+          | false ↦ λ other.
+            let apart : z.id ≢ x.id = λ f. true≢false (sym (same_number z.id x.id f) ∙ other) in
+            let there = judged_for z zs e apart in
+            let less : suc (length (without_rank z.id Before)) ≡ length Before = length-without_rank z Before distinct_before (gone_is z zs e apart).0.0 in
+            let both : length After ≡ suc (length (without_rank z.id Before)) = ap (λ (ys : List Rank). length ys) there.5 ∙ length-place order x (without_rank z.id Before) in
+            omega (arith, less, both, one)
+        ] refl
+
+    -- the best of its key
+    best_more : take most (filter (λ y. bytes_eq (key y) (key x)) (best_first order (x ∷ ranks))) ≡ take most (place order x Best)
+    best_more =
+        ap (take most) (own_placed most key (key x) some order x ((bytes_decides (key x) (key x)).1 refl) Sorted sorted)
+        ∙ take_placed order most x (filter (λ y. bytes_eq (key y) (key x)) Sorted)
+
+    -- how many of its key are dropped
+    dropped_more : dropped_in order most key (key x) (x ∷ ranks) ≡ dropped_in order most key (key x) ranks + length Gone
+    dropped_more =
+        let more : count_key key (key x) (x ∷ ranks) ≡ 1 + count_key key (key x) ranks =
+        count_more key (key x) x ranks ∙ ap (λ b. cond b 1 0 + count_key key (key x) ranks) ((bytes_decides (key x) (key x)).1 refl) in
+        omega (arith, some_dropped order most key (key x) (x ∷ ranks) some, some_dropped order most key (key x) ranks some, length-gone, more)
+
+  -- of other keys nothing changes
+  module _ (k : List ℕ) (other : bytes_eq (key x) k ≡ false) where
+    best_other : take most (filter (λ y. bytes_eq (key y) k) (best_first order (x ∷ ranks))) ≡ take most (filter (λ y. bytes_eq (key y) k) Sorted)
+    best_other = ap (take most) (other_placed most key order k x other Sorted)
+
+    same_count : count_key key k (x ∷ ranks) ≡ count_key key k ranks
+    same_count = count_more key k x ranks ∙ ap (λ b. cond b 1 0 + count_key key k ranks) other ∙ omega arith
+
+    dropped_other : dropped_in order most key k (x ∷ ranks) ≡ dropped_in order most key k ranks
+    dropped_other =
+        elim (length k == 0) as (λ b. (length k == 0) ≡ b → dropped_in order most key k (x ∷ ranks) ≡ dropped_in order most key k ranks) [
+          | true ↦ λ e. none_dropped order most key k (x ∷ ranks) e ∙ sym (none_dropped order most key k ranks e)
+          | false ↦ λ e. some_dropped order most key k (x ∷ ranks) e ∙ ap (λ n. n - min most n) same_count ∙ sym (some_dropped order most key k ranks e)
+        ] refl
+
+-- ---- what the collapser knows
+
+some_key : (k : List ℕ) → 0 < length k → (length k == 0) ≡ false
+some_key k h = other_number (length k) 0 (λ e. omega (arith, h, e))
+
