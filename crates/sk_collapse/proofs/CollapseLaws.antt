@@ -1,6 +1,9 @@
 -- What a collapser knows after one match more, and what it tells.
 use Rattle.std.proofs.Common.{◌≡◌, ◌≢◌, ◌<◌, ◌≤◌, ◌+◌, ◌-◌, ℕ, zero, suc, min, Bool, true, false, cond, not, ◌||◌, ◌==◌, nat_lt, List, [], ◌∷◌, length, take, drop, filter, get_or, count_by, bytes_eq, All, AllPairs, Option, Some, None, refl, sym, ap, ◌∙◌, subst, arith, true≢false, length-take, length-drop}
 use Rattle.std.specs.List.{AllByRecursion, IsAmong}
+use Rattle.std.specs.List.Sorted.{IsSortedBy}
+use Rattle.std.proofs.lemmas.List.Sorted.{sorted_far}
+use Rattle.sk_model.proofs.OrderLaws.{before_order}
 use Rattle.std.proofs.lemmas.Bool.Decides.{nat_tests}
 use Rattle.std.proofs.lemmas.List.Elements.{All-from_recursion, recursion_from_All}
 use Rattle.std.proofs.lemmas.List.Sums.{sum_by-cons}
@@ -15,7 +18,7 @@ use Rattle.sk_model.specs.Laws.{kept_number, kept_first}
 use Rattle.sk_model.proofs.KeptLaws.{kept_each, kept_of_key}
 use Rattle.sk_model.proofs.OrderLaws.{length-best_first}
 use Rattle.sk_collapse.specs.Collapsed.{Collapsed, Group, Knows, group_of, kept_in, dropped_in}
-use Rattle.sk_collapse.specs.Verdicts.{Judges, without_rank}
+use Rattle.sk_collapse.specs.Verdicts.{Judges, without_rank, verdict_of}
 use Rattle.sk_collapse.specs.declared.verdict.Verdict.{Verdict}
 use Rattle.sk_collapse.specs.declared.verdict.Verdict.TheVariants as Verdict
 use Rattle.sk_collapse.proofs.PlacedLaws.{same_number, number_same, other_number, each_filter, each_take, each_drop, each_placed, each_best, each_map, Apart, Leads, Strict, Distinct, leads_through, one_first, place_front, place_behind, place_before, strict_placed, strict_best, strict_filter, strict_take, distinct_best, take_nil, drop_nil, take_placed, take_twice, take_less, without, is_gone, without_none, without_kept, without_self, without_first, without_apart, without_placed}
@@ -232,6 +235,15 @@ module _ (order : Order) (most : ℕ) (key : Rank → List ℕ) (ranks : List Ra
         (z, refl, known.0.0, (bytes_decides (key z) (key x)).0 known.0.1, known.1,
           after_is ∙ ap (λ g. without g (place order x Before)) e ∙ without_placed order z x zs Before (λ f. other (sym f)) (strict_kept most key order [] Sorted sorted))
 
+    -- what falls out of the best of its key tells what becomes of it
+    judged_by : (gone : List Rank) → Gone ≡ gone → Judges (verdict_of x.id gone) order key x Before After
+    judged_by [] e = judged_keep e
+    judged_by (z ∷ zs) e =
+        elim (z.id == x.id) as (λ b. (z.id == x.id) ≡ b → Judges (cond b Verdict.Drop (Verdict.KeepFor z.id)) order key x Before After) [
+          | true ↦ λ same. judged_drop z zs e (number_same z.id x.id same)
+          | false ↦ λ other. judged_for z zs e (λ f. true≢false (sym (same_number z.id x.id f) ∙ other))
+        ] refl
+
     distinct_before : Distinct Before
     distinct_before = distinct_kept most key [] Sorted distinct
 
@@ -288,3 +300,181 @@ module _ (order : Order) (most : ℕ) (key : Rank → List ℕ) (ranks : List Ra
 some_key : (k : List ℕ) → 0 < length k → (length k == 0) ≡ false
 some_key k h = other_number (length k) 0 (λ e. omega (arith, h, e))
 
+key_long : (k : List ℕ) → (length k == 0) ≡ false → 0 < length k
+key_long [] e = absurd (true≢false e)
+key_long (b ∷ bs) e = omega arith
+
+-- the empty key is no other one
+other_key : (j k : List ℕ) → (length j == 0) ≡ true → (length k == 0) ≡ false → bytes_eq j k ≡ false
+other_key j k none some =
+    elim (bytes_eq j k) as (λ b. bytes_eq j k ≡ b → b ≡ false) [
+      | true ↦ λ e. absurd (true≢false (sym none ∙ ap (λ (l : List ℕ). length l == 0) ((bytes_decides j k).0 e) ∙ some))
+      | false ↦ λ e. refl
+    ] refl
+
+module _ (c : Collapsed) (key : Rank → List ℕ) (ranks : List Rank) (known : Knows c key ranks) where
+  -- what it holds of a key differs from what differs from all
+  pub knows_differ : (x : Rank) → All (λ r. r.id ≢ x.id) ranks → (k : List ℕ) → 0 < length k → All (λ r. r.id ≢ x.id) (group_of k c.groups).kept
+  knows_differ x apart k some =
+      All-from_recursion (λ r. r.id ≢ x.id) (group_of k c.groups).kept
+      (subst (λ (ys : List Rank). AllByRecursion (λ r. r.id ≢ x.id) ys) (sym (known.groups k some))
+        (each_take (λ r. r.id ≢ x.id) c.most (filter (λ y. bytes_eq (key y) k) (best_first c.order ranks))
+          (each_filter (λ r. r.id ≢ x.id) (λ y. bytes_eq (key y) k) (best_first c.order ranks)
+            (each_best (λ r. r.id ≢ x.id) c.order ranks (recursion_from_All (λ r. r.id ≢ x.id) ranks apart)))))
+
+  -- what it tells, in the words of the model
+  pub knows_kept : (collapse : Collapse) → collapse.max ≡ c.most → length (kept c.order (Some collapse) key ranks) ≡ c.kept
+  knows_kept collapse same = ap (λ n. length (kept_in c.order n key ranks)) same ∙ sym known.kept
+
+  pub knows_dropped : (collapse : Collapse) → collapse.max ≡ c.most → (k : List ℕ) → dropped c.order (Some collapse) key k ranks ≡ (group_of k c.groups).dropped
+  knows_dropped collapse same k = ap (λ n. dropped_in c.order n key k ranks) same ∙ sym (known.dropped k)
+
+  module _ (x : Rank) (apart : All (λ r. r.id ≢ x.id) ranks) where
+    -- a match of the empty key
+    pub knows_empty : (length (key x) == 0) ≡ true → Knows (record c { seen = c.seen + 1; kept = c.kept + 1 }) key (x ∷ ranks)
+    knows_empty none =
+        let more : length (kept_in c.order c.most key (x ∷ ranks)) ≡ suc (length (kept_in c.order c.most key ranks)) =
+        ap (λ (ys : List Rank). length ys) (judged_empty c.order c.most key ranks x known.differ apart none) ∙ length-place c.order x (kept_in c.order c.most key ranks) in
+        record {
+          differ = differ_more x ranks known.differ apart;
+          seen = omega (arith, known.seen);
+          kept = omega (arith, known.kept, more);
+          groups = λ k some.
+          known.groups k some ∙ sym (best_other c.order c.most key ranks x known.differ apart k (other_key (key x) k none (some_key k some)));
+          dropped = λ k.
+          elim (length k == 0) as (λ b. (length k == 0) ≡ b → (group_of k c.groups).dropped ≡ dropped_in c.order c.most key k (x ∷ ranks)) [
+            | true ↦ λ e. known.dropped k ∙ none_dropped c.order c.most key k ranks e ∙ sym (none_dropped c.order c.most key k (x ∷ ranks) e)
+            | false ↦ λ e. known.dropped k ∙ sym (dropped_other c.order c.most key ranks x known.differ apart k (other_key (key x) k none e))
+          ] refl;
+        }
+
+    -- a match of another key: its group holds the best, and counts what falls out
+    module _ (some : (length (key x) == 0) ≡ false) where
+      abbrev Group_best : List Rank
+      Group_best = (group_of (key x) c.groups).kept
+
+      abbrev Fallen : List Rank
+      Fallen = drop c.most (place c.order x Group_best)
+
+      best_is : Group_best ≡ take c.most (filter (λ y. bytes_eq (key y) (key x)) (best_first c.order ranks))
+      best_is = known.groups (key x) (key_long (key x) some)
+
+      fallen_is : Fallen ≡ drop c.most (place c.order x (take c.most (filter (λ y. bytes_eq (key y) (key x)) (best_first c.order ranks))))
+      fallen_is = ap (λ (ys : List Rank). drop c.most (place c.order x ys)) best_is
+
+      pub knows_judges : Judges (verdict_of x.id Fallen) c.order key x (kept_in c.order c.most key ranks) (kept_in c.order c.most key (x ∷ ranks))
+      knows_judges = judged_by c.order c.most key ranks x known.differ apart some Fallen (sym fallen_is)
+
+      pub knows_keyed : (kept : ℕ) (groups : List (List ℕ × Group)) → kept + length Fallen ≡ c.kept + 1
+          → group_of (key x) groups ≡ record { kept = take c.most (place c.order x Group_best); dropped = (group_of (key x) c.groups).dropped + length Fallen }
+          → ((k : List ℕ) → bytes_eq (key x) k ≡ false → group_of k groups ≡ group_of k c.groups)
+          → Knows (record c { seen = c.seen + 1; kept = kept; groups = groups }) key (x ∷ ranks)
+      knows_keyed kept groups count here there =
+          let more = after_kept c.order c.most key ranks x known.differ apart some Fallen (sym fallen_is) in
+          record {
+            differ = differ_more x ranks known.differ apart;
+            seen = omega (arith, known.seen);
+            kept = omega (arith, known.kept, more, count);
+            groups = λ k long.
+            elim (bytes_eq (key x) k) as (λ b. bytes_eq (key x) k ≡ b → (group_of k groups).kept ≡ take c.most (filter (λ y. bytes_eq (key y) k) (best_first c.order (x ∷ ranks)))) [
+              | true ↦ λ e.
+                subst (λ (j : List ℕ). (group_of j groups).kept ≡ take c.most (filter (λ y. bytes_eq (key y) j) (best_first c.order (x ∷ ranks)))) ((bytes_decides (key x) k).0 e)
+                (ap (λ (g : Group). g.kept) here ∙ ap (λ (ys : List Rank). take c.most (place c.order x ys)) best_is ∙ sym (best_more c.order c.most key ranks x known.differ apart some))
+              | false ↦ λ e. ap (λ (g : Group). g.kept) (there k e) ∙ known.groups k long ∙ sym (best_other c.order c.most key ranks x known.differ apart k e)
+            ] refl;
+            dropped = λ k.
+            elim (bytes_eq (key x) k) as (λ b. bytes_eq (key x) k ≡ b → (group_of k groups).dropped ≡ dropped_in c.order c.most key k (x ∷ ranks)) [
+              | true ↦ λ e.
+                subst (λ (j : List ℕ). (group_of j groups).dropped ≡ dropped_in c.order c.most key j (x ∷ ranks)) ((bytes_decides (key x) k).0 e)
+                (ap (λ (g : Group). g.dropped) here ∙ (λ i. known.dropped (key x) i + length (fallen_is i)) ∙ sym (dropped_more c.order c.most key ranks x known.differ apart some))
+              | false ↦ λ e. ap (λ (g : Group). g.dropped) (there k e) ∙ known.dropped k ∙ sym (dropped_other c.order c.most key ranks x known.differ apart k e)
+            ] refl;
+          }
+
+-- ---- the best so many under a verdict
+
+without_far : (id : ℕ) (xs : List Rank) → AllByRecursion (λ z. z.id ≢ id) xs → without_rank id xs ≡ xs
+without_far id [] a = refl
+without_far id (x ∷ xs) a = ap (λ b. cond (not b) (x ∷ without_rank id xs) (without_rank id xs)) (other_number x.id id a.0) ∙ ap (λ ys. x ∷ ys) (without_far id xs a.1)
+
+far_from : (h : Rank) (id : ℕ) (xs : List Rank) → h.id ≡ id → Apart h xs → AllByRecursion (λ z. z.id ≢ id) xs
+far_from h id xs same a = each_map (λ z. h.id ≢ z.id) (λ z. z.id ≢ id) xs (λ z f e. f (same ∙ sym e)) a
+
+-- without one the first so many are among the first and one more
+take_without : (n : ℕ) (id : ℕ) (xs : List Rank) → Distinct xs → take n (without_rank id xs) ≡ take n (without_rank id (take (suc n) xs))
+take_without zero id xs d = refl
+take_without (suc n) id [] d = refl
+take_without (suc n) id (h ∷ t) d =
+    elim (h.id == id) as (λ b. (h.id == id) ≡ b → take (suc n) (cond (not b) (h ∷ without_rank id t) (without_rank id t)) ≡ take (suc n) (cond (not b) (h ∷ without_rank id (take (suc n) t)) (without_rank id (take (suc n) t)))) [
+      | true ↦ λ e.
+        let far : AllByRecursion (λ z. z.id ≢ id) t = far_from h id t (number_same h.id id e) d.0 in
+        ap (take (suc n)) (without_far id t far) ∙ sym (take_twice (suc n) t)
+        ∙ sym (ap (take (suc n)) (without_far id (take (suc n) t) (each_take (λ z. z.id ≢ id) (suc n) t far)))
+      | false ↦ λ e. ap (λ ys. h ∷ ys) (take_without n id t d.1)
+    ] refl
+
+-- it comes to them: the best of all are the best of the best and it
+pub best_more_kept : (order : Order) (n : ℕ) (x : Rank) (kept : List Rank) → take n (place order x kept) ≡ take n (place order x (take n kept))
+best_more_kept order n x kept = take_placed order n x kept
+
+best_step : (n : ℕ) (x h : Rank) (ys zs : List Rank) (b : Bool) (placed others : List Rank)
+    → ((m : ℕ) → n ≡ suc m → take m ys ≡ take m zs) → take n placed ≡ take n others
+    → take (suc n) (cond b (x ∷ h ∷ ys) (h ∷ placed)) ≡ take (suc n) (cond b (x ∷ h ∷ zs) (h ∷ others))
+best_step zero x h ys zs true placed others e g = refl
+best_step (suc n) x h ys zs true placed others e g = ap (λ ws. x ∷ h ∷ ws) (e n refl)
+best_step n x h ys zs false placed others e g = ap (λ ws. h ∷ ws) g
+
+best_without : (order : Order) (x y : Rank) → is_before order x y ≡ true → (n : ℕ) (xs : List Rank) → Strict order xs → Distinct xs → (i : ℕ) → i < length xs → y ≡ get_or xs i y
+    → take n (place order x (without_rank y.id xs)) ≡ take n (place order x (without_rank y.id (take n xs)))
+best_without order x y first zero xs s d i l e = refl
+best_without order x y first (suc n) [] s d i l e = refl
+best_without order x y first (suc n) (h ∷ t) s d zero l e =
+    let same : h ≡ y = sym e in
+    let far : AllByRecursion (λ z. z.id ≢ y.id) t = far_from h y.id t (ap (λ (z : Rank). z.id) same) d.0 in
+    let leads : Leads order x t = leads_through order x y t first (subst (λ (z : Rank). Leads order z t) same s.0) in
+    let gone = ap (λ b. cond (not b) (h ∷ without_rank y.id t) (without_rank y.id t)) (same_number h.id y.id (ap (λ (z : Rank). z.id) same)) in
+    let gone_front = ap (λ b. cond (not b) (h ∷ without_rank y.id (take n t)) (without_rank y.id (take n t))) (same_number h.id y.id (ap (λ (z : Rank). z.id) same)) in
+    ap (λ ys. take (suc n) (place order x ys)) (gone ∙ without_far y.id t far) ∙ ap (take (suc n)) (place_front order x t leads)
+    ∙ ap (λ ys. x ∷ ys) (sym (take_twice n t))
+    ∙ sym (ap (λ ys. take (suc n) (place order x ys)) (gone_front ∙ without_far y.id (take n t) (each_take (λ z. z.id ≢ y.id) n t far))
+      ∙ ap (take (suc n)) (place_front order x (take n t) (each_take (λ z. is_before order x z ≡ true) n t leads)))
+best_without order x y first (suc n) (h ∷ t) s d (suc i) l e =
+    let other : (h.id == y.id) ≡ false = other_number h.id y.id (among_apart h y t d.0 (i, (omega (arith, l), e))) in
+    let stays = ap (λ b. cond (not b) (h ∷ without_rank y.id t) (without_rank y.id t)) other in
+    let stays_front = ap (λ b. cond (not b) (h ∷ without_rank y.id (take n t)) (without_rank y.id (take n t))) other in
+    ap (λ ys. take (suc n) (place order x ys)) stays
+    ∙ best_step n x h (without_rank y.id t) (without_rank y.id (take n t)) (is_before order x h) (place order x (without_rank y.id t)) (place order x (without_rank y.id (take n t)))
+    (λ m same. take_without m y.id t d.1 ∙ ap (λ j. take m (without_rank y.id (take j t))) (sym same))
+    (best_without order x y first n t s.1 d.1 i (omega (arith, l)) e)
+    ∙ sym (ap (λ ys. take (suc n) (place order x ys)) stays_front)
+
+strict_pairs : (order : Order) (xs : List Rank) → AllPairs (λ x y. is_before order x y ≡ true) xs → Strict order xs
+strict_pairs order [] h = tt
+strict_pairs order (x ∷ xs) h =
+    (recursion_from_All (λ y. is_before order x y ≡ true) xs (λ k d l. h 0 (suc k) d (omega arith) (omega (arith, l))), strict_pairs order xs (λ i j d l m. h (suc i) (suc j) d (omega (arith, l)) (omega (arith, m))))
+
+pairs_strict : (order : Order) (xs : List Rank) → Strict order xs → AllPairs (λ x y. is_before order x y ≡ true) xs
+pairs_strict order [] s = λ i j d l m. absurd (omega (arith, m))
+pairs_strict order (x ∷ xs) s = AllPairs-cons (λ x y. is_before order x y ≡ true) x xs (All-from_recursion (λ y. is_before order x y ≡ true) xs s.0) (pairs_strict order xs s.1)
+
+pairs_distinct : (xs : List Rank) → Distinct xs → AllPairs (λ x y. x.id ≢ y.id) xs
+pairs_distinct [] s = λ i j d l m. absurd (omega (arith, m))
+pairs_distinct (x ∷ xs) s = AllPairs-cons (λ x y. x.id ≢ y.id) x xs (All-from_recursion (λ y. x.id ≢ y.id) xs s.0) (pairs_distinct xs s.1)
+
+-- it comes in the place of one that it comes before: the best of all are the best of the best without that one, and it
+pub best_for_kept : (order : Order) (n : ℕ) (x y : Rank) (kept : List Rank) → IsSortedBy (is_before order) kept → AllPairs (λ x y. x.id ≢ y.id) kept → IsAmong kept y → is_before order x y ≡ true
+    → take n (place order x (without_rank y.id kept)) ≡ take n (place order x (without_rank y.id (take n kept)))
+best_for_kept order n x y kept sorted differ there first =
+    best_without order x y first n kept
+    (strict_pairs order kept (λ i j d l m. one_first order (get_or kept j d) (get_or kept i d) (λ e. differ i j d l m (sym e)) (sorted_far (is_before order) (before_order order) kept sorted i j d (omega (arith, l)) m)))
+    (distinct_from kept differ) there.0 there.1.0 there.1.1
+
+-- the kept matches stand in order, and their ids differ
+pub kept_sorted : (order : Order) (most : ℕ) (key : Rank → List ℕ) (ranks : List Rank) → AllPairs (λ x y. x.id ≢ y.id) ranks → IsSortedBy (is_before order) (kept_in order most key ranks)
+kept_sorted order most key ranks differ =
+    let pairs = pairs_strict order (kept_in order most key ranks) (strict_kept most key order [] (best_first order ranks) (strict_best order ranks (distinct_from ranks differ))) in
+    λ k d l m. (before_order order).one_way _ _ (pairs k (k + 1) d (omega arith) (omega (arith, m)))
+
+pub kept_differ : (order : Order) (most : ℕ) (key : Rank → List ℕ) (ranks : List Rank) → AllPairs (λ x y. x.id ≢ y.id) ranks → AllPairs (λ x y. x.id ≢ y.id) (kept_in order most key ranks)
+kept_differ order most key ranks differ =
+    pairs_distinct (kept_in order most key ranks) (distinct_kept most key [] (best_first order ranks) (distinct_best order ranks (distinct_from ranks differ)))

@@ -1,5 +1,5 @@
 -- What becomes of the kept matches when one more is seen.
-use Rattle.std.specs.Prelude.{◌≡◌, ℕ, ◌==◌, not, true, List, filter}
+use Rattle.std.specs.Prelude.{◌≡◌, ℕ, ◌==◌, not, true, List, [], ◌∷◌, filter, if◌then◌else◌}
 use Rattle.std.specs.List.{IsAmong}
 use Rattle.sk_base.specs.declared.rank.Rank.{Rank}
 use Rattle.sk_base.specs.declared.rank.Order.{Order}
@@ -11,6 +11,11 @@ use Rattle.sk_collapse.specs.declared.verdict.Verdict.TheVariants as Verdict
 -- The matches without the one with this id.
 abbrev pub without_rank : ℕ → List Rank → List Rank
 without_rank id ranks = filter (λ y. not (y.id == id)) ranks
+
+-- What becomes of a match with this id where these fall out of the best of its key: it is kept where none does, and dropped where it is the one.
+abbrev pub verdict_of : ℕ → List Rank → Verdict
+verdict_of id [] = Verdict.Keep
+verdict_of id (z ∷ zs) = if z.id == id then Verdict.Drop else Verdict.KeepFor z.id
 
 -- The kept matches before and after a match was seen: it comes to them; or it does so in place of a worse one of its key; or it is dropped.
 abbrev pub Judges : Verdict → Order → (Rank → List ℕ) → Rank → List Rank → List Rank → Type 0
