@@ -1,3 +1,4 @@
 pub mod PlacedLaws
 pub mod KeptMore
 pub mod CollapseLaws
+pub mod GroupLemmas
