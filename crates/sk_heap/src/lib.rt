@@ -3,6 +3,7 @@
 
 mod heap;
 mod hit;
+mod sift;
 
 pub use heap::ResultHeap;
 pub use hit::Hit;

@@ -1,0 +1,4 @@
+mod HeapLemmas
+mod BestLemmas
+mod CallLemmas
+pub mod HeapLaws
