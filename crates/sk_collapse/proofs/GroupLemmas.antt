@@ -1,9 +1,11 @@
 -- Groups as the map holds them, and hits as matches.
 use Rattle.std.proofs.Common.{◌≡◌, ◌≢◌, ◌<◌, ◌≤◌, ◌+◌, ℕ, zero, suc, Bool, true, false, cond, List, [], ◌∷◌, length, take, drop, map, bytes_eq, All, Option, Some, None, refl, sym, ap, ◌∙◌, subst, arith, true≢false}
-use Rattle.std.specs.Prelude.{is_some, unwrap_or, option_to_list}
+use Rattle.std.specs.Prelude.{is_some, unwrap_or, option_to_list, IfOk, IfErr}
+use Rattle.std.specs.declared.result.Result.{Result}
+use Rattle.std.specs.declared.result.Result.TheVariants.{Ok, Err}
 use Rattle.std.specs.Global.{Global}
 use Rattle.std.specs.declared.vec.Vec.{Vec}
-use Rattle.std.specs.List.{AllByRecursion}
+use Rattle.std.specs.List.{AllByRecursion, IsAmong}
 use Rattle.std.specs.Ordering.{match_ordering, nat_cmp, ordering_reverse, is_eq, is_lt}
 use Rattle.std.specs.declared.cmp.Ordering.{Ordering}
 use Rattle.std.specs.declared.cmp.Ordering.TheVariants.{Less, Equal, Greater}
@@ -13,6 +15,8 @@ use Rattle.std.specs.Map.{lookup, set_value, values_of}
 use Rattle.std.proofs.lemmas.List.{take-map}
 use Rattle.std.proofs.lemmas.List.Elements.{All-from_recursion, recursion_from_All}
 use Rattle.std.proofs.lemmas.Map.Lookups.{exact_bytes}
+use Rattle.std.proofs.lemmas.Map.Steps.{set_value_same}
+use Rattle.std.proofs.lemmas.Map.Views.{All-values-insert_entry, All-values-set_value}
 use Rattle.sk_base.specs.declared.rank.Rank.{Rank}
 use Rattle.sk_base.specs.declared.rank.Order.{Order}
 use Rattle.sk_base.specs.Before.{is_before}
@@ -22,6 +26,16 @@ use Rattle.sk_heap.specs.Held.{Held, placed, ranks_of}
 use Rattle.sk_collapse.specs.declared.group.KeyGroup.{KeyGroup}
 use Rattle.sk_collapse.specs.Collapsed.{Group, group_of}
 use Rattle.sk_collapse.specs.Groups.{group_in, groups_of, fallen, group_with, AreAlike}
+
+-- ---- what holds of an outcome
+
+pub if_ok : {A B : Type 0} (r : Result A B) (P Q : A → Type 0) → ((a : A) → P a → Q a) → IfOk r P → IfOk r Q
+if_ok (Ok a) P Q f h = f a h
+if_ok (Err b) P Q f h = tt
+
+pub if_err : {A B : Type 0} (r : Result A B) (P Q : B → Type 0) → ((b : B) → P b → Q b) → IfErr r P → IfErr r Q
+if_err (Ok a) P Q f h = tt
+if_err (Err b) P Q f h = f b h
 
 -- ---- hits as matches
 
@@ -42,6 +56,15 @@ length-ranks : (hits : List Hit) → length (ranks_of hits) ≡ length hits
 length-ranks [] = refl
 length-ranks (h ∷ t) = ap suc (length-ranks t)
 
+-- how many fall out
+pub none_out : (out : Option Hit) → is_some out ≡ false → length (ranks_of (option_to_list out)) ≡ 0
+none_out (Some h) e = absurd (true≢false e)
+none_out None e = refl
+
+pub one_out : (out : Option Hit) → is_some out ≡ true → length (ranks_of (option_to_list out)) ≡ 1
+one_out (Some h) e = refl
+one_out None e = absurd (true≢false (sym e))
+
 -- what a heap holds then
 pub ranks_held : (order : Order) (most : ℕ) (hit : Hit) (hits : List Hit) → ranks_of (take most (placed order hit hits)) ≡ take most (place order hit.rank (ranks_of hits))
 ranks_held order most hit hits = sym (take-map (λ (h : Hit). h.rank) most (placed order hit hits)) ∙ ap (take most) (ranks_placed order hit hits)
@@ -57,40 +80,40 @@ hits_differ id hits all = All-from_recursion (λ (h : Hit). h.rank.id ≢ id) hi
     each [] a = tt
     each (h ∷ t) a = (a.0, each t a.1)
 
-one_gone : (gone : Option Hit) → is_some gone ≡ true → length (option_to_list gone) ≡ 1
+one_gone : (out : Option Hit) → is_some out ≡ true → length (option_to_list out) ≡ 1
 one_gone (Some h) e = refl
 one_gone None e = absurd (true≢false (sym e))
 
-none_gone : (gone : Option Hit) → is_some gone ≡ false → length (option_to_list gone) ≡ 0
+none_gone : (out : Option Hit) → is_some out ≡ false → length (option_to_list out) ≡ 0
 none_gone (Some h) e = absurd (true≢false e)
 none_gone None e = refl
 
 -- a group before, with room, and after a hit was offered
 module _ (before grown after : Held) (hit : Hit) (same : (grown.order ≡ before.order) × (grown.most ≡ before.most) × (grown.hits ≡ before.hits)) where
-  pub heap_gone : (gone : Option Hit) → option_to_list gone ≡ drop grown.most (placed grown.order hit grown.hits)
-      → ranks_of (option_to_list gone) ≡ fallen before.order before.most hit.rank (ranks_of before.hits)
-  heap_gone gone e =
+  pub heap_gone : (out : Option Hit) → option_to_list out ≡ drop grown.most (placed grown.order hit grown.hits)
+      → ranks_of (option_to_list out) ≡ fallen before.order before.most hit.rank (ranks_of before.hits)
+  heap_gone out e =
       ap ranks_of (e ∙ (λ i. drop (same.1 i) (placed (same.0 i) hit (same.2 i)))) ∙ ranks_gone before.order before.most hit before.hits
 
-  pub heap_group : (gone : Option Hit) (dropped more : ℕ) → option_to_list gone ≡ drop grown.most (placed grown.order hit grown.hits)
-      → after ≡ record grown { hits = take grown.most (placed grown.order hit grown.hits) } → more ≡ dropped + length (option_to_list gone)
+  pub heap_group : (out : Option Hit) (dropped more : ℕ) → option_to_list out ≡ drop grown.most (placed grown.order hit grown.hits)
+      → after ≡ record grown { hits = take grown.most (placed grown.order hit grown.hits) } → more ≡ dropped + length (option_to_list out)
       → group_in (record { best = after; dropped = more }) ≡ group_with before.order before.most hit.rank (group_in (record { best = before; dropped = dropped }))
-  heap_group gone dropped more e held count =
+  heap_group out dropped more e held count =
       let kept : ranks_of after.hits ≡ take before.most (place before.order hit.rank (ranks_of before.hits)) =
       ap (λ (h : Held). ranks_of h.hits) held ∙ (λ i. ranks_of (take (same.1 i) (placed (same.0 i) hit (same.2 i)))) ∙ ranks_held before.order before.most hit before.hits in
-      let out : more ≡ dropped + length (fallen before.order before.most hit.rank (ranks_of before.hits)) =
-      count ∙ ap (λ n. dropped + n) (sym (length-ranks (option_to_list gone)) ∙ ap (λ (ys : List Rank). length ys) (heap_gone gone e)) in
-      λ i. record { kept = kept i; dropped = out i }
+      let count_is : more ≡ dropped + length (fallen before.order before.most hit.rank (ranks_of before.hits)) =
+      count ∙ ap (λ n. dropped + n) (sym (length-ranks (option_to_list out)) ∙ ap (λ (ys : List Rank). length ys) (heap_gone out e)) in
+      λ i. record { kept = kept i; dropped = count_is i }
 
-  pub heap_one : (gone : Option Hit) (dropped : ℕ) → option_to_list gone ≡ drop grown.most (placed grown.order hit grown.hits)
-      → after ≡ record grown { hits = take grown.most (placed grown.order hit grown.hits) } → is_some gone ≡ true
+  pub heap_one : (out : Option Hit) (dropped : ℕ) → option_to_list out ≡ drop grown.most (placed grown.order hit grown.hits)
+      → after ≡ record grown { hits = take grown.most (placed grown.order hit grown.hits) } → is_some out ≡ true
       → group_in (record { best = after; dropped = dropped + 1 }) ≡ group_with before.order before.most hit.rank (group_in (record { best = before; dropped = dropped }))
-  heap_one gone dropped e held is = heap_group gone dropped (dropped + 1) e held (ap (λ n. dropped + n) (sym (one_gone gone is)))
+  heap_one out dropped e held is = heap_group out dropped (dropped + 1) e held (ap (λ n. dropped + n) (sym (one_gone out is)))
 
-  pub heap_none : (gone : Option Hit) (dropped : ℕ) → option_to_list gone ≡ drop grown.most (placed grown.order hit grown.hits)
-      → after ≡ record grown { hits = take grown.most (placed grown.order hit grown.hits) } → is_some gone ≡ false
+  pub heap_none : (out : Option Hit) (dropped : ℕ) → option_to_list out ≡ drop grown.most (placed grown.order hit grown.hits)
+      → after ≡ record grown { hits = take grown.most (placed grown.order hit grown.hits) } → is_some out ≡ false
       → group_in (record { best = after; dropped = dropped }) ≡ group_with before.order before.most hit.rank (group_in (record { best = before; dropped = dropped }))
-  heap_none gone dropped e held is = heap_group gone dropped dropped e held (let none : length (option_to_list gone) ≡ 0 = none_gone gone is in omega (arith, none))
+  heap_none out dropped e held is = heap_group out dropped dropped e held (let none : length (option_to_list out) ≡ 0 = none_gone out is in omega (arith, none))
 
 -- ---- the entries of the map
 
@@ -153,6 +176,9 @@ none_step : (k : List ℕ) (e : Entry) (es : List Entry) (b : Bool) → at k e.0
 none_step k e es true is none more = absurd (some_none e.1 none)
 none_step k e es false is none more = group_no k e es is ∙ more none
 
+pub found_differ : (k : List ℕ) (g : KeyGroup) (es : List Entry) (id : ℕ) → lookup (at k) es ≡ Some g → All (λ r. r.id ≢ id) (group_of k (groups_of es)).kept → All (λ r. r.id ≢ id) (group_in g).kept
+found_differ k g es id found all = subst (λ (group : Group). All (λ r. r.id ≢ id) group.kept) (group_found k g es found) all
+
 pub group_none : (k : List ℕ) (es : List Entry) → lookup (at k) es ≡ None → group_of k (groups_of es) ≡ no_group
 group_none k [] none = refl
 group_none k (e ∷ es) none = none_step k e es (at k e.0) refl none (group_none k es)
@@ -210,3 +236,69 @@ put_other_step k j w e es Greater is apart more = other_step j e (insert_entry c
 pub put_other : (k : Vec ℕ Global) (j : List ℕ) (w : KeyGroup) (es : List Entry) → bytes_eq k.items j ≡ false → group_of j (groups_of (insert_entry cmp es k w)) ≡ group_of j (groups_of es)
 put_other k j w [] apart = group_next j (k, w) [] apart
 put_other k j w (e ∷ es) apart = put_other_step k j w e es (cmp k e.0) refl apart (put_other k j w es apart)
+
+-- ---- a call that puts a hit into the group of its key
+
+-- the group is one of them: all that holds of each holds of it
+one_of : (P : KeyGroup → Type 0) (g : KeyGroup) (gs : List KeyGroup) → IsAmong gs g → All P gs → P g
+one_of P g gs there all = subst P (sym there.1.1) (all there.0 g there.1.0)
+
+pub group_alike : (order : Order) (most seen : ℕ) (g : KeyGroup) (gs : List KeyGroup) → IsAmong gs g → AreAlike order most seen gs → (g.best.order ≡ order) × (g.best.most ≡ most)
+group_alike order most seen g gs there all =
+    let one = one_of (λ (group : KeyGroup). (group.best.order ≡ order) × (group.best.most ≡ most) × (group.dropped ≤ seen)) g gs there all in (one.0, one.1)
+
+more_seen : (order : Order) (most seen : ℕ) (gs : List KeyGroup) → AreAlike order most seen gs → AreAlike order most (seen + 1) gs
+more_seen order most seen gs all k d l = let one = all k d l in (one.0, one.1, omega (arith, one.2))
+
+module _ (order : Order) (most : ℕ) (x : Rank) (bs : List ℕ) (old new : List Entry) where
+  -- the group was there
+  module _ (g w : KeyGroup) (there : lookup (at bs) old ≡ Some g) (alike : (g.best.order ≡ order) × (g.best.most ≡ most)) where
+    pub known_here : new ≡ set_value (at bs) old w → group_in w ≡ group_with g.best.order g.best.most x (group_in g)
+        → group_of bs (groups_of new) ≡ group_with order most x (group_of bs (groups_of old))
+    known_here e held =
+        ap (λ (es : List Entry). group_of bs (groups_of es)) e ∙ set_here bs g w old there ∙ held
+        ∙ (λ i. group_with (alike.0 i) (alike.1 i) x (group_in g)) ∙ ap (group_with order most x) (sym (group_found bs g old there))
+
+    pub known_others : new ≡ set_value (at bs) old w → (k : List ℕ) → bytes_eq bs k ≡ false → group_of k (groups_of new) ≡ group_of k (groups_of old)
+    known_others e k apart = ap (λ (es : List Entry). group_of k (groups_of es)) e ∙ set_other bs k w old apart
+
+    pub known_alike : new ≡ set_value (at bs) old w → (w.best.order ≡ g.best.order) × (w.best.most ≡ g.best.most) → w.dropped ≤ g.dropped + 1 → IsAmong (values_of old) g
+        → (seen : ℕ) → AreAlike order most seen (values_of old) → AreAlike order most (seen + 1) (values_of new)
+    known_alike e same few member seen all =
+        let one = one_of (λ (group : KeyGroup). (group.best.order ≡ order) × (group.best.most ≡ most) × (group.dropped ≤ seen)) g (values_of old) member all in
+        subst (λ (es : List Entry). AreAlike order most (seen + 1) (values_of es)) (sym e)
+        (All-values-set_value (at bs) (λ (group : KeyGroup). (group.best.order ≡ order) × (group.best.most ≡ most) × (group.dropped ≤ seen + 1)) old w
+          (more_seen order most seen (values_of old) all)
+          (same.0 ∙ alike.0, same.1 ∙ alike.1, omega (arith, few, one.2)))
+
+    pub known_gone : (out : List Rank) → out ≡ fallen g.best.order g.best.most x (group_in g).kept → out ≡ fallen order most x (group_of bs (groups_of old)).kept
+    known_gone out e =
+        e ∙ (λ i. fallen (alike.0 i) (alike.1 i) x (group_in g).kept) ∙ ap (λ (group : Group). fallen order most x group.kept) (sym (group_found bs g old there))
+
+    pub known_same : new ≡ set_value (at bs) old w → w ≡ g → new ≡ old
+    known_same e same = e ∙ ap (set_value (at bs) old) same ∙ set_value_same (at bs) old g there
+
+  -- it was not
+  module _ (k : Vec ℕ Global) (g w : KeyGroup) (none : lookup (at bs) old ≡ None) (key : k.items ≡ bs) (alike : (g.best.order ≡ order) × (g.best.most ≡ most)) (empty : group_in g ≡ no_group) where
+    pub new_here : new ≡ insert_entry cmp old k w → group_in w ≡ group_with g.best.order g.best.most x (group_in g)
+        → group_of bs (groups_of new) ≡ group_with order most x (group_of bs (groups_of old))
+    new_here e held =
+        ap (λ (es : List Entry). group_of bs (groups_of es)) e
+        ∙ subst (λ b. group_of b (groups_of (insert_entry cmp old k w)) ≡ group_in w) key (put_here k w old) ∙ held
+        ∙ (λ i. group_with (alike.0 i) (alike.1 i) x (empty i)) ∙ ap (group_with order most x) (sym (group_none bs old none))
+
+    pub new_others : new ≡ insert_entry cmp old k w → (j : List ℕ) → bytes_eq bs j ≡ false → group_of j (groups_of new) ≡ group_of j (groups_of old)
+    new_others e j apart = ap (λ (es : List Entry). group_of j (groups_of es)) e ∙ put_other k j w old (ap (λ b. bytes_eq b j) key ∙ apart)
+
+    pub new_alike : new ≡ insert_entry cmp old k w → (w.best.order ≡ g.best.order) × (w.best.most ≡ g.best.most) → w.dropped ≤ g.dropped + 1
+        → (seen : ℕ) → AreAlike order most seen (values_of old) → AreAlike order most (seen + 1) (values_of new)
+    new_alike e same few seen all =
+        let zero : g.dropped ≡ 0 = ap (λ (group : Group). group.dropped) empty in
+        subst (λ (es : List Entry). AreAlike order most (seen + 1) (values_of es)) (sym e)
+        (All-values-insert_entry cmp k w (λ (group : KeyGroup). (group.best.order ≡ order) × (group.best.most ≡ most) × (group.dropped ≤ seen + 1)) old
+          (more_seen order most seen (values_of old) all)
+          (same.0 ∙ alike.0, same.1 ∙ alike.1, omega (arith, few, zero)))
+
+    pub new_gone : (out : List Rank) → out ≡ fallen g.best.order g.best.most x (group_in g).kept → out ≡ fallen order most x (group_of bs (groups_of old)).kept
+    new_gone out e =
+        e ∙ (λ i. fallen (alike.0 i) (alike.1 i) x (empty i).kept) ∙ ap (λ (group : Group). fallen order most x group.kept) (sym (group_none bs old none))

@@ -2,3 +2,4 @@ pub mod PlacedLaws
 pub mod KeptMore
 pub mod CollapseLaws
 pub mod GroupLemmas
+pub mod SeeLemmas
