@@ -1,10 +1,9 @@
 -- What a collapser knows after one match more, and what it tells.
-use Rattle.std.proofs.Common.{◌≡◌, ◌≢◌, ◌<◌, ◌≤◌, ◌+◌, ◌-◌, ℕ, zero, suc, min, Bool, true, false, cond, not, ◌||◌, ◌==◌, nat_lt, List, [], ◌∷◌, length, take, drop, filter, get_or, count_by, bytes_eq, All, AllPairs, Option, Some, None, refl, sym, ap, ◌∙◌, subst, arith, true≢false, length-take, length-drop}
+use Rattle.std.proofs.Common.{◌≡◌, ◌≢◌, ◌<◌, ◌≤◌, ◌+◌, ◌-◌, ℕ, zero, suc, min, Bool, true, false, cond, not, ◌==◌, List, [], ◌∷◌, length, take, drop, filter, get_or, bytes_eq, All, AllPairs, Some, refl, sym, ap, ◌∙◌, subst, arith, true≢false, length-take, length-drop}
 use Rattle.std.specs.List.{AllByRecursion, IsAmong}
 use Rattle.std.specs.List.Sorted.{IsSortedBy}
 use Rattle.std.proofs.lemmas.List.Sorted.{sorted_far}
 use Rattle.sk_model.proofs.OrderLaws.{before_order}
-use Rattle.std.proofs.lemmas.Bool.Decides.{nat_tests}
 use Rattle.std.proofs.lemmas.List.Elements.{All-from_recursion, recursion_from_All}
 use Rattle.std.proofs.lemmas.List.Sums.{sum_by-cons}
 use Rattle.std.proofs.lemmas.List.Kept.{AllPairs-cons}
@@ -13,15 +12,13 @@ use Rattle.sk_base.specs.declared.find.Collapse.{Collapse}
 use Rattle.sk_base.specs.declared.rank.Rank.{Rank}
 use Rattle.sk_base.specs.declared.rank.Order.{Order}
 use Rattle.sk_base.specs.Before.{is_before}
-use Rattle.sk_model.specs.Page.{place, best_first, is_kept, kept_behind, kept, count_key, dropped}
-use Rattle.sk_model.specs.Laws.{kept_number, kept_first}
+use Rattle.sk_model.specs.Page.{place, best_first, kept, count_key, dropped}
+use Rattle.sk_model.specs.Laws.{kept_number}
 use Rattle.sk_model.proofs.KeptLaws.{kept_each, kept_of_key}
-use Rattle.sk_model.proofs.OrderLaws.{length-best_first}
 use Rattle.sk_collapse.specs.Collapsed.{Collapsed, Group, Knows, group_of, kept_in, dropped_in}
 use Rattle.sk_collapse.specs.Verdicts.{Judges, without_rank, verdict_of}
 use Rattle.sk_collapse.specs.declared.verdict.Verdict.{Verdict}
-use Rattle.sk_collapse.specs.declared.verdict.Verdict.TheVariants as Verdict
-use Rattle.sk_collapse.proofs.PlacedLaws.{same_number, number_same, other_number, each_filter, each_take, each_drop, each_placed, each_best, each_map, Apart, Leads, Strict, Distinct, leads_through, one_first, place_front, place_behind, place_before, strict_placed, strict_best, strict_filter, strict_take, distinct_best, take_nil, drop_nil, take_placed, take_twice, take_less, without, is_gone, without_none, without_kept, without_self, without_first, without_apart, without_placed}
+use Rattle.sk_collapse.proofs.PlacedLaws.{same_number, number_same, other_number, each_filter, each_take, each_drop, each_best, each_map, Apart, Leads, Strict, Distinct, leads_through, one_first, place_front, strict_best, strict_filter, strict_take, distinct_best, take_placed, take_twice, without, without_none, without_first, without_apart, without_placed}
 use Rattle.sk_collapse.proofs.KeptMore.{each_kept, strict_kept, distinct_kept, free_placed, moves, own_placed, other_placed}
 
 -- ---- ids that differ
@@ -95,8 +92,8 @@ fallen order P x zero (y ∷ ys) few s h = absurd (omega (arith, few))
 fallen order P x (suc n) (y ∷ ys) few s h =
     elim (is_before order x y) as (λ b. is_before order x y ≡ b → AllByRecursion (λ z. z.id ≢ x.id → P z × (is_before order x z ≡ true)) (drop (suc n) (cond b (x ∷ y ∷ ys) (y ∷ place order x ys)))) [
       | true ↦ λ e.
-        each_drop (λ z. z.id ≢ x.id → P z × (is_before order x z ≡ true)) n (y ∷ ys)
-        (each_map (λ z. P z × (is_before order x z ≡ true)) (λ z. z.id ≢ x.id → P z × (is_before order x z ≡ true)) (y ∷ ys) (λ z g f. g)
+          each_drop (λ z. z.id ≢ x.id → P z × (is_before order x z ≡ true)) n (y ∷ ys)
+          (each_map (λ z. P z × (is_before order x z ≡ true)) (λ z. z.id ≢ x.id → P z × (is_before order x z ≡ true)) (y ∷ ys) (λ z g f. g)
           (each_both P (λ z. is_before order x z ≡ true) (y ∷ ys) h (e, leads_through order x y ys e s.0)))
       | false ↦ λ e. fallen order P x n ys (omega (arith, few)) s.1 h.1
     ] refl
@@ -108,8 +105,8 @@ without_itself order x zs (y ∷ ys) a =
     elim (is_before order x y) as (λ b. without (x ∷ zs) (cond b (x ∷ y ∷ ys) (y ∷ place order x ys)) ≡ y ∷ ys) [
       | true ↦ without_first x zs (y ∷ ys) a
       | false ↦
-        ap (λ b. cond (not b) (y ∷ without (x ∷ zs) (place order x ys)) (without (x ∷ zs) (place order x ys))) (other_number y.id x.id (λ e. a.0 (sym e)))
-        ∙ ap (λ ws. y ∷ ws) (without_itself order x zs ys a.1)
+          ap (λ b. cond (not b) (y ∷ without (x ∷ zs) (place order x ys)) (without (x ∷ zs) (place order x ys))) (other_number y.id x.id (λ e. a.0 (sym e)))
+          ∙ ap (λ ws. y ∷ ws) (without_itself order x zs ys a.1)
     ]
 
 without_like : (x z : Rank) (zs ys : List Rank) → z.id ≡ x.id → without (z ∷ zs) ys ≡ without (x ∷ zs) ys
@@ -231,9 +228,14 @@ module _ (order : Order) (most : ℕ) (key : Rank → List ℕ) (ranks : List Ra
     -- another falls out: it comes in its place
     pub judged_for : (z : Rank) (zs : List Rank) → Gone ≡ z ∷ zs → z.id ≢ x.id → Judges (Verdict.KeepFor z.id) order key x Before After
     judged_for z zs e other =
-        let known = gone_is z zs e other in
-        (z, refl, known.0.0, (bytes_decides (key z) (key x)).0 known.0.1, known.1,
-          after_is ∙ ap (λ g. without g (place order x Before)) e ∙ without_placed order z x zs Before (λ f. other (sym f)) (strict_kept most key order [] Sorted sorted))
+        let known = gone_is z zs e other in (
+          z,
+          refl,
+          known.0.0,
+          (bytes_decides (key z) (key x)).0 known.0.1,
+          known.1,
+          after_is ∙ ap (λ g. without g (place order x Before)) e ∙ without_placed order z x zs Before (λ f. other (sym f)) (strict_kept most key order [] Sorted sorted),
+        )
 
     -- what falls out of the best of its key tells what becomes of it
     judged_by : (gone : List Rank) → Gone ≡ gone → Judges (verdict_of x.id gone) order key x Before After
@@ -257,14 +259,14 @@ module _ (order : Order) (most : ℕ) (key : Rank → List ℕ) (ranks : List Ra
         let one : suc (length zs) ≡ suc (min most (count_key key (key x) ranks)) - most = sym (ap (λ (ys : List Rank). length ys) e) ∙ length-gone in
         elim (z.id == x.id) as (λ b. (z.id == x.id) ≡ b → length After + suc (length zs) ≡ suc (length Before)) [
           | true ↦ λ same.
-            let both : length After ≡ length Before = ap (λ (ys : List Rank). length ys) (judged_drop z zs e (number_same z.id x.id same)) in
-            omega (arith, both, one)
+              let both : length After ≡ length Before = ap (λ (ys : List Rank). length ys) (judged_drop z zs e (number_same z.id x.id same)) in
+              omega (arith, both, one)
           | false ↦ λ other.
-            let apart : z.id ≢ x.id = λ f. true≢false (sym (same_number z.id x.id f) ∙ other) in
-            let there = judged_for z zs e apart in
-            let less : suc (length (without_rank z.id Before)) ≡ length Before = length-without_rank z Before distinct_before (gone_is z zs e apart).0.0 in
-            let both : length After ≡ suc (length (without_rank z.id Before)) = ap (λ (ys : List Rank). length ys) there.5 ∙ length-place order x (without_rank z.id Before) in
-            omega (arith, less, both, one)
+              let apart : z.id ≢ x.id = λ f. true≢false (sym (same_number z.id x.id f) ∙ other) in
+              let there = judged_for z zs e apart in
+              let less : suc (length (without_rank z.id Before)) ≡ length Before = length-without_rank z Before distinct_before (gone_is z zs e apart).0.0 in
+              let both : length After ≡ suc (length (without_rank z.id Before)) = ap (λ (ys : List Rank). length ys) there.5 ∙ length-place order x (without_rank z.id Before) in
+              omega (arith, less, both, one)
         ] refl
 
     -- the best of its key
@@ -318,9 +320,9 @@ module _ (c : Collapsed) (key : Rank → List ℕ) (ranks : List Rank) (known : 
   knows_differ x apart k some =
       All-from_recursion (λ r. r.id ≢ x.id) (group_of k c.groups).kept
       (subst (λ (ys : List Rank). AllByRecursion (λ r. r.id ≢ x.id) ys) (sym (known.groups k some))
-        (each_take (λ r. r.id ≢ x.id) c.most (filter (λ y. bytes_eq (key y) k) (best_first c.order ranks))
-          (each_filter (λ r. r.id ≢ x.id) (λ y. bytes_eq (key y) k) (best_first c.order ranks)
-            (each_best (λ r. r.id ≢ x.id) c.order ranks (recursion_from_All (λ r. r.id ≢ x.id) ranks apart)))))
+      (each_take (λ r. r.id ≢ x.id) c.most (filter (λ y. bytes_eq (key y) k) (best_first c.order ranks))
+      (each_filter (λ r. r.id ≢ x.id) (λ y. bytes_eq (key y) k) (best_first c.order ranks)
+      (each_best (λ r. r.id ≢ x.id) c.order ranks (recursion_from_All (λ r. r.id ≢ x.id) ranks apart)))))
 
   -- what it tells, in the words of the model
   pub knows_kept : (collapse : Collapse) → collapse.max ≡ c.most → length (kept c.order (Some collapse) key ranks) ≡ c.kept
@@ -340,12 +342,12 @@ module _ (c : Collapsed) (key : Rank → List ℕ) (ranks : List Rank) (known : 
           seen = omega (arith, known.seen);
           kept = omega (arith, known.kept, more);
           groups = λ k some.
-          known.groups k some ∙ sym (best_other c.order c.most key ranks x known.differ apart k (other_key (key x) k none (some_key k some)));
+              known.groups k some ∙ sym (best_other c.order c.most key ranks x known.differ apart k (other_key (key x) k none (some_key k some)));
           dropped = λ k.
-          elim (length k == 0) as (λ b. (length k == 0) ≡ b → (group_of k c.groups).dropped ≡ dropped_in c.order c.most key k (x ∷ ranks)) [
-            | true ↦ λ e. known.dropped k ∙ none_dropped c.order c.most key k ranks e ∙ sym (none_dropped c.order c.most key k (x ∷ ranks) e)
-            | false ↦ λ e. known.dropped k ∙ sym (dropped_other c.order c.most key ranks x known.differ apart k (other_key (key x) k none e))
-          ] refl;
+              elim (length k == 0) as (λ b. (length k == 0) ≡ b → (group_of k c.groups).dropped ≡ dropped_in c.order c.most key k (x ∷ ranks)) [
+                | true ↦ λ e. known.dropped k ∙ none_dropped c.order c.most key k ranks e ∙ sym (none_dropped c.order c.most key k (x ∷ ranks) e)
+                | false ↦ λ e. known.dropped k ∙ sym (dropped_other c.order c.most key ranks x known.differ apart k (other_key (key x) k none e))
+              ] refl;
         }
 
     -- a match of another key: its group holds the best, and counts what falls out
@@ -376,19 +378,19 @@ module _ (c : Collapsed) (key : Rank → List ℕ) (ranks : List Rank) (known : 
             seen = omega (arith, known.seen);
             kept = omega (arith, known.kept, more, count);
             groups = λ k long.
-            elim (bytes_eq (key x) k) as (λ b. bytes_eq (key x) k ≡ b → (group_of k groups).kept ≡ take c.most (filter (λ y. bytes_eq (key y) k) (best_first c.order (x ∷ ranks)))) [
-              | true ↦ λ e.
-                subst (λ (j : List ℕ). (group_of j groups).kept ≡ take c.most (filter (λ y. bytes_eq (key y) j) (best_first c.order (x ∷ ranks)))) ((bytes_decides (key x) k).0 e)
-                (ap (λ (g : Group). g.kept) here ∙ ap (λ (ys : List Rank). take c.most (place c.order x ys)) best_is ∙ sym (best_more c.order c.most key ranks x known.differ apart some))
-              | false ↦ λ e. ap (λ (g : Group). g.kept) (there k e) ∙ known.groups k long ∙ sym (best_other c.order c.most key ranks x known.differ apart k e)
-            ] refl;
+                elim (bytes_eq (key x) k) as (λ b. bytes_eq (key x) k ≡ b → (group_of k groups).kept ≡ take c.most (filter (λ y. bytes_eq (key y) k) (best_first c.order (x ∷ ranks)))) [
+                  | true ↦ λ e.
+                      subst (λ (j : List ℕ). (group_of j groups).kept ≡ take c.most (filter (λ y. bytes_eq (key y) j) (best_first c.order (x ∷ ranks)))) ((bytes_decides (key x) k).0 e)
+                      (ap (λ (g : Group). g.kept) here ∙ ap (λ (ys : List Rank). take c.most (place c.order x ys)) best_is ∙ sym (best_more c.order c.most key ranks x known.differ apart some))
+                  | false ↦ λ e. ap (λ (g : Group). g.kept) (there k e) ∙ known.groups k long ∙ sym (best_other c.order c.most key ranks x known.differ apart k e)
+                ] refl;
             dropped = λ k.
-            elim (bytes_eq (key x) k) as (λ b. bytes_eq (key x) k ≡ b → (group_of k groups).dropped ≡ dropped_in c.order c.most key k (x ∷ ranks)) [
-              | true ↦ λ e.
-                subst (λ (j : List ℕ). (group_of j groups).dropped ≡ dropped_in c.order c.most key j (x ∷ ranks)) ((bytes_decides (key x) k).0 e)
-                (ap (λ (g : Group). g.dropped) here ∙ (λ i. known.dropped (key x) i + length (fallen_is i)) ∙ sym (dropped_more c.order c.most key ranks x known.differ apart some))
-              | false ↦ λ e. ap (λ (g : Group). g.dropped) (there k e) ∙ known.dropped k ∙ sym (dropped_other c.order c.most key ranks x known.differ apart k e)
-            ] refl;
+                elim (bytes_eq (key x) k) as (λ b. bytes_eq (key x) k ≡ b → (group_of k groups).dropped ≡ dropped_in c.order c.most key k (x ∷ ranks)) [
+                  | true ↦ λ e.
+                      subst (λ (j : List ℕ). (group_of j groups).dropped ≡ dropped_in c.order c.most key j (x ∷ ranks)) ((bytes_decides (key x) k).0 e)
+                      (ap (λ (g : Group). g.dropped) here ∙ (λ i. known.dropped (key x) i + length (fallen_is i)) ∙ sym (dropped_more c.order c.most key ranks x known.differ apart some))
+                  | false ↦ λ e. ap (λ (g : Group). g.dropped) (there k e) ∙ known.dropped k ∙ sym (dropped_other c.order c.most key ranks x known.differ apart k e)
+                ] refl;
           }
 
 -- ---- the best so many under a verdict
@@ -407,9 +409,9 @@ take_without (suc n) id [] d = refl
 take_without (suc n) id (h ∷ t) d =
     elim (h.id == id) as (λ b. (h.id == id) ≡ b → take (suc n) (cond (not b) (h ∷ without_rank id t) (without_rank id t)) ≡ take (suc n) (cond (not b) (h ∷ without_rank id (take (suc n) t)) (without_rank id (take (suc n) t)))) [
       | true ↦ λ e.
-        let far : AllByRecursion (λ z. z.id ≢ id) t = far_from h id t (number_same h.id id e) d.0 in
-        ap (take (suc n)) (without_far id t far) ∙ sym (take_twice (suc n) t)
-        ∙ sym (ap (take (suc n)) (without_far id (take (suc n) t) (each_take (λ z. z.id ≢ id) (suc n) t far)))
+          let far : AllByRecursion (λ z. z.id ≢ id) t = far_from h id t (number_same h.id id e) d.0 in
+          ap (take (suc n)) (without_far id t far) ∙ sym (take_twice (suc n) t)
+          ∙ sym (ap (take (suc n)) (without_far id (take (suc n) t) (each_take (λ z. z.id ≢ id) (suc n) t far)))
       | false ↦ λ e. ap (λ ys. h ∷ ys) (take_without n id t d.1)
     ] refl
 
@@ -437,7 +439,7 @@ best_without order x y first (suc n) (h ∷ t) s d zero l e =
     ap (λ ys. take (suc n) (place order x ys)) (gone ∙ without_far y.id t far) ∙ ap (take (suc n)) (place_front order x t leads)
     ∙ ap (λ ys. x ∷ ys) (sym (take_twice n t))
     ∙ sym (ap (λ ys. take (suc n) (place order x ys)) (gone_front ∙ without_far y.id (take n t) (each_take (λ z. z.id ≢ y.id) n t far))
-      ∙ ap (take (suc n)) (place_front order x (take n t) (each_take (λ z. is_before order x z ≡ true) n t leads)))
+    ∙ ap (take (suc n)) (place_front order x (take n t) (each_take (λ z. is_before order x z ≡ true) n t leads)))
 best_without order x y first (suc n) (h ∷ t) s d (suc i) l e =
     let other : (h.id == y.id) ≡ false = other_number h.id y.id (among_apart h y t d.0 (i, (omega (arith, l), e))) in
     let stays = ap (λ b. cond (not b) (h ∷ without_rank y.id t) (without_rank y.id t)) other in

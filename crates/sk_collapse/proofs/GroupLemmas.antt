@@ -1,5 +1,5 @@
 -- Groups as the map holds them, and hits as matches.
-use Rattle.std.proofs.Common.{◌≡◌, ◌≢◌, ◌<◌, ◌≤◌, ◌+◌, ℕ, zero, suc, Bool, true, false, cond, List, [], ◌∷◌, length, take, drop, map, bytes_eq, All, Option, Some, None, refl, sym, ap, ◌∙◌, subst, arith, true≢false}
+use Rattle.std.proofs.Common.{◌≡◌, ◌≢◌, ◌≤◌, ◌+◌, ℕ, zero, suc, Bool, true, false, cond, List, [], ◌∷◌, length, take, drop, bytes_eq, All, Option, Some, None, refl, sym, ap, ◌∙◌, subst, arith, true≢false}
 use Rattle.std.specs.Prelude.{is_some, unwrap_or, option_to_list, IfOk, IfErr}
 use Rattle.std.specs.declared.result.Result.{Result}
 use Rattle.std.specs.declared.result.Result.TheVariants.{Ok, Err}
@@ -268,8 +268,8 @@ module _ (order : Order) (most : ℕ) (x : Rank) (bs : List ℕ) (old new : List
         let one = one_of (λ (group : KeyGroup). (group.best.order ≡ order) × (group.best.most ≡ most) × (group.dropped ≤ seen)) g (values_of old) member all in
         subst (λ (es : List Entry). AreAlike order most (seen + 1) (values_of es)) (sym e)
         (All-values-set_value (at bs) (λ (group : KeyGroup). (group.best.order ≡ order) × (group.best.most ≡ most) × (group.dropped ≤ seen + 1)) old w
-          (more_seen order most seen (values_of old) all)
-          (same.0 ∙ alike.0, same.1 ∙ alike.1, omega (arith, few, one.2)))
+        (more_seen order most seen (values_of old) all)
+        (same.0 ∙ alike.0, same.1 ∙ alike.1, omega (arith, few, one.2)))
 
     pub known_gone : (out : List Rank) → out ≡ fallen g.best.order g.best.most x (group_in g).kept → out ≡ fallen order most x (group_of bs (groups_of old)).kept
     known_gone out e =
@@ -296,8 +296,8 @@ module _ (order : Order) (most : ℕ) (x : Rank) (bs : List ℕ) (old new : List
         let zero : g.dropped ≡ 0 = ap (λ (group : Group). group.dropped) empty in
         subst (λ (es : List Entry). AreAlike order most (seen + 1) (values_of es)) (sym e)
         (All-values-insert_entry cmp k w (λ (group : KeyGroup). (group.best.order ≡ order) × (group.best.most ≡ most) × (group.dropped ≤ seen + 1)) old
-          (more_seen order most seen (values_of old) all)
-          (same.0 ∙ alike.0, same.1 ∙ alike.1, omega (arith, few, zero)))
+        (more_seen order most seen (values_of old) all)
+        (same.0 ∙ alike.0, same.1 ∙ alike.1, omega (arith, few, zero)))
 
     pub new_gone : (out : List Rank) → out ≡ fallen g.best.order g.best.most x (group_in g).kept → out ≡ fallen order most x (group_of bs (groups_of old)).kept
     new_gone out e =

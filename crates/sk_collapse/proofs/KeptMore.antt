@@ -1,5 +1,5 @@
 -- What is kept of one match more.
-use Rattle.std.proofs.Common.{◌≡◌, ◌≢◌, ◌<◌, ◌≤◌, ◌+◌, ◌-◌, ℕ, zero, suc, min, Bool, true, false, cond, not, ◌||◌, ◌==◌, nat_lt, List, [], ◌∷◌, length, take, drop, filter, count_by, bytes_eq, refl, sym, ap, ◌∙◌, subst, arith, true≢false}
+use Rattle.std.proofs.Common.{◌≡◌, ◌≢◌, ◌<◌, ◌≤◌, ◌+◌, ◌-◌, ℕ, zero, suc, Bool, true, false, cond, ◌||◌, ◌==◌, nat_lt, List, [], ◌∷◌, length, take, drop, filter, count_by, bytes_eq, refl, sym, ap, ◌∙◌, subst, arith, true≢false}
 use Rattle.std.specs.List.{AllByRecursion}
 use Rattle.std.proofs.lemmas.Bool.Decides.{nat_tests}
 use Rattle.std.proofs.lemmas.List.Sums.{sum_by-cons}
@@ -7,8 +7,8 @@ use Rattle.std.specs.Cmp.Lexicographic.{bytes_decides}
 use Rattle.sk_base.specs.declared.rank.Rank.{Rank}
 use Rattle.sk_base.specs.declared.rank.Order.{Order}
 use Rattle.sk_base.specs.Before.{is_before}
-use Rattle.sk_model.specs.Page.{place, best_first, is_kept, kept_behind}
-use Rattle.sk_collapse.proofs.PlacedLaws.{each_filter, each_take, each_drop, each_placed, Apart, Leads, Strict, Distinct, leads_through, one_first, place_front, place_behind, place_before, take_nil, drop_nil, without, is_gone, without_none, without_kept, without_first, without_apart}
+use Rattle.sk_model.specs.Page.{place, is_kept, kept_behind}
+use Rattle.sk_collapse.proofs.PlacedLaws.{each_filter, each_take, each_drop, each_placed, Apart, Leads, Strict, Distinct, leads_through, place_front, place_behind, place_before, drop_nil, without, without_none, without_kept, without_first}
 
 -- ---- tests
 
@@ -130,15 +130,15 @@ module _ (most : ℕ) (key : Rank → List ℕ) where
   free_placed order x none b (y ∷ ys) s =
       elim (is_before order x y) as (λ i. is_before order x y ≡ i → Kept b (cond i (x ∷ y ∷ ys) (y ∷ place order x ys)) ≡ place order x (Kept b (y ∷ ys))) [
         | true ↦ λ e.
-          let all : Leads order x (y ∷ ys) = (e, leads_through order x y ys e s.0) in
-          kept_yes b x (y ∷ ys) (test_empty (key x) b none)
-          ∙ ap (λ zs. x ∷ zs) (kept_same (key x ∷ b) b (λ j some. counted_no j (key x) b (empty_apart j (key x) some none)) (y ∷ ys))
-          ∙ sym (place_front order x (Kept b (y ∷ ys)) (each_kept (λ z. is_before order x z ≡ true) b (y ∷ ys) all))
+            let all : Leads order x (y ∷ ys) = (e, leads_through order x y ys e s.0) in
+            kept_yes b x (y ∷ ys) (test_empty (key x) b none)
+            ∙ ap (λ zs. x ∷ zs) (kept_same (key x ∷ b) b (λ j some. counted_no j (key x) b (empty_apart j (key x) some none)) (y ∷ ys))
+            ∙ sym (place_front order x (Kept b (y ∷ ys)) (each_kept (λ z. is_before order x z ≡ true) b (y ∷ ys) all))
         | false ↦ λ e.
-          elim (is_kept most (key y) b) as (λ i. cond i (y ∷ Kept (key y ∷ b) (place order x ys)) (Kept b (place order x ys)) ≡ place order x (cond i (y ∷ Kept (key y ∷ b) ys) (Kept b ys))) [
-            | true ↦ ap (λ zs. y ∷ zs) (free_placed order x none (key y ∷ b) ys s.1) ∙ sym (place_behind order x y (Kept (key y ∷ b) ys) e)
-            | false ↦ free_placed order x none b ys s.1
-          ]
+            elim (is_kept most (key y) b) as (λ i. cond i (y ∷ Kept (key y ∷ b) (place order x ys)) (Kept b (place order x ys)) ≡ place order x (cond i (y ∷ Kept (key y ∷ b) ys) (Kept b ys))) [
+              | true ↦ ap (λ zs. y ∷ zs) (free_placed order x none (key y ∷ b) ys s.1) ∙ sym (place_behind order x y (Kept (key y ∷ b) ys) e)
+              | false ↦ free_placed order x none b ys s.1
+            ]
       ] refl
 
   -- ---- a match of another key
@@ -220,12 +220,12 @@ module _ (most : ℕ) (key : Rank → List ℕ) where
         let test : is_kept most (key h) b ≡ is_kept most (key h) c = test_same (key h) b c (λ full. others (key h) full (bytes_sym k (key h) ∙ e)) in
         elim (is_kept most (key h) c) as (λ i. is_kept most (key h) c ≡ i → Kept b (h ∷ t) ≡ without (Out r (h ∷ t)) (Kept c (h ∷ t))) [
           | true ↦ λ yes.
-            let kept = kept_yes c h t yes in
-            kept_yes b h t (test ∙ yes) ∙ ap (λ ys. h ∷ ys) more ∙ sym (without_kept (Out r t) h (Kept (key h ∷ c) t) (out_apart h r t a))
-            ∙ sym (λ i. without (drop r (take (suc r) (out i))) (kept i))
+              let kept = kept_yes c h t yes in
+              kept_yes b h t (test ∙ yes) ∙ ap (λ ys. h ∷ ys) more ∙ sym (without_kept (Out r t) h (Kept (key h ∷ c) t) (out_apart h r t a))
+              ∙ sym (λ i. without (drop r (take (suc r) (out i))) (kept i))
           | false ↦ λ no.
-            let kept = kept_no c h t no in
-            kept_no b h t (test ∙ no) ∙ less ∙ sym (λ i. without (drop r (take (suc r) (out i))) (kept i))
+              let kept = kept_no c h t no in
+              kept_no b h t (test ∙ no) ∙ less ∙ sym (λ i. without (drop r (take (suc r) (out i))) (kept i))
         ] refl
 
     kept_out : (r : ℕ) (b c : List (List ℕ)) → most ≡ Count k c + suc r → Count k b ≡ suc (Count k c) → Others b c
@@ -235,20 +235,20 @@ module _ (most : ℕ) (key : Rank → List ℕ) where
         elim (bytes_eq (key h) k) as (λ i. bytes_eq (key h) k ≡ i → Kept b (h ∷ t) ≡ without (Out zero (h ∷ t)) (Kept c (h ∷ t))) [
           | true ↦ λ e. out_last b c room one others h t d.0 e
           | false ↦ λ e.
-            out_other zero b c others h t d.0 e
-            (kept_out zero (key h ∷ b) (key h ∷ c) (room ∙ ap (λ n. n + 1) (sym (counted_no k (key h) c e))) (counted_no k (key h) b e ∙ one ∙ ap suc (sym (counted_no k (key h) c e))) (others_both h b c others) t d.1)
-            (kept_out zero b c room one others t d.1)
+              out_other zero b c others h t d.0 e
+              (kept_out zero (key h ∷ b) (key h ∷ c) (room ∙ ap (λ n. n + 1) (sym (counted_no k (key h) c e))) (counted_no k (key h) b e ∙ one ∙ ap suc (sym (counted_no k (key h) c e))) (others_both h b c others) t d.1)
+              (kept_out zero b c room one others t d.1)
         ] refl
     kept_out (suc r) b c room one others (h ∷ t) d =
         elim (bytes_eq (key h) k) as (λ i. bytes_eq (key h) k ≡ i → Kept b (h ∷ t) ≡ without (Out (suc r) (h ∷ t)) (Kept c (h ∷ t))) [
           | true ↦ λ e.
-            let before : Count k (key h ∷ c) ≡ suc (Count k c) = counted_yes k (key h) c e in
-            out_more r b c room one h t d.0 e
-            (kept_out r (key h ∷ b) (key h ∷ c) (omega (arith, room, before)) (counted_yes k (key h) b e ∙ ap suc (one ∙ sym before)) (others_both h b c others) t d.1)
+              let before : Count k (key h ∷ c) ≡ suc (Count k c) = counted_yes k (key h) c e in
+              out_more r b c room one h t d.0 e
+              (kept_out r (key h ∷ b) (key h ∷ c) (omega (arith, room, before)) (counted_yes k (key h) b e ∙ ap suc (one ∙ sym before)) (others_both h b c others) t d.1)
           | false ↦ λ e.
-            out_other (suc r) b c others h t d.0 e
-            (kept_out (suc r) (key h ∷ b) (key h ∷ c) (room ∙ ap (λ n. n + suc (suc r)) (sym (counted_no k (key h) c e))) (counted_no k (key h) b e ∙ one ∙ ap suc (sym (counted_no k (key h) c e))) (others_both h b c others) t d.1)
-            (kept_out (suc r) b c room one others t d.1)
+              out_other (suc r) b c others h t d.0 e
+              (kept_out (suc r) (key h ∷ b) (key h ∷ c) (room ∙ ap (λ n. n + suc (suc r)) (sym (counted_no k (key h) c e))) (counted_no k (key h) b e ∙ one ∙ ap suc (sym (counted_no k (key h) c e))) (others_both h b c others) t d.1)
+              (kept_out (suc r) b c room one others t d.1)
         ] refl
 
     -- ---- one match of the key more, in its place
@@ -292,7 +292,7 @@ module _ (most : ℕ) (key : Rank → List ℕ) where
           kept_yes b x xs (kept_test_own x b own ∙ one_room b r room)
           ∙ ap (λ ys. x ∷ ys)
           (kept_out r (key x ∷ b) b (omega (arith, room)) (counted_yes k (key x) b own)
-            (λ j full apart. counted_no j (key x) b (ap (λ l. bytes_eq l j) ((bytes_decides (key x) k).0 own) ∙ apart)) xs d)
+          (λ j full apart. counted_no j (key x) b (ap (λ l. bytes_eq l j) ((bytes_decides (key x) k).0 own) ∙ apart)) xs d)
           ∙ sym (without_kept (Out r xs) x (Kept b xs) (out_apart x r xs a))
           ∙ sym (λ i. without (drop (suc r) (best i)) (front i))
 
@@ -337,32 +337,32 @@ module _ (most : ℕ) (key : Rank → List ℕ) where
           elim (is_before order x h) as (λ i. is_before order x h ≡ i → Moves b zero (h ∷ t)) [
             | true ↦ λ e. ap (Kept b) (place_before order x h t e) ∙ moves_first b zero room (h ∷ t) (e, leads_through order x h t e s.0) d a
             | false ↦ λ e.
-              elim (bytes_eq (key h) k) as (λ i. bytes_eq (key h) k ≡ i → Moves b zero (h ∷ t)) [
-                | true ↦ λ g. from_front b zero h t e (moves_past b zero h t (kept_test_own h b g ∙ no_room b room) refl (moves b zero room t s.1 d.1 a.1))
-                | false ↦ λ g.
-                  from_front b zero h t e
-                  (moves_other b zero h t e (λ f. a.0 (sym f)) d.0 g
-                    (moves (key h ∷ b) zero (room ∙ ap (λ n. most - n) (sym (counted_no k (key h) b g))) t s.1 d.1 a.1)
-                    (moves b zero room t s.1 d.1 a.1))
-              ] refl
+                elim (bytes_eq (key h) k) as (λ i. bytes_eq (key h) k ≡ i → Moves b zero (h ∷ t)) [
+                  | true ↦ λ g. from_front b zero h t e (moves_past b zero h t (kept_test_own h b g ∙ no_room b room) refl (moves b zero room t s.1 d.1 a.1))
+                  | false ↦ λ g.
+                      from_front b zero h t e
+                      (moves_other b zero h t e (λ f. a.0 (sym f)) d.0 g
+                      (moves (key h ∷ b) zero (room ∙ ap (λ n. most - n) (sym (counted_no k (key h) b g))) t s.1 d.1 a.1)
+                      (moves b zero room t s.1 d.1 a.1))
+                ] refl
           ] refl
       moves b (suc r) room (h ∷ t) s d a =
           elim (is_before order x h) as (λ i. is_before order x h ≡ i → Moves b (suc r) (h ∷ t)) [
             | true ↦ λ e. ap (Kept b) (place_before order x h t e) ∙ moves_first b (suc r) room (h ∷ t) (e, leads_through order x h t e s.0) d a
             | false ↦ λ e.
-              elim (bytes_eq (key h) k) as (λ i. bytes_eq (key h) k ≡ i → Moves b (suc r) (h ∷ t)) [
-                | true ↦ λ g.
-                  let before : Count k (key h ∷ b) ≡ suc (Count k b) = counted_yes k (key h) b g in
-                  from_front b (suc r) h t e
-                  (moves_kept b (suc r) r h t e (λ f. a.0 (sym f)) d.0 (kept_test_own h b g ∙ one_room b r room)
-                    (ap (λ ys. drop (suc r) (place order x (take (suc r) ys))) (own_yes h t g) ∙ ap (drop (suc r)) (place_behind order x h (take r (Own t)) e))
-                    (moves (key h ∷ b) r (omega (arith, room, before)) t s.1 d.1 a.1))
-                | false ↦ λ g.
-                  from_front b (suc r) h t e
-                  (moves_other b (suc r) h t e (λ f. a.0 (sym f)) d.0 g
-                    (moves (key h ∷ b) (suc r) (room ∙ ap (λ n. most - n) (sym (counted_no k (key h) b g))) t s.1 d.1 a.1)
-                    (moves b (suc r) room t s.1 d.1 a.1))
-              ] refl
+                elim (bytes_eq (key h) k) as (λ i. bytes_eq (key h) k ≡ i → Moves b (suc r) (h ∷ t)) [
+                  | true ↦ λ g.
+                      let before : Count k (key h ∷ b) ≡ suc (Count k b) = counted_yes k (key h) b g in
+                      from_front b (suc r) h t e
+                      (moves_kept b (suc r) r h t e (λ f. a.0 (sym f)) d.0 (kept_test_own h b g ∙ one_room b r room)
+                      (ap (λ ys. drop (suc r) (place order x (take (suc r) ys))) (own_yes h t g) ∙ ap (drop (suc r)) (place_behind order x h (take r (Own t)) e))
+                      (moves (key h ∷ b) r (omega (arith, room, before)) t s.1 d.1 a.1))
+                  | false ↦ λ g.
+                      from_front b (suc r) h t e
+                      (moves_other b (suc r) h t e (λ f. a.0 (sym f)) d.0 g
+                      (moves (key h ∷ b) (suc r) (room ∙ ap (λ n. most - n) (sym (counted_no k (key h) b g))) t s.1 d.1 a.1)
+                      (moves b (suc r) room t s.1 d.1 a.1))
+                ] refl
           ] refl
 
       -- ---- the matches of the key
@@ -376,13 +376,13 @@ module _ (most : ℕ) (key : Rank → List ℕ) where
       own_placed (h ∷ t) s =
           elim (is_before order x h) as (λ i. is_before order x h ≡ i → Own (cond i (x ∷ h ∷ t) (h ∷ place order x t)) ≡ place order x (Own (h ∷ t))) [
             | true ↦ λ e.
-              own_front (h ∷ t)
-              ∙ sym (place_front order x (Own (h ∷ t)) (each_filter (λ y. is_before order x y ≡ true) (λ y. bytes_eq (key y) k) (h ∷ t) (e, leads_through order x h t e s.0)))
+                own_front (h ∷ t)
+                ∙ sym (place_front order x (Own (h ∷ t)) (each_filter (λ y. is_before order x y ≡ true) (λ y. bytes_eq (key y) k) (h ∷ t) (e, leads_through order x h t e s.0)))
             | false ↦ λ e.
-              elim (bytes_eq (key h) k) as (λ i. cond i (h ∷ Own (place order x t)) (Own (place order x t)) ≡ place order x (cond i (h ∷ Own t) (Own t))) [
-                | true ↦ ap (λ ys. h ∷ ys) (own_placed t s.1) ∙ sym (place_behind order x h (Own t) e)
-                | false ↦ own_placed t s.1
-              ]
+                elim (bytes_eq (key h) k) as (λ i. cond i (h ∷ Own (place order x t)) (Own (place order x t)) ≡ place order x (cond i (h ∷ Own t) (Own t))) [
+                  | true ↦ ap (λ ys. h ∷ ys) (own_placed t s.1) ∙ sym (place_behind order x h (Own t) e)
+                  | false ↦ own_placed t s.1
+                ]
           ] refl
 
   -- of another key nothing changes
@@ -392,8 +392,8 @@ module _ (most : ℕ) (key : Rank → List ℕ) where
       elim (is_before order x h) as (λ i. filter (λ y. bytes_eq (key y) j) (cond i (x ∷ h ∷ t) (h ∷ place order x t)) ≡ filter (λ y. bytes_eq (key y) j) (h ∷ t)) [
         | true ↦ ap (λ b. cond b (x ∷ filter (λ y. bytes_eq (key y) j) (h ∷ t)) (filter (λ y. bytes_eq (key y) j) (h ∷ t))) other
         | false ↦
-          elim (bytes_eq (key h) j) as (λ i. cond i (h ∷ filter (λ y. bytes_eq (key y) j) (place order x t)) (filter (λ y. bytes_eq (key y) j) (place order x t)) ≡ cond i (h ∷ filter (λ y. bytes_eq (key y) j) t) (filter (λ y. bytes_eq (key y) j) t)) [
-            | true ↦ ap (λ ys. h ∷ ys) (other_placed order j x other t)
-            | false ↦ other_placed order j x other t
-          ]
+            elim (bytes_eq (key h) j) as (λ i. cond i (h ∷ filter (λ y. bytes_eq (key y) j) (place order x t)) (filter (λ y. bytes_eq (key y) j) (place order x t)) ≡ cond i (h ∷ filter (λ y. bytes_eq (key y) j) t) (filter (λ y. bytes_eq (key y) j) t)) [
+              | true ↦ ap (λ ys. h ∷ ys) (other_placed order j x other t)
+              | false ↦ other_placed order j x other t
+            ]
       ]

@@ -1,5 +1,5 @@
 -- Lists of matches in order, and one match more in its place.
-use Rattle.std.proofs.Common.{◌≡◌, ◌≢◌, ◌<◌, ◌≤◌, ◌+◌, ◌-◌, ℕ, zero, suc, min, Bool, true, false, cond, not, ◌||◌, ◌==◌, nat_lt, List, [], ◌∷◌, length, take, drop, filter, count_by, bytes_eq, refl, sym, ap, ◌∙◌, subst, arith, true≢false}
+use Rattle.std.proofs.Common.{◌≡◌, ◌≢◌, ℕ, zero, suc, Bool, true, false, cond, not, ◌==◌, List, [], ◌∷◌, take, drop, filter, refl, sym, ap, ◌∙◌, arith, true≢false}
 use Rattle.std.specs.List.{AllByRecursion}
 use Rattle.std.proofs.lemmas.Bool.Decides.{nat_tests}
 use Rattle.std.specs.Ordering.{ordering_reverse, is_lt}
@@ -229,12 +229,12 @@ without_placed order z x zs [] apart s = ap (λ b. cond (not b) (x ∷ []) []) (
 without_placed order z x zs (y ∷ ys) apart s =
     elim (is_before order x y) as (λ b. is_before order x y ≡ b → without (z ∷ zs) (cond b (x ∷ y ∷ ys) (y ∷ place order x ys)) ≡ place order x (without_rank z.id (y ∷ ys))) [
       | true ↦ λ e.
-        let all : Leads order x (y ∷ ys) = (e, leads_through order x y ys e s.0) in
-        ap (λ b. cond (not b) (x ∷ without (z ∷ zs) (y ∷ ys)) (without (z ∷ zs) (y ∷ ys))) (other_number x.id z.id apart)
-        ∙ sym (place_front order x (without (z ∷ zs) (y ∷ ys)) (each_filter (λ w. is_before order x w ≡ true) (λ w. not (is_gone (z ∷ zs) w)) (y ∷ ys) all))
+          let all : Leads order x (y ∷ ys) = (e, leads_through order x y ys e s.0) in
+          ap (λ b. cond (not b) (x ∷ without (z ∷ zs) (y ∷ ys)) (without (z ∷ zs) (y ∷ ys))) (other_number x.id z.id apart)
+          ∙ sym (place_front order x (without (z ∷ zs) (y ∷ ys)) (each_filter (λ w. is_before order x w ≡ true) (λ w. not (is_gone (z ∷ zs) w)) (y ∷ ys) all))
       | false ↦ λ e.
-        elim (y.id == z.id) as (λ b. cond (not b) (y ∷ without (z ∷ zs) (place order x ys)) (without (z ∷ zs) (place order x ys)) ≡ place order x (cond (not b) (y ∷ without_rank z.id ys) (without_rank z.id ys))) [
-          | true ↦ without_placed order z x zs ys apart s.1
-          | false ↦ ap (λ ws. y ∷ ws) (without_placed order z x zs ys apart s.1) ∙ sym (place_behind order x y (without_rank z.id ys) e)
-        ]
+          elim (y.id == z.id) as (λ b. cond (not b) (y ∷ without (z ∷ zs) (place order x ys)) (without (z ∷ zs) (place order x ys)) ≡ place order x (cond (not b) (y ∷ without_rank z.id ys) (without_rank z.id ys))) [
+            | true ↦ without_placed order z x zs ys apart s.1
+            | false ↦ ap (λ ws. y ∷ ws) (without_placed order z x zs ys apart s.1) ∙ sym (place_behind order x y (without_rank z.id ys) e)
+          ]
     ] refl

@@ -6,7 +6,6 @@ use Rattle.sk_base.specs.declared.rank.Order.{Order}
 use Rattle.sk_base.specs.Before.{is_before}
 use Rattle.sk_model.specs.Page.{place}
 use Rattle.sk_collapse.specs.declared.verdict.Verdict.{Verdict}
-use Rattle.sk_collapse.specs.declared.verdict.Verdict.TheVariants as Verdict
 
 -- The matches without the one with this id.
 abbrev pub without_rank : ℕ → List Rank → List Rank

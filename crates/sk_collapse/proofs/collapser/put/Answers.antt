@@ -1,4 +1,4 @@
-use Rattle.std.proofs.Common.{◌≡◌, ◌+◌, ◌∙◌, ap, sym, subst, ℕ, List, bytes_eq, false, OnOk, option_to_list}
+use Rattle.std.proofs.Common.{◌≡◌, ◌+◌, sym, subst, ℕ, List, bytes_eq, false, OnOk, option_to_list}
 use Rattle.std.specs.Map.{values_of}
 use Rattle.sk_heap.specs.Held.{ranks_of}
 use Rattle.sk_collapse.specs.Collapsed.{group_of}

@@ -1,4 +1,4 @@
-use Rattle.std.proofs.Common.{◌≡◌, sym, ap, ◌∙◌}
+use Rattle.std.proofs.Common.{sym, ap, ◌∙◌}
 use Rattle.sk_collapse.specs.Collapsed.{Collapsed, Group, group_of}
 use Rattle.sk_collapse.proofs.GroupLemmas.{group_found, group_none}
 use Rattle.sk_collapse.proofs.collapser.Collapser.dropped.Goals as goal
