@@ -1,0 +1,5 @@
+pub mod PlacedLaws
+pub mod KeptMore
+pub mod CollapseLaws
+pub mod GroupLemmas
+pub mod SeeLemmas

@@ -1,0 +1,3 @@
+pub mod Collapsed
+pub mod Verdicts
+pub mod Groups
