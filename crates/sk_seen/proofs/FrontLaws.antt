@@ -11,7 +11,7 @@ use Rattle.sk_model.proofs.OrderLaws.{before_order, not_before_itself, NoneBefor
 use Rattle.sk_seen.specs.Shown.{is_behind, Shown}
 use Rattle.sk_seen.proofs.ShownLaws.{shown_front}
 
-both_are : (a b : Bool) → a ≡ true → b ≡ true → (a && b) ≡ true
+pub both_are : (a b : Bool) → a ≡ true → b ≡ true → (a && b) ≡ true
 both_are true b e f = f
 both_are false b e f = e
 

@@ -2,3 +2,4 @@ pub mod ShownLaws
 pub mod FrontLaws
 pub mod WalkLaws
 pub mod ToldLaws
+pub mod PageLaws

@@ -1,3 +1,4 @@
 pub mod Shown
 pub mod Walks
 pub mod Told
+pub mod Pages
