@@ -3,6 +3,7 @@ ghost use Rattle.std.specs.Prelude.{◌≡◌, ◌<◌, ◌≤◌, [], ◌∷◌
 ghost use Rattle.std.specs.List.{insert};
 ghost use Rattle.sk_dict.specs.Blocks.{IsBlock};
 
+use crate::room::make_room;
 use std::alloc::{AllocError, Global};
 use std::marker::Model;
 
@@ -50,6 +51,7 @@ impl Block {
         ensures ok { OnOk result (self.new ≡ insert self.old offset number) }
         ensures err { OnErr result (self.new ≡ self.old) }
     {
+        make_room(&mut self.numbers)?;
         self.numbers.insert(offset, number)?;
         Ok(())
     }
@@ -63,11 +65,12 @@ impl Block {
         Ok(Block { numbers })
     }
 
-    /// Keeps the first `count` numbers. It takes no memory.
+    /// Keeps the first `count` numbers, and gives the room of the others back.
     pub fn truncate(&mut self, count: usize)
         requires { 0 < count }
         ensures { self.new ≡ take count self.old }
     {
         self.numbers.truncate(count);
+        self.numbers.shrink_to_fit();
     }
 }

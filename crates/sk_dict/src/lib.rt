@@ -4,9 +4,11 @@
 mod block;
 mod dict;
 mod order;
+mod room;
 mod terms;
 
 pub use dict::Dict;
+pub use room::make_room;
 
 #[cfg(test)]
 mod tests;

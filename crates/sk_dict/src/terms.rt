@@ -4,6 +4,7 @@ ghost use Rattle.sk_dict.specs.Terms.{term_at};
 ghost use Rattle.sk_dict.specs.Searches.{stands_before};
 ghost use Rattle.sk_dict.specs.Heads.{AreBytes, head_of};
 
+use crate::room::make_room;
 use sk_base::Term;
 use std::alloc::{AllocError, Global};
 use std::cmp::Ordering;
@@ -110,7 +111,8 @@ impl Terms {
         ensures err { OnErr result (self.new ≡ self.old) }
     {
         let head = head_of(term.as_str().as_bytes());
-        self.terms.reserve(1)?;
+        make_room(&mut self.terms)?;
+        make_room(&mut self.heads)?;
         self.heads.push(head)?;
         match self.terms.push(term) {
             Ok(()) => Ok(()),

@@ -8,7 +8,7 @@ ghost use Rattle.sk_index.specs.Listed.{list_of, IsListed, IsEdited, SameLists, 
 ghost use Rattle.sk_index.specs.Wild.{figure_of, sum_behind};
 
 use sk_base::{DocId, DocTerm, Term};
-use sk_dict::Dict;
+use sk_dict::{Dict, make_room};
 use sk_lists::List;
 use std::alloc::{AllocError, Global};
 use std::marker::Model;
@@ -207,6 +207,7 @@ impl TermLists {
         ensures same { OnOk result (SameLists self.old self.new) }
     {
         let term = Term::new(self.alloc, term)?;
+        make_room(&mut self.lists)?;
         self.lists.push(List::new(self.alloc))?;
         match self.dict.add(term) {
             Ok(number) => Ok(number),

@@ -1,7 +1,7 @@
 -- Laws of a cursor, for those who walk through a list.
-use Rattle.std.proofs.Common.{◌≡◌, ℕ, ◌+◌, ◌-◌, ◌<◌, ◌≤◌, List, [], ◌∷◌, ◌++◌, length, drop, get_or, Option, None, Some, sym, ap, subst, ◌∙◌, arith}
+use Rattle.std.proofs.Common.{◌≡◌, ℕ, ◌+◌, ◌-◌, ◌<◌, ◌≤◌, [], ◌∷◌, length, drop, get_or, Option, None, Some, ap, subst, ◌∙◌, arith}
 use Rattle.std.proofs.lemmas.List.{drop_more, length-append, get_or_append_left}
-use Rattle.sk_sorted.specs.Entries.{AreSorted, LieBelow}
+use Rattle.sk_sorted.specs.Entries.{AreSorted}
 use Rattle.sk_sorted.proofs.EntryLaws.{AreSorted-drop}
 use Rattle.sk_runs.specs.Runs.{flat, AreRuns}
 use Rattle.sk_runs.proofs.RunLaws.{AreRuns-sorted, AreRuns-drop, flat-drop}

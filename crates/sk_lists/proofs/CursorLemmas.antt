@@ -1,7 +1,7 @@
 -- What a seek's reading in one run needs, and its clauses.
 use Rattle.std.proofs.Common.{◌≡◌, ◌≢◌, ℕ, ◌+◌, ◌-◌, ◌<◌, ◌≤◌, [], ◌∷◌, ◌++◌, length, take, drop, get_or, true, Option, Some, None, inl, inr, refl, sym, ap, subst, ◌∙◌, arith}
 use Rattle.std.proofs.lemmas.Bool.{cases_eq, ltb-true}
-use Rattle.std.proofs.lemmas.List.{take_more, length-drop, get_or-drop}
+use Rattle.std.proofs.lemmas.List.{take_more, length-drop, get_or-drop, get_or_default}
 use Rattle.sk_sorted.specs.Entries.{LieBelow, top_id}
 use Rattle.sk_runs.specs.Runs.{AreRuns}
 use Rattle.sk_runs.proofs.RunLaws.{top-at, tops_rise}
@@ -52,47 +52,62 @@ pub in_list : (target : ℕ) (head : Option (ℕ × ℕ)) (run read : ℕ) (runs
 in_list target head run read runs on ahead = (behind target head run read runs on ahead).on.there
 
 -- where its run does not end below the target, more of that is unread
-pub more_here : (target : ℕ) (head : Option (ℕ × ℕ)) (run read : ℕ) (runs : Runs) → IsHeadAt head run read runs → is_below target (headed head (rest_from run read runs)) ≡ true
-    → target ≤ top_id 0 (get_or runs run []) → read < length (get_or runs run [])
-more_here target head run read runs on ahead reaches =
+pub more_here : (target : ℕ) (head : Option (ℕ × ℕ)) (run read : ℕ) (runs : Runs) (chunk : Postings) → IsHeadAt head run read runs → is_below target (headed head (rest_from run read runs)) ≡ true
+    → chunk ≡ get_or runs run chunk → target ≤ top_id 0 chunk → read < length chunk
+more_here target head run read runs chunk on ahead is reaches =
     let b = behind target head run read runs on ahead in
+    let same : chunk ≡ get_or runs run [] = is ∙ get_or_default runs run chunk [] b.on.there in
     let begun : 0 < read = b.on.begun in
     let within : read ≤ length (get_or runs run []) = b.on.within in
-    let more : read - 1 + 1 < length (get_or runs run []) = more_behind target (read - 1) (get_or runs run []) b.entry (omega (arith, begun, within)) (sym b.on.is) b.below reaches in
-    omega (arith, more, begun)
+    let more : read - 1 + 1 < length (get_or runs run []) = more_behind target (read - 1) (get_or runs run []) b.entry (omega (arith, begun, within)) (sym b.on.is) b.below (subst (λ (ps : Postings). target ≤ top_id 0 ps) same reaches) in
+    omega (arith, more, begun, ap length same)
 
 -- ---- a seek's clauses
 
 -- it read on in the run where it was
-pub seeks_here : (target need count : ℕ) (runs : Runs) (head : Option (ℕ × ℕ)) (run read at : ℕ) (next : Option (ℕ × ℕ)) (place after : ℕ) (chunk : Postings)
-    → AreRuns runs → IsHeadAt head run read runs → true ≡ is_below target (headed head (rest_from run read runs)) → run ≤ at → ((k : ℕ) → run ≤ k → k < at → IsSkipped target need (get_or runs k []))
-    → at ≤ length runs → at ≢ length runs → at ≡ run → place ≡ at → chunk ≡ get_or runs at [] → IsReadTo target read after count next chunk
+pub seeks_here : (target need count : ℕ) (runs : Runs) (head : Option (ℕ × ℕ)) (run read : ℕ) (next : Option (ℕ × ℕ)) (place after : ℕ) (chunk : Postings)
+    → AreRuns runs → IsHeadAt head run read runs → is_below target (headed head (rest_from run read runs)) ≡ true
+    → place ≡ run → chunk ≡ get_or runs run chunk → IsReadTo target read after count next chunk
     → Sought target need count runs head run read next place after
-seeks_here target need count runs head run read at next place after chunk are on ahead onward skips within inside same there is to =
-    let b = behind target head run read runs on (sym ahead) in
+seeks_here target need count runs head run read next place after chunk are on ahead there is to =
+    let b = behind target head run read runs on ahead in
     subst (λ o. Sought target need count runs o run read next place after) (sym b.is)
     (subst (λ p. Sought target need count runs (Some b.entry) run read next p after) (sym there)
-    (sought_here target need runs are.rise b.entry run read at b.on b.below onward skips after count next same (omega (arith, within, inside)) (subst (IsReadTo target read after count next) is to)))
+    (sought_here target need runs are.rise b.entry run read run b.on b.below (omega arith) (λ k from lt. absurd (omega (arith, from, lt))) after count next refl b.on.there
+    (subst (IsReadTo target read after count next) (is ∙ get_or_default runs run chunk [] b.on.there) to)))
+
+-- one more run before those that may be passed over
+skips_from : (target need run at : ℕ) (runs : Runs) → IsSkipped target need (get_or runs run []) → ((k : ℕ) → run + 1 ≤ k → k < at → IsSkipped target need (get_or runs k []))
+    → (k : ℕ) → run ≤ k → k < at → IsSkipped target need (get_or runs k [])
+skips_from target need run at runs first skips k from lt = elim (cases_eq k run) [
+  | inl same ↦ subst (λ i. IsSkipped target need (get_or runs i [])) (sym same) first
+  | inr other ↦ skips k (omega (arith, from, other)) lt
+]
 
 -- it read in a later run
-pub seeks_behind : (target need count : ℕ) (runs : Runs) (head : Option (ℕ × ℕ)) (run read at : ℕ) (next : Option (ℕ × ℕ)) (place after : ℕ) (chunk : Postings)
-    → AreRuns runs → IsHeadAt head run read runs → true ≡ is_below target (headed head (rest_from run read runs)) → run ≤ at → ((k : ℕ) → run ≤ k → k < at → IsSkipped target need (get_or runs k []))
-    → at ≤ length runs → at ≢ length runs → at ≢ run → place ≡ at → chunk ≡ get_or runs at [] → IsReadTo target 0 after count next chunk
+pub seeks_behind : (target need count : ℕ) (runs : Runs) (head : Option (ℕ × ℕ)) (run read at : ℕ) (next : Option (ℕ × ℕ)) (place after : ℕ) (here chunk : Postings)
+    → AreRuns runs → IsHeadAt head run read runs → is_below target (headed head (rest_from run read runs)) ≡ true
+    → here ≡ get_or runs run here → IsSkipped target need here → run + 1 ≤ at → ((k : ℕ) → run + 1 ≤ k → k < at → IsSkipped target need (get_or runs k []))
+    → at ≤ length runs → at ≢ length runs → place ≡ at → chunk ≡ get_or runs at [] → IsReadTo target 0 after count next chunk
     → Sought target need count runs head run read next place after
-seeks_behind target need count runs head run read at next place after chunk are on ahead onward skips within inside other there is to =
-    let b = behind target head run read runs on (sym ahead) in
+seeks_behind target need count runs head run read at next place after here chunk are on ahead was first onward skips within inside there is to =
+    let b = behind target head run read runs on ahead in
+    let passed = subst (IsSkipped target need) (was ∙ get_or_default runs run here [] b.on.there) first in
     subst (λ o. Sought target need count runs o run read next place after) (sym b.is)
     (subst (λ p. Sought target need count runs (Some b.entry) run read next p after) (sym there)
-    (sought_behind target need runs are.rise b.entry run read at b.on b.below onward skips after count next other (omega (arith, within, inside)) (subst (IsReadTo target 0 after count next) is to)))
+    (sought_behind target need runs are.rise b.entry run read at b.on b.below (omega (arith, onward)) (skips_from target need run at runs passed skips)
+    after count next (λ e. absurd (omega (arith, e, onward))) (omega (arith, within, inside)) (subst (IsReadTo target 0 after count next) is to)))
 
 -- it came to the end
-pub seeks_end : (target need : ℕ) (runs : Runs) (head : Option (ℕ × ℕ)) (run read at after : ℕ)
-    → AreRuns runs → IsHeadAt head run read runs → true ≡ is_below target (headed head (rest_from run read runs)) → run ≤ at → ((k : ℕ) → run ≤ k → k < at → IsSkipped target need (get_or runs k []))
+pub seeks_end : (target need : ℕ) (runs : Runs) (head : Option (ℕ × ℕ)) (run read at after : ℕ) (here : Postings)
+    → AreRuns runs → IsHeadAt head run read runs → is_below target (headed head (rest_from run read runs)) ≡ true
+    → here ≡ get_or runs run here → IsSkipped target need here → run + 1 ≤ at → ((k : ℕ) → run + 1 ≤ k → k < at → IsSkipped target need (get_or runs k []))
     → at ≡ length runs → Sought target need 0 runs head run read None at after
-seeks_end target need runs head run read at after are on ahead onward skips end =
-    let b = behind target head run read runs on (sym ahead) in
+seeks_end target need runs head run read at after here are on ahead was first onward skips end =
+    let b = behind target head run read runs on ahead in
+    let passed = subst (IsSkipped target need) (was ∙ get_or_default runs run here [] b.on.there) first in
     subst (λ o. Sought target need 0 runs o run read None at after) (sym b.is)
-    (sought_end target need runs are.rise b.entry run read at b.on b.below onward skips after end)
+    (sought_end target need runs are.rise b.entry run read at b.on b.below (omega (arith, onward)) (skips_from target need run at runs passed skips) after end)
 
 -- what is read was unread before
 pub reads_once : (target count : ℕ) (old new : Postings) → Reads target count old new → count + length new ≤ length old

@@ -1,12 +1,11 @@
 -- What an edit of one chunk is to all of them.
-use Rattle.std.proofs.Common.{◌≡◌, ℕ, zero, suc, ◌+◌, ◌-◌, ◌<◌, ◌≤◌, ◌^◌, max, List, [], ◌∷◌, ◌++◌, length, take, drop, get_or, set, nat_lt, true, false, is_some, Option, Some, None, refl, sym, ap, subst, ◌∙◌, arith, inl, inr}
+use Rattle.std.proofs.Common.{◌≡◌, ℕ, zero, suc, ◌+◌, ◌<◌, ◌≤◌, ◌^◌, max, List, [], ◌∷◌, ◌++◌, length, take, drop, get_or, set, nat_lt, true, false, is_some, Option, Some, None, refl, sym, ap, subst, ◌∙◌, arith}
 use mathlib.Core.Bool.{true≢false}
 use Rattle.std.specs.List.{insert, remove}
 use Rattle.std.specs.List.Sorted.{IsPartitionedBy}
-use Rattle.std.proofs.lemmas.Bool.{cases_order, cases_eq}
 use Rattle.std.proofs.lemmas.Bool.Decides.{nat_tests}
 use Rattle.std.proofs.lemmas.List.{length-append, length-take, length-drop, set-get_or, get_or_default, get_or-set_same, append_assoc, take_more, map-append}
-use Rattle.sk_sorted.specs.Entries.{RiseAbove, LieBelow, AreSorted, put, without, has, found, ids_of, top_id}
+use Rattle.sk_sorted.specs.Entries.{RiseAbove, LieBelow, put, without, has, found, ids_of, top_id}
 use Rattle.sk_sorted.proofs.EntryLaws.{LieBelow-put, LieBelow-without, length_fits, put-last, without-absent}
 use Rattle.sk_runs.specs.Runs.{flat, RunsRise, AreRuns, FitsAt}
 use Rattle.sk_runs.proofs.RunLaws.{put_in_run, without_in_run, found_in_run, rise_put, rise_without, rise_cut, flat-cut, rise_joined, flat-join, fits-cut, fits-behind, cut-first, cut-second, cut-length, before-removed, put-back, next-rises, tops_rise, all_below, flat-drop, flat-remove, rise_remove, flat-last, rise_last, AreRuns-sorted}

@@ -1,11 +1,11 @@
 -- A seek, put together of what it passed over by heads and of what it read.
-use Rattle.std.proofs.Common.{◌≡◌, ◌≢◌, ℕ, zero, suc, ◌+◌, ◌-◌, ◌<◌, ◌≤◌, List, [], ◌∷◌, ◌++◌, length, take, drop, get_or, nat_lt, if◌then◌else◌, false, true, max, Option, Some, None, ◌⊎◌, inl, inr, refl, sym, ap, subst, ◌∙◌, arith, le_refl}
+use Rattle.std.proofs.Common.{◌≡◌, ◌≢◌, ℕ, zero, suc, ◌+◌, ◌-◌, ◌<◌, ◌≤◌, [], ◌∷◌, ◌++◌, length, take, drop, get_or, nat_lt, if◌then◌else◌, false, Option, Some, None, inl, inr, refl, sym, ap, subst, ◌∙◌, arith, le_refl}
 use Rattle.std.proofs.lemmas.Bool.{cases_lt}
 use Rattle.std.proofs.lemmas.Bool.Decides.{nat_tests}
 use Rattle.std.proofs.lemmas.List.{append_assoc, append-nil, take-append-drop, length-append, length-take, length-take-le, length-drop, drop-drop, drop_all, drop_more, drop-append-le, take-append-le, get_or-take, get_or-drop}
 use Rattle.std.proofs.Math.Seq.{drop-append_seam, drop-append-add, drop-length}
-use Rattle.sk_sorted.specs.Entries.{RiseAbove, LieBelow, AreSorted, from, top_id}
-use Rattle.sk_sorted.proofs.EntryLaws.{RiseAbove-lower, from-below, from-at}
+use Rattle.sk_sorted.specs.Entries.{RiseAbove, LieBelow, from, top_id}
+use Rattle.sk_sorted.proofs.EntryLaws.{from-below, from-at}
 use Rattle.sk_runs.specs.Runs.{flat, RunsRise}
 use Rattle.sk_runs.proofs.RunLaws.{below-top, flat-append, flat-drop, rise_drop, rise_take}
 use Rattle.sk_chunks.specs.Postings.{Postings, greatest_wdf, is_below}

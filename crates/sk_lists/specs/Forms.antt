@@ -1,6 +1,5 @@
 -- What a list of either form holds.
 use Rattle.sk_lists.specs.declared.list.Form.{Form}
-use Rattle.sk_lists.specs.declared.list.Form.TheVariants as Form
 use Rattle.sk_lists.specs.Lists.{Runs, one_run}
 
 -- A short list is one chunk, and another has a directory.

@@ -1,5 +1,5 @@
 -- What a seek passes over, and what it reads.
-use Rattle.std.specs.Prelude.{◌≡◌, ◌<◌, ◌≤◌, ◌⊎◌, ℕ, ◌+◌, ◌-◌, false, nat_lt, List, [], ◌∷◌, ◌++◌, length, take, drop, if◌then◌else◌}
+use Rattle.std.specs.Prelude.{◌≡◌, ◌<◌, ◌≤◌, ◌⊎◌, ℕ, ◌+◌, ◌-◌, false, nat_lt, [], ◌∷◌, ◌++◌, length, take, drop, if◌then◌else◌}
 use Rattle.sk_sorted.specs.Entries.{LieBelow, top_id}
 use Rattle.sk_chunks.specs.Postings.{Postings, greatest_wdf, is_below}
 

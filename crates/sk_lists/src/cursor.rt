@@ -1,5 +1,5 @@
 //! A place in a posting list, which only moves on.
-ghost use Rattle.std.specs.Prelude.{◌≡◌, ◌+◌, ◌<◌, ◌≤◌, ℕ, length, drop, get_or, min, [], false, Option, Some};
+ghost use Rattle.std.specs.Prelude.{◌≡◌, ◌+◌, ◌<◌, ◌≤◌, ℕ, length, drop, get_or, min, [], true, false, Option, Some};
 ghost use Rattle.sk_sorted.specs.Entries.{first_id, top_id};
 ghost use Rattle.sk_runs.specs.Runs.{flat};
 ghost use Rattle.sk_chunks.specs.Postings.{first_wdf, is_below};
@@ -75,19 +75,18 @@ impl Cursor {
         if !self.is_below(target) {
             return 0;
         }
-        let at = reached(list, self.run, target, need_wdf);
+        let here = &list.as_slice()[self.run];
+        if stops_in(here, target, need_wdf) {
+            return self.read_on(here, target, steps);
+        }
+        let at = find(list, self.run + 1, target, need_wdf);
+        self.run = at;
         if at == list.chunks() {
-            self.run = at;
             self.head = None;
             return 0;
         }
-        let chunk = list.chunk(at);
-        if at == self.run {
-            return self.read_on(chunk, target, steps);
-        }
-        self.run = at;
         self.read = 0;
-        self.read_on(chunk, target, steps)
+        self.read_on(list.chunk(at), target, steps)
     }
 
     /// The head's id; none where the cursor has ended.
@@ -127,12 +126,13 @@ impl Cursor {
         ensures cost { steps.new ≡ steps.old + result }
     {
         let _few = chunk.count();
-        let mut count = 0u32;
+        let mut read = self.read;
         'seek: loop {
-            let entry = chunk.entry(self.read, steps);
-            self.read += 1;
-            count += 1;
+            let entry = chunk.entry(read, steps);
+            read += 1;
             if entry.0 >= target {
+                let count = read - self.read;
+                self.read = read;
                 self.head = Some(entry);
                 return count;
             }
@@ -140,24 +140,16 @@ impl Cursor {
     }
 }
 
-// The first chunk from this one on that a seek may not pass over, which mostly is this one; their number where there is
-// none.
-fn reached(list: &List, run: usize, target: u32, need_wdf: u32) -> usize
-    requires { run ≤ length list.now }
-    ensures bound { (run ≤ result) × (result ≤ length list.now) }
-    ensures skips { (k : ℕ) → run ≤ k → k < result → IsSkipped target need_wdf (get_or list.now k []) }
-    ensures stops { result < length list.now → target ≤ top_id 0 (get_or list.now result []) }
+// Whether a seek reads in this chunk; where not, it may pass over it.
+fn stops_in(chunk: &Chunk, target: u32, need_wdf: u32) -> bool
+    ensures skips { result ≡ false → IsSkipped target need_wdf chunk.now }
+    ensures stops { result ≡ true → target ≤ top_id 0 chunk.now }
 {
-    if run < list.chunks() {
-        let here = list.chunk(run);
-        if target <= here.last() && need_wdf <= here.greatest() {
-            return run;
-        }
-    }
-    find(list, run, target, need_wdf)
+    target <= chunk.last() && need_wdf <= chunk.greatest()
 }
 
 // The first chunk from this one on that a seek may not pass over; their number where there is none.
+#[inline(never)]
 fn find(list: &List, run: usize, target: u32, need_wdf: u32) -> usize
     requires { run ≤ length list.now }
     ensures bound { (run ≤ result) × (result ≤ length list.now) }

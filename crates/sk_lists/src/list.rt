@@ -10,6 +10,7 @@ use sk_chunks::Chunk;
 use std::alloc::{AllocError, Global};
 use std::fmt::{Debug, Error, Formatter, Write};
 use std::marker::Model;
+use std::slice;
 
 // A chunk has so many entries at most.
 const FULL: u32 = 128;
@@ -105,6 +106,20 @@ impl List {
         match &self.form {
             Form::Many(directory) => directory.greatest(),
             Form::One(chunk) => chunk.greatest(),
+        }
+    }
+
+    /// The chunks, looked up once for all that is asked of them.
+    pub fn as_slice(&self) -> &[Chunk]
+        ensures value { result.now ≡ self.now }
+        ensures sound { AreRuns self.now }
+    {
+        match &self.form {
+            Form::Many(directory) => directory.chunks(),
+            Form::One(chunk) => {
+                let count = if chunk.count() == 0 { 0 } else { 1 };
+                &slice::from_ref(chunk)[..count]
+            }
         }
     }
 

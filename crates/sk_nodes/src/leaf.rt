@@ -70,6 +70,7 @@ impl Leaf {
     }
 
     /// Moves on to the first entry from the target on; it may pass over what weighs less than the need.
+    #[inline(always)]
     pub fn seek<L: Ledger>(
         &mut self,
         top: &mut Top,
@@ -121,10 +122,11 @@ impl Leaf {
         ensures at { (i : Indexed) → IsLeafOn i self.now → top.new.head ≡ head_of (entries_of i self.now) }
         ensures falls { top.new.greatest ≤ self.now.greatest }
     {
+        let wdf = self.cursor.wdf();
         match self.cursor.head() {
             Some(id) => {
                 top.head = u64::from(id);
-                top.weight = weigh_by(self.factor, self.scheme, u64::from(self.cursor.wdf()));
+                top.weight = weigh_by(self.factor, self.scheme, u64::from(wdf));
                 top.greatest = self.greatest;
             }
             None => {

@@ -20,6 +20,7 @@ use std::sync::ledger::Ledger;
 
 /// Moves a node on that stands before the target.
 #[cycle(seek)]
+#[inline(always)]
 pub(crate) fn reach<L: Ledger>(
     top: &mut Top,
     node: &mut Node,
@@ -57,9 +58,39 @@ pub(crate) fn reach<L: Ledger>(
     top.greatest = top.greatest.min(before);
 }
 
-/// Moves a node on to its first match from the target on.
+/// Moves a node on to its first match from the target on. A leaf, as most nodes are, moves on with no call.
 #[cycle(seek)]
+#[inline(always)]
 fn seek<L: Ledger>(
+    top: &mut Top,
+    node: &mut Node,
+    index: &Index,
+    target: u64,
+    need: u64,
+    spent: &mut u128,
+    steps: &mut Steps<L>,
+)
+    requires sound { Sound index.now (shape_of node.old) }
+    requires target { target < 2 ^ 32 }
+    requires room { spent.old + unread_of index.now (shape_of node.old) < 2 ^ 128 }
+    ensures top { IsTop index.now top.new (shape_of node.new) }
+    ensures sound { Sound index.now (shape_of node.new) }
+    ensures covers { Covers (from_on target (rest index.now (shape_of node.old))) (rest index.now (shape_of node.new)) need }
+    ensures reached { target ≤ top.new.head }
+    ensures smaller { size_of (shape_of node.new) ≤ size_of (shape_of node.old) }
+    ensures paid { spent.new + unread_of index.now (shape_of node.new) ≤ spent.old + unread_of index.now (shape_of node.old) }
+    ensures counted { steps.new + spent.old ≡ steps.old + spent.new }
+    ensures later { spent.old ≤ spent.new }
+{
+    match node {
+        Node::Leaf(leaf) => leaf.seek(top, index, target, need, spent, steps),
+        _ => seek_inner(top, node, index, target, need, spent, steps),
+    }
+}
+
+/// The same by a call.
+#[cycle(seek)]
+fn seek_inner<L: Ledger>(
     top: &mut Top,
     node: &mut Node,
     index: &Index,
@@ -96,6 +127,7 @@ fn seek<L: Ledger>(
 
 /// Moves two sides on to their first match from the target on.
 #[cycle(seek)]
+#[inline(always)]
 pub(crate) fn seek_pair<L: Ledger>(
     top: &mut Top,
     form: Form,

@@ -1,5 +1,5 @@
 -- One chunk more, and the bound is reached.
-use Rattle.std.proofs.Common.{◌≡◌, max, ap, ◌∙◌, arith}
+use Rattle.std.proofs.Common.{max, ap, ◌∙◌, arith}
 use Rattle.sk_runs.specs.Runs.{flat}
 use Rattle.sk_chunks.specs.Postings.{greatest_wdf}
 use Rattle.sk_lists.proofs.DirectoryLemmas.{greatest_more}

@@ -27,26 +27,26 @@ reach-returns-clause-top g t c =
     (capped_top i c.seek.new.top (shape_of c.seek.new.node) c.args.top.now.greatest c.seek.ensures.top
     (AtMost-covers c.args.target c.args.need c.args.top.now.greatest (rest i (shape_of c.args.node.now)) (rest i (shape_of c.seek.new.node)) c.requires.top.bound (reach-returns-clause-covers g t c)))
 
-pub seek-returns-in-Pair-clause-top : goal.seek-returns-in-Pair-clause-top
-seek-returns-in-Pair-clause-top g t c = subst (λ (s : Shape). IsTop c.args.index.now c.seek_pair.new.top s) (sym (shape_of-Pair _ _ _ _ _)) c.seek_pair.ensures.top
+pub seek_inner-returns-in-Pair-clause-top : goal.seek_inner-returns-in-Pair-clause-top
+seek_inner-returns-in-Pair-clause-top g t c = subst (λ (s : Shape). IsTop c.args.index.now c.seek_pair.new.top s) (sym (shape_of-Pair _ _ _ _ _)) c.seek_pair.ensures.top
 
-pub seek-returns-in-Pair-clause-sound : goal.seek-returns-in-Pair-clause-sound
-seek-returns-in-Pair-clause-sound g t c = subst (λ (s : Shape). Sound c.args.index.now s) (sym (shape_of-Pair _ _ _ _ _)) c.seek_pair.ensures.sound
+pub seek_inner-returns-in-Pair-clause-sound : goal.seek_inner-returns-in-Pair-clause-sound
+seek_inner-returns-in-Pair-clause-sound g t c = subst (λ (s : Shape). Sound c.args.index.now s) (sym (shape_of-Pair _ _ _ _ _)) c.seek_pair.ensures.sound
 
-pub seek-returns-in-Pair-clause-covers : goal.seek-returns-in-Pair-clause-covers
-seek-returns-in-Pair-clause-covers g t c =
+pub seek_inner-returns-in-Pair-clause-covers : goal.seek_inner-returns-in-Pair-clause-covers
+seek_inner-returns-in-Pair-clause-covers g t c =
     covers_along c.args.index.now c.args.target c.args.need _ _ _ _
     (parts_shape c.args.node.now c.in-Pair.form c.in-Pair.ta c.in-Pair.tb c.in-Pair.a c.in-Pair.b _ _ _ _ _ c.in-Pair.is c.in-Pair.form-is c.in-Pair.ta-is c.in-Pair.tb-is (c.deref_mut.ensures.value ∙ ap (λ (x : Box Node Global). x.value) c.in-Pair.a-is) (c.deref_mut-in-Pair.ensures.value ∙ ap (λ (x : Box Node Global). x.value) c.in-Pair.b-is))
     (shape_of-Pair _ _ _ _ _) c.seek_pair.ensures.covers
 
-pub seek-returns-in-Pair-clause-smaller : goal.seek-returns-in-Pair-clause-smaller
-seek-returns-in-Pair-clause-smaller g t c =
+pub seek_inner-returns-in-Pair-clause-smaller : goal.seek_inner-returns-in-Pair-clause-smaller
+seek_inner-returns-in-Pair-clause-smaller g t c =
     size_along _ _ _ _
     (parts_shape c.args.node.now c.in-Pair.form c.in-Pair.ta c.in-Pair.tb c.in-Pair.a c.in-Pair.b _ _ _ _ _ c.in-Pair.is c.in-Pair.form-is c.in-Pair.ta-is c.in-Pair.tb-is (c.deref_mut.ensures.value ∙ ap (λ (x : Box Node Global). x.value) c.in-Pair.a-is) (c.deref_mut-in-Pair.ensures.value ∙ ap (λ (x : Box Node Global). x.value) c.in-Pair.b-is))
     (shape_of-Pair _ _ _ _ _) (omega (arith, c.seek_pair.ensures.smaller))
 
-pub seek-returns-in-Pair-clause-paid : goal.seek-returns-in-Pair-clause-paid
-seek-returns-in-Pair-clause-paid g t c =
+pub seek_inner-returns-in-Pair-clause-paid : goal.seek_inner-returns-in-Pair-clause-paid
+seek_inner-returns-in-Pair-clause-paid g t c =
     paid_along c.args.index.now _ _ _ _ c.args.spent.now c.seek_pair.new.spent
     (parts_shape c.args.node.now c.in-Pair.form c.in-Pair.ta c.in-Pair.tb c.in-Pair.a c.in-Pair.b _ _ _ _ _ c.in-Pair.is c.in-Pair.form-is c.in-Pair.ta-is c.in-Pair.tb-is (c.deref_mut.ensures.value ∙ ap (λ (x : Box Node Global). x.value) c.in-Pair.a-is) (c.deref_mut-in-Pair.ensures.value ∙ ap (λ (x : Box Node Global). x.value) c.in-Pair.b-is))
     (shape_of-Pair _ _ _ _ _) c.seek_pair.ensures.paid
@@ -297,26 +297,26 @@ seek_tested-tests-preserved g t c =
       later = omega (arith, c.reach.ensures.later, c.holds.ensures.later, c.tests.invariant.later);
     }
 
-pub seek-returns-in-Tested-clause-top : goal.seek-returns-in-Tested-clause-top
-seek-returns-in-Tested-clause-top g t c = subst (λ (s : Shape). IsTop c.args.index.now c.seek_tested.new.top s) (sym (shape_of-Tested _ _ _)) c.seek_tested.ensures.top
+pub seek_inner-returns-in-Tested-clause-top : goal.seek_inner-returns-in-Tested-clause-top
+seek_inner-returns-in-Tested-clause-top g t c = subst (λ (s : Shape). IsTop c.args.index.now c.seek_tested.new.top s) (sym (shape_of-Tested _ _ _)) c.seek_tested.ensures.top
 
-pub seek-returns-in-Tested-clause-sound : goal.seek-returns-in-Tested-clause-sound
-seek-returns-in-Tested-clause-sound g t c = subst (λ (s : Shape). Sound c.args.index.now s) (sym (shape_of-Tested _ _ _)) c.seek_tested.ensures.sound
+pub seek_inner-returns-in-Tested-clause-sound : goal.seek_inner-returns-in-Tested-clause-sound
+seek_inner-returns-in-Tested-clause-sound g t c = subst (λ (s : Shape). Sound c.args.index.now s) (sym (shape_of-Tested _ _ _)) c.seek_tested.ensures.sound
 
-pub seek-returns-in-Tested-clause-covers : goal.seek-returns-in-Tested-clause-covers
-seek-returns-in-Tested-clause-covers g t c =
+pub seek_inner-returns-in-Tested-clause-covers : goal.seek_inner-returns-in-Tested-clause-covers
+seek_inner-returns-in-Tested-clause-covers g t c =
     covers_along c.args.index.now c.args.target c.args.need _ _ _ _
     (tested_shape c.args.node.now c.in-Tested.test c.in-Tested.below c.in-Tested.node _ _ _ c.in-Tested.is c.in-Tested.test-is c.in-Tested.below-is (c.deref_mut-in-Tested.ensures.value ∙ ap (λ (x : Box Node Global). x.value) c.in-Tested.node-is))
     (shape_of-Tested _ _ _) c.seek_tested.ensures.covers
 
-pub seek-returns-in-Tested-clause-smaller : goal.seek-returns-in-Tested-clause-smaller
-seek-returns-in-Tested-clause-smaller g t c =
+pub seek_inner-returns-in-Tested-clause-smaller : goal.seek_inner-returns-in-Tested-clause-smaller
+seek_inner-returns-in-Tested-clause-smaller g t c =
     size_along _ _ _ _
     (tested_shape c.args.node.now c.in-Tested.test c.in-Tested.below c.in-Tested.node _ _ _ c.in-Tested.is c.in-Tested.test-is c.in-Tested.below-is (c.deref_mut-in-Tested.ensures.value ∙ ap (λ (x : Box Node Global). x.value) c.in-Tested.node-is))
     (shape_of-Tested _ _ _) (omega (arith, c.seek_tested.ensures.smaller))
 
-pub seek-returns-in-Tested-clause-paid : goal.seek-returns-in-Tested-clause-paid
-seek-returns-in-Tested-clause-paid g t c =
+pub seek_inner-returns-in-Tested-clause-paid : goal.seek_inner-returns-in-Tested-clause-paid
+seek_inner-returns-in-Tested-clause-paid g t c =
     paid_along c.args.index.now _ _ _ _ c.args.spent.now c.seek_tested.new.spent
     (tested_shape c.args.node.now c.in-Tested.test c.in-Tested.below c.in-Tested.node _ _ _ c.in-Tested.is c.in-Tested.test-is c.in-Tested.below-is (c.deref_mut-in-Tested.ensures.value ∙ ap (λ (x : Box Node Global). x.value) c.in-Tested.node-is))
     (shape_of-Tested _ _ _) c.seek_tested.ensures.paid

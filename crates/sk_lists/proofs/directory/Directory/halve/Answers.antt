@@ -1,5 +1,5 @@
 -- The entries stay the same.
-use Rattle.std.proofs.Common.{length, get_or, [], subst, sym, ap, ◌∙◌, ◌≡◌, ◌<◌}
+use Rattle.std.proofs.Common.{length, get_or, [], subst, sym, ◌≡◌, ◌<◌}
 use Rattle.sk_lists.specs.Lists.{Runs}
 use Rattle.sk_lists.proofs.DirectoryLemmas.{halved_sound}
 use Rattle.sk_lists.proofs.directory.Directory.halve.Goals as goal

@@ -1,5 +1,5 @@
 -- The entries stay the same, whether the two become one or not.
-use Rattle.std.proofs.Common.{◌≡◌, sym, ◌∙◌, ap, subst, arith}
+use Rattle.std.proofs.Common.{sym, ◌∙◌, ap, subst, arith}
 use Rattle.sk_runs.specs.Runs.{flat}
 use Rattle.sk_lists.specs.Lists.{Runs, IsDirectory}
 use Rattle.sk_lists.proofs.DirectoryLemmas.{join_asks, joined_sound, joined_flat, unjoined}

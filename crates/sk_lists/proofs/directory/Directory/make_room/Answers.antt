@@ -1,11 +1,10 @@
 -- A full chunk that does not have the entry becomes two, in one of which it belongs.
-use Rattle.std.proofs.Common.{◌≡◌, ◌<◌, ◌≤◌, length, get_or, [], is_some, true, false, inr, sym, ap, subst, ◌∙◌, arith}
+use Rattle.std.proofs.Common.{◌≡◌, ◌<◌, ◌≤◌, [], is_some, true, inr, sym, ap, subst, ◌∙◌, arith}
 use mathlib.Core.Bool.{true≢false}
-use Rattle.sk_sorted.specs.Entries.{top_id}
 use Rattle.sk_runs.specs.Runs.{RunsRise}
 use Rattle.sk_runs.proofs.RunLaws.{found_in_run}
 use Rattle.sk_lists.specs.Lists.{Runs}
-use Rattle.sk_lists.proofs.DirectoryLemmas.{Halved, halved_full, last_read}
+use Rattle.sk_lists.proofs.DirectoryLemmas.{halved_full, last_read}
 use Rattle.sk_lists.proofs.directory.Directory.make_room.Goals as goal
 
 pub returns-in_err-halve-clause-succeeds : goal.returns-in_err-halve-clause-succeeds

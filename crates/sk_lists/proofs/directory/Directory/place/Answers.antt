@@ -1,5 +1,5 @@
 -- The last ids rise, so the chunks that end below the id stand before the others.
-use Rattle.std.proofs.Common.{rules, ℕ, ◌≡◌, ◌<◌, ◌≤◌, nat_lt, [], length, get_or, sym, subst, ◌∙◌, arith, true, false, le_refl}
+use Rattle.std.proofs.Common.{rules, ℕ, ◌<◌, ◌≤◌, nat_lt, [], length, get_or, sym, subst, ◌∙◌, arith, le_refl}
 use Rattle.std.proofs.lemmas.Bool.{ltb-true, ltb-false}
 use Rattle.std.proofs.lemmas.List.Sorted.{IsPartitionPoint-from_clause}
 use Rattle.sk_sorted.specs.Entries.{top_id}

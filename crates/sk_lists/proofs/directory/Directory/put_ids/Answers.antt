@@ -1,5 +1,5 @@
 -- One chunk more.
-use Rattle.std.proofs.Common.{◌≡◌, ◌++◌, [], get_or, length, sym, ◌∙◌, ap, arith}
+use Rattle.std.proofs.Common.{◌≡◌, ◌++◌, [], get_or, length, ◌∙◌, ap, arith}
 use Rattle.sk_sorted.specs.Entries.{ids_of}
 use Rattle.sk_lists.specs.Lists.{Runs}
 use Rattle.sk_lists.proofs.DirectoryLemmas.{ids_more}

@@ -1,5 +1,5 @@
 -- An edit of the chunk where the entry belongs is an edit of the whole.
-use Rattle.std.proofs.Common.{◌≡◌, ◌<◌, ◌≤◌, ◌⊎◌, ◌^◌, ◌+◌, ◌-◌, length, get_or, [], is_some, true, max, set, sym, ap, subst, ◌∙◌, arith, IsOk}
+use Rattle.std.proofs.Common.{◌<◌, length, sym, ap, subst, ◌∙◌, arith}
 use mathlib.Core.Bool.{true≢false}
 use Rattle.sk_runs.specs.Runs.{flat}
 use Rattle.sk_chunks.specs.Postings.{greatest_wdf}

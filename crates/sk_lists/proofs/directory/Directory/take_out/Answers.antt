@@ -1,8 +1,7 @@
 -- An edit of the chunk where the entry belongs is an edit of the whole.
-use Rattle.std.proofs.Common.{◌≡◌, ◌<◌, ◌+◌, ◌-◌, length, [], false, true, set, sym, ap, subst, ◌∙◌, arith}
-use Rattle.sk_sorted.specs.Entries.{without}
+use Rattle.std.proofs.Common.{◌<◌, length, sym, ap, subst, ◌∙◌, arith}
 use Rattle.sk_runs.specs.Runs.{flat}
-use Rattle.sk_chunks.specs.Postings.{Postings, greatest_wdf}
+use Rattle.sk_chunks.specs.Postings.{greatest_wdf}
 use Rattle.sk_lists.specs.Lists.{Runs, IsDirectory}
 use Rattle.sk_lists.proofs.DirectoryLemmas.{same_read, read_set, has_run, greatest_was, length_new, length_out, nil_is, nothing_out, flat_without, directory_without, flat_gone, directory_gone}
 use Rattle.sk_lists.proofs.directory.Directory.take_out.Goals as goal

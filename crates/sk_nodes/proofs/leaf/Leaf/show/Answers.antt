@@ -9,7 +9,7 @@ use Rattle.sk_nodes.proofs.leaf.Leaf.show.Goals as goal
 pub returns-in-Some-clause-top : goal.returns-in-Some-clause-top
 returns-in-Some-clause-top c i on =
     let l = c.args.self.now in
-    leaf_shown i _ l c.in-Some.id c.wdf.result on (c.in-Some.ensures (runs_in i l.number) on.on) (c.wdf.ensures (runs_in i l.number) on.on)
+    leaf_shown i _ l c.in-Some.id c.wdf-wdf.result on (c.in-Some.ensures (runs_in i l.number) on.on) (c.wdf-wdf.ensures (runs_in i l.number) on.on)
     c.from-top.ensures (c.weigh_by-top.ensures.value ∙ ap (weigh_by l.factor l.scheme) c.from.ensures) refl
 
 pub returns-in-Some-clause-at : goal.returns-in-Some-clause-at
