@@ -1,5 +1,5 @@
 -- A search keeps what its page needs.
-use Rattle.std.proofs.Common.{◌≡◌, ◌≢◌, ◌≤◌, ◌<◌, ◌+◌, ◌⊎◌, ℕ, zero, suc, Bool, true, false, not, cond, ◌&&◌, ◌==◌, List, [], ◌∷◌, ◌++◌, length, take, filter, map, get_or, All, AllPairs, IsPermutation, Option, None, Some, refl, sym, ap, ◌∙◌, subst, arith, inl, inr, true≢false, min, length-take, nat_lt, IsSomeAnd}
+use Rattle.std.proofs.Common.{◌≡◌, ◌≢◌, ◌≤◌, ◌<◌, ◌+◌, ◌⊎◌, ℕ, zero, suc, Bool, true, false, not, cond, ◌&&◌, ◌==◌, List, [], ◌∷◌, ◌++◌, length, take, filter, map, get_or, All, AllPairs, IsPermutation, Option, None, Some, refl, sym, ap, ◌∙◌, subst, arith, inl, inr, true≢false, min, length-take, nat_lt, IsSomeAnd, add-one}
 use Rattle.std.specs.List.{AllByRecursion, list_all, IsAmong}
 use Rattle.std.specs.List.Sorted.{IsSortedBy}
 use Rattle.std.proofs.lemmas.Bool.Decides.{nat_tests}
@@ -23,7 +23,9 @@ use Rattle.sk_collapse.specs.Collapsed.{Collapsed, Knows, kept_in}
 use Rattle.sk_collapse.specs.Verdicts.{Judges, without_rank}
 use Rattle.sk_collapse.specs.declared.verdict.Verdict.{Verdict}
 use Rattle.sk_collapse.specs.declared.verdict.Verdict.TheVariants as Verdict
-use Rattle.sk_collapse.proofs.CollapseLaws.{differ_more, best_more_kept, best_for_kept, kept_sorted, kept_differ}
+use Rattle.sk_collapse.proofs.CollapseLaws.{distinct_from, differ_more, best_more_kept, best_for_kept, kept_sorted, kept_differ}
+use Rattle.sk_collapse.proofs.PlacedLaws.{Distinct, distinct_best}
+use Rattle.std.proofs.lemmas.List.Kept.{AllPairs-cons}
 use Rattle.sk_seen.specs.Shown.{is_behind}
 use Rattle.sk_seen.specs.Walks.{page_end, held_by, IsFull, IsPassed, IsNeed}
 use Rattle.sk_seen.specs.Pages.{CollapsesBy, judged, Pages}
@@ -82,7 +84,9 @@ module _ (order : Order) where
     where
       step : (k : ℕ) (d : Rank) → k + 1 < length (x ∷ y ∷ xs) → IsSortedBy (is_before order) (y ∷ xs) → is_before order (get_or (x ∷ y ∷ xs) (k + 1) d) (get_or (x ∷ y ∷ xs) k d) ≡ false
       step zero d m rest = r.0.0
-      step (suc k) d m rest = rest k d (omega arith) (omega (arith, m))
+      step (suc k) d m rest =
+          subst (λ j. is_before order (get_or (x ∷ y ∷ xs) j d) (get_or (y ∷ xs) k d) ≡ false) (sym (add-one (suc k)))
+          (subst (λ j. is_before order (get_or (y ∷ xs) j d) (get_or (y ∷ xs) k d) ≡ false) (add-one k) (rest k d (omega arith) (omega (arith, m))))
 
   pub best_last : (newest saw : List Rank) (x : Rank) → best_first order saw ≡ best_first order newest → AllPairs (λ x y. x.id ≢ y.id) (x ∷ newest) → best_first order (saw ++ x ∷ []) ≡ best_first order (x ∷ newest)
   best_last newest saw x same differ =
@@ -189,6 +193,10 @@ module _ (order : Order) where
           subst (λ zs. list_all (leads r) (take n (place order x zs)) ≡ true) (sym (apart_front n among.0 xs y (more among.0 n e) among.1.0 among.1.1 differ))
           (leads_more r n x (take n xs) (omega (arith, long, l)) (leads_take r n (take n xs) h))
 
+pairs_from : (xs : List Rank) → Distinct xs → AllPairs (λ x y. x.id ≢ y.id) xs
+pairs_from [] d = λ i j e l m. absurd (omega (arith, m))
+pairs_from (x ∷ xs) d = AllPairs-cons (λ x y. x.id ≢ y.id) x xs (All-from_recursion (λ y. x.id ≢ y.id) xs d.0) (pairs_from xs d.1)
+
 -- ---- what is kept under a verdict
 
 module _ (find : Find) (docs : Docs) where
@@ -219,7 +227,7 @@ module _ (find : Find) (docs : Docs) where
 
   -- the kept matches stand in order, and their ids differ
   kept_orders : (newest : List Rank) → AllPairs (λ x y. x.id ≢ y.id) newest → (o : Option Collapse) (k : Rank → List ℕ) → IsSortedBy (is_before find.order) (kept find.order o k newest) × AllPairs (λ x y. x.id ≢ y.id) (kept find.order o k newest)
-  kept_orders newest differ None k = (sorted_from find.order (best_first find.order newest) (rises_best_first find.order newest), AllPairs-permutation (λ (x y : Rank). x.id ≢ y.id) (λ x y e f. e (sym f)) newest (best_first find.order newest) (best_first_permutation find.order newest) differ)
+  kept_orders newest differ None k = (sorted_from find.order (best_first find.order newest) (rises_best_first find.order newest), pairs_from (best_first find.order newest) (distinct_best find.order newest (distinct_from newest differ)))
   kept_orders newest differ (Some c) k = (kept_sorted find.order c.max k newest differ, kept_differ find.order c.max k newest differ)
 
   module _ (last : ℕ) (saw : List Rank) (held : Held) (c : Option Collapsed) (pages : Pages find docs last saw held c) (x : Rank) (later : last < x.id) where
