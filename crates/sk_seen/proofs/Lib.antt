@@ -3,3 +3,4 @@ pub mod FrontLaws
 pub mod WalkLaws
 pub mod ToldLaws
 pub mod PageLaws
+pub mod NeedLaws

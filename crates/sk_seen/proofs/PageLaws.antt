@@ -17,18 +17,18 @@ use Rattle.sk_model.specs.Page.{place, best_first, kept_of, kept}
 use Rattle.sk_model.specs.Counts.{wanted, kept_by}
 use Rattle.sk_model.proofs.OrderLaws.{before_order, both_so, NoneBefore, Rises, rises_best_first, best_first_permutation, sorted_is}
 use Rattle.sk_heap.specs.declared.hit.Hit.{Hit}
-use Rattle.sk_heap.specs.Held.{Held, ranks_of, placed, need_of, offered, without}
+use Rattle.sk_heap.specs.Held.{Held, ranks_of, placed, last_weight, need_behind, need_of, offered, without}
 use Rattle.sk_heap.proofs.HeapLaws.{ranks_placed, need_keeps_out}
 use Rattle.sk_collapse.specs.Collapsed.{Collapsed, Knows, kept_in}
 use Rattle.sk_collapse.specs.Verdicts.{Judges, without_rank}
 use Rattle.sk_collapse.specs.declared.verdict.Verdict.{Verdict}
 use Rattle.sk_collapse.specs.declared.verdict.Verdict.TheVariants as Verdict
-use Rattle.sk_collapse.proofs.CollapseLaws.{distinct_from, differ_more, best_more_kept, best_for_kept, kept_sorted, kept_differ}
+use Rattle.sk_collapse.proofs.CollapseLaws.{distinct_from, differ_more, best_more_kept, best_for_kept, kept_sorted, kept_differ, length-without_rank}
 use Rattle.sk_collapse.proofs.PlacedLaws.{Distinct, distinct_best}
 use Rattle.std.proofs.lemmas.List.Kept.{AllPairs-cons}
 use Rattle.sk_seen.specs.Shown.{is_behind}
 use Rattle.sk_seen.specs.Walks.{page_end, held_by, IsFull, IsPassed, IsNeed}
-use Rattle.sk_seen.specs.Pages.{CollapsesBy, judged, Pages}
+use Rattle.sk_seen.specs.Pages.{CollapsesBy, judged, SeesBy, Offers, Pages}
 use Rattle.sk_seen.proofs.FrontLaws.{both_are, before_through}
 
 -- ---- lists
@@ -328,3 +328,128 @@ module _ (find : Find) (docs : Docs) where
         let more : kept_by find docs (saw ++ x ∷ []) ≡ After = ap (kept_of find.collapse key) (best_last find.order pages.newest saw x pages.same differs) in
         subst (λ zs. is_behind find.order (take (page_end find) zs) r ≡ true) (sym more)
         (leads_on v r j (subst (λ zs. page_end find ≤ length zs) newest_kept full) (subst (λ zs. is_behind find.order (take (page_end find) zs) r ≡ true) newest_kept h))
+
+    -- as many are kept with one match more
+    pub page_full : (v : Verdict) → Judges v find.order key x Before After → IsFull find docs saw → IsFull find docs (saw ++ x ∷ [])
+    page_full v j full =
+        let more : kept_by find docs (saw ++ x ∷ []) ≡ After = ap (kept_of find.collapse key) (best_last find.order pages.newest saw x pages.same differs) in
+        subst (λ zs. page_end find ≤ length zs) (sym more) (longer v j (subst (λ zs. page_end find ≤ length zs) newest_kept full))
+      where
+        length_place : (y : Rank) (ys : List Rank) → length (place find.order y ys) ≡ suc (length ys)
+        length_place y [] = refl
+        length_place y (z ∷ zs) = step (is_before find.order y z) (length_place y zs)
+          where
+            step : (b : Bool) → length (place find.order y zs) ≡ suc (length zs) → length (cond b (y ∷ z ∷ zs) (z ∷ place find.order y zs)) ≡ suc (suc (length zs))
+            step true e = refl
+            step false e = ap suc e
+
+        longer : (v : Verdict) → Judges v find.order key x Before After → page_end find ≤ length Before → page_end find ≤ length After
+        longer Verdict.Keep j h = let e : length After ≡ length (place find.order x Before) = ap length j in omega (arith, h, e, length_place x Before)
+        longer (Verdict.KeepFor id) j h =
+            let y : Rank = j.0 in
+            let e : length After ≡ length (place find.order x (without_rank id Before)) = ap length j.5 in
+            let less : suc (length (without_rank id Before)) ≡ length Before = subst (λ n. suc (length (without_rank n Before)) ≡ length Before) j.1 (length-without_rank y Before (distinct_from Before orders.1) j.2) in
+            omega (arith, h, e, length_place x (without_rank id Before), less)
+        longer Verdict.Drop j h = subst (λ zs. page_end find ≤ length zs) (sym j) h
+
+  -- ---- a match that is offered
+
+  module _ (last : ℕ) (saw : List Rank) (held held2 : Held) (c c2 : Option Collapsed) (hit : Hit) where
+    pub record More (pages : Pages find docs last saw held c) : Type 0 where
+      pub pages2 : Pages find docs hit.rank.id (saw ++ hit.rank ∷ []) held2 c2
+      pub keeps : IsFull find docs saw → (r : Rank) → IsPassed find docs saw r → IsPassed find docs (saw ++ hit.rank ∷ []) r
+      pub full : IsFull find docs saw → IsFull find docs (saw ++ hit.rank ∷ [])
+
+    judged_is : (o : Option Collapse) (k : Rank → List ℕ) (newest : List Rank) (v : Verdict) (c c2 : Option Collapsed) → CollapsesBy o find.order k newest c → SeesBy c c2 v hit → k hit.rank ≡ hit.key → All (λ (r : Rank). r.id ≢ hit.rank.id) newest
+        → Judges v find.order k hit.rank (kept find.order o k newest) (kept find.order o k (hit.rank ∷ newest)) × CollapsesBy o find.order k (hit.rank ∷ newest) c2
+    judged_is None k newest v None None h s own apart = (subst (λ u. Judges u find.order k hit.rank (best_first find.order newest) (place find.order hit.rank (best_first find.order newest))) (sym s) refl, tt)
+    judged_is None k newest v None (Some d) h s own apart = absurd s
+    judged_is None k newest v (Some c) c2 h s own apart = absurd h
+    judged_is (Some o) k newest v None c2 h s own apart = absurd h
+    judged_is (Some o) k newest v (Some c) None h s own apart = absurd s
+    judged_is (Some o) k newest v (Some c) (Some d) h s own apart =
+        let both = s.2 k newest h.2 own apart in (
+          subst (λ m. Judges v find.order k hit.rank (kept_in find.order m k newest) (kept_in find.order m k (hit.rank ∷ newest))) h.1
+          (subst (λ (p : Order). Judges v p k hit.rank (kept_in p c.most k newest) (kept_in p c.most k (hit.rank ∷ newest))) h.0 both.1),
+          (s.0 ∙ h.0, s.1 ∙ h.1, both.0),
+        )
+
+    pub page_offered : (pages : Pages find docs last saw held c) → last < hit.rank.id → hit.key ≡ key hit.rank → Offers held held2 c c2 hit → More pages
+    page_offered pages later own offers =
+        let j = judged_is find.collapse key pages.newest offers.verdict c c2 pages.collapse offers.sees (sym own) (fresh last saw held c pages hit.rank later) in
+        record {
+          pages2 = subst (λ h. Pages find docs hit.rank.id (saw ++ hit.rank ∷ []) h c2) (sym offers.heap) (page_more last saw held c pages hit.rank later hit refl offers.verdict c2 own j.0 j.1);
+          keeps = page_keeps last saw held c pages hit.rank later offers.verdict j.0;
+          full = page_full last saw held c pages hit.rank later offers.verdict j.0;
+        }
+
+  -- behind a later id
+  pub page_later : (last later : ℕ) (saw : List Rank) (held : Held) (c : Option Collapsed) → last ≤ later → Pages find docs last saw held c → Pages find docs later saw held c
+  page_later last later saw held c up pages = record {
+    newest = pages.newest;
+    same = pages.same;
+    differ = pages.differ;
+    low = all_weaker (λ (r : Rank). r.id ≤ last) (λ (r : Rank). r.id ≤ later) (λ r l. omega (arith, l, up)) pages.newest pages.low;
+    order = pages.order;
+    most = pages.most;
+    room = pages.room;
+    hits = pages.hits;
+    keys = pages.keys;
+    under = all_weaker (λ (h : Hit). h.rank.id ≤ last) (λ (h : Hit). h.rank.id ≤ later) (λ h l. omega (arith, l, up)) held.hits pages.under;
+    collapse = pages.collapse;
+  }
+
+  -- ---- what the heap's need says
+
+  module _ (last : ℕ) (saw : List Rank) (held : Held) (c : Option Collapsed) (pages : Pages find docs last saw held c) where
+    held_is : ranks_of held.hits ≡ held_by find docs saw
+    held_is = pages.hits ∙ ap (λ rs. take (page_end find) (kept_of find.collapse key rs)) (sym pages.same)
+
+    all_behind : (r : Rank) (hits : List Hit) → AllByRecursion (λ (h : Hit). is_before held.order h.rank r ≡ true) hits → is_behind held.order (ranks_of hits) r ≡ true
+    all_behind r [] h = refl
+    all_behind r (x ∷ hits) h = both_are (is_before held.order x.rank r) (is_behind held.order (ranks_of hits) r) h.0 (all_behind r hits h.1)
+
+    full_by : (n : ℕ) → need_of held ≡ Some n → 0 < n → held.most ≤ length held.hits
+    full_by n e some =
+        elim (held.most == 0) as (λ z. cond z None (cond (nat_lt (length held.hits) held.most) (Some 0) (Some (need_behind held.order.by held.order.falling (last_weight held.hits)))) ≡ Some n → held.most ≤ length held.hits) [
+          | true ↦ λ f. absurd (cc)
+          | false ↦ λ f. elim (nat_lt (length held.hits) held.most) as (λ b. nat_lt (length held.hits) held.most ≡ b → cond b (Some 0) (Some (need_behind held.order.by held.order.falling (last_weight held.hits))) ≡ Some n → held.most ≤ length held.hits) [
+            | true ↦ λ g f. let none : 0 ≡ n = cc in absurd (omega (arith, none, some))
+            | false ↦ λ g f. no_less (length held.hits) held.most g
+          ] refl f
+        ] e
+      where
+        no_less : (a b : ℕ) → nat_lt a b ≡ false → b ≤ a
+        no_less a b e = grind (arith, nat_tests)
+
+    pub page_is_full : (n : ℕ) → need_of held ≡ Some n → 0 < n → IsFull find docs saw
+    page_is_full n e some =
+        let most : held.most ≤ length held.hits = full_by n e some in
+        let ranks : length (ranks_of held.hits) ≡ length held.hits = length-map held.hits (λ (h : Hit). h.rank) in
+        let same : length (ranks_of held.hits) ≡ length (held_by find docs saw) = ap length held_is in
+        let short : length (held_by find docs saw) ≡ min (page_end find) (length (kept_by find docs saw)) = length-take (page_end find) (kept_by find docs saw) in
+        omega (arith, most, ranks, same, short, pages.most)
+
+    pub page_passes : IsSortedBy (λ (x y : Hit). is_before held.order x.rank y.rank) held.hits → (n : ℕ) → need_of held ≡ Some n → (r : Rank) → r.weight < n → last < r.id → IsPassed find docs saw r
+    page_passes sorted n e r less above =
+        let after = need_keeps_out held n r sorted e less (All-from_recursion (λ (h : Hit). h.rank.id < r.id) held.hits (all_weaker (λ (h : Hit). h.rank.id ≤ last) (λ (h : Hit). h.rank.id < r.id) (λ h l. omega (arith, l, above)) held.hits pages.under)) in
+        subst (λ (rs : List Rank). is_behind find.order rs r ≡ true) held_is
+        (subst (λ (o : Order). is_behind o (ranks_of held.hits) r ≡ true) pages.order (all_behind r held.hits (recursion_from_All (λ (h : Hit). is_before held.order h.rank r ≡ true) held.hits after)))
+
+    none_most : need_of held ≡ None → held.most ≡ 0
+    none_most e =
+        elim (held.most == 0) as (λ z. (held.most == 0) ≡ z → cond z None (cond (nat_lt (length held.hits) held.most) (Some 0) (Some (need_behind held.order.by held.order.falling (last_weight held.hits)))) ≡ None → held.most ≡ 0) [
+          | true ↦ λ g f. zero_is held.most g
+          | false ↦ λ g f. elim (nat_lt (length held.hits) held.most) as (λ b. cond b (Some 0) (Some (need_behind held.order.by held.order.falling (last_weight held.hits))) ≡ None → held.most ≡ 0) [
+            | true ↦ λ k. absurd (cc)
+            | false ↦ λ k. absurd (cc)
+          ] f
+        ] refl e
+      where
+        zero_is : (a : ℕ) → (a == 0) ≡ true → a ≡ 0
+        zero_is a e = grind (arith, nat_tests)
+
+    pub page_of_none : need_of held ≡ None → IsFull find docs saw × ((r : Rank) → IsPassed find docs saw r)
+    page_of_none e =
+        let none : page_end find ≡ 0 = sym pages.most ∙ none_most e in
+        (omega (arith, none), λ r. ap (λ n. is_behind find.order (take n (kept_by find docs saw)) r) none)

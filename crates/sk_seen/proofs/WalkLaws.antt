@@ -339,9 +339,19 @@ module _ (query : Tree) (find : Find) (docs : Docs) where
           ∙ sym (append_assoc (walk.before ++ at.skipped) (at.one ∷ []) at.later)
 
       -- from the head on nothing is given up to it, and what is behind it is covered
-      module _ (give2 : ℕ → Option ℕ) (need2 : ℕ) (over : (id : ℕ) → CoversAt (cond (nat_le (head + 1) id) (give id) None) (give2 id) need2) where
-        none_given : (id : ℕ) → id ≤ head → give2 id ≡ None
-        none_given id low = none_left (give2 id) (subst (λ (b : Bool). CoversAt (cond b (give id) None) (give2 id) need2) (below id low) (over id))
+      module _ (give2 : ℕ → Option ℕ) (need2 : ℕ) (over : AllByRecursion (λ (d : ℕ × Document). CoversAt (cond (nat_le (head + 1) d.0) (give d.0) None) (give2 d.0) need2) docs) where
+        abbrev over_at : ℕ × Document → Type 0
+        over_at d = CoversAt (cond (nat_le (head + 1) d.0) (give d.0) None) (give2 d.0) need2
+
+        parts : (xs ys : Docs) → AllByRecursion over_at (xs ++ ys) → AllByRecursion over_at xs × AllByRecursion over_at ys
+        parts [] ys h = (tt, h)
+        parts (x ∷ xs) ys h = let rest = parts xs ys h.1 in ((h.0, rest.0), rest.1)
+
+        over_both : AllByRecursion over_at up_to × AllByRecursion over_at at.later
+        over_both = parts up_to at.later (subst (AllByRecursion over_at) splits over)
+
+        none_given : (id : ℕ) → id ≤ head → CoversAt (cond (nat_le (head + 1) id) (give id) None) (give2 id) need2 → give2 id ≡ None
+        none_given id low here = none_left (give2 id) (subst (λ (b : Bool). CoversAt (cond b (give id) None) (give2 id) need2) (below id low) here)
           where
             none_left : (o : Option ℕ) → CoversAt None o need2 → o ≡ None
             none_left None h = refl
@@ -350,14 +360,15 @@ module _ (query : Tree) (find : Find) (docs : Docs) where
             below : (id : ℕ) → id ≤ head → nat_le (head + 1) id ≡ false
             below id low = grind (arith, nat_tests)
 
-        quiet_at : (ds : Docs) → AllByRecursion (λ (d : ℕ × Document). d.0 ≤ head) ds → AllByRecursion (λ (d : ℕ × Document). give2 d.0 ≡ None) ds
-        quiet_at ds = all_mapped (λ (d : ℕ × Document). d.0 ≤ head) (λ (d : ℕ × Document). give2 d.0 ≡ None) (λ d low. none_given d.0 low) ds
+        quiet_at : (ds : Docs) → AllByRecursion (λ (d : ℕ × Document). d.0 ≤ head) ds → AllByRecursion over_at ds → AllByRecursion (λ (d : ℕ × Document). give2 d.0 ≡ None) ds
+        quiet_at [] low here = tt
+        quiet_at (d ∷ ds) low here = (none_given d.0 low.0 here.0, quiet_at ds low.1 here.1)
 
-        covers_later : (low : ℕ) (ds : Docs) → head ≤ low → need ≤ need2 → RiseAbove low ds → AllByRecursion (covered give need) ds → AllByRecursion (covered give2 need2) ds
-        covers_later low [] from rise up h = tt
-        covers_later low (d ∷ ds) from rise up h = (
-          covers_then (scores query find d) (give d.0) (give2 d.0) need need2 rise h.0 (subst (λ (b : Bool). CoversAt (cond b (give d.0) None) (give2 d.0) need2) (most_is (head + 1) d.0 (omega (arith, from, up.0))) (over d.0)),
-          covers_later d.0 ds (omega (arith, from, up.0)) rise up.1 h.1,
+        covers_later : (low : ℕ) (ds : Docs) → head ≤ low → need ≤ need2 → RiseAbove low ds → AllByRecursion (covered give need) ds → AllByRecursion over_at ds → AllByRecursion (covered give2 need2) ds
+        covers_later low [] from rise up h here = tt
+        covers_later low (d ∷ ds) from rise up h here = (
+          covers_then (scores query find d) (give d.0) (give2 d.0) need need2 rise h.0 (subst (λ (b : Bool). CoversAt (cond b (give d.0) None) (give2 d.0) need2) (most_is (head + 1) d.0 (omega (arith, from, up.0))) here.0),
+          covers_later d.0 ds (omega (arith, from, up.0)) rise up.1 h.1 here.1,
         )
 
         lows : AllByRecursion (λ (d : ℕ × Document). d.0 ≤ head) up_to
@@ -386,14 +397,14 @@ module _ (query : Tree) (find : Find) (docs : Docs) where
           first = first_on enough;
           exact = λ low. seen_exactly (omega (arith, low, rise));
           few = few;
-          quiet = quiet_at up_to lows;
+          quiet = quiet_at up_to lows over_both.0;
           low = lows;
           under =
               all_append (λ (s : Rank). s.id ≤ head) seen more
               (all_mapped (λ (s : Rank). s.id ≤ walk.last) (λ (s : Rank). s.id ≤ head) (λ s l. omega (arith, l, at.higher)) seen walk.under)
               (under_more (nat_le find.options.cutoff weight));
           rises = at.rises;
-          covers = covers_later head at.later (omega arith) rise at.rises (covers_skipped at.skipped (at.one ∷ at.later) covers_rest).1.1;
+          covers = covers_later head at.later (omega arith) rise at.rises (covers_skipped at.skipped (at.one ∷ at.later) covers_rest).1.1 over_both.1;
           right = right;
         }
 

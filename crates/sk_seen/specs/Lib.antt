@@ -2,3 +2,4 @@ pub mod Shown
 pub mod Walks
 pub mod Told
 pub mod Pages
+pub mod Needs
