@@ -1,2 +1,0 @@
-mod ReportLemmas
-mod SearchLemmas

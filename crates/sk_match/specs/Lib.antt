@@ -1,3 +1,2 @@
-pub mod Asking
+pub mod Hits
 pub mod Searches
-pub mod Pages

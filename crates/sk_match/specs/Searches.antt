@@ -1,43 +1,91 @@
 -- What a search has seen, and what it still has to see.
-use Rattle.std.specs.Prelude.{◌≡◌, ◌≢◌, ◌<◌, ◌^◌, ℕ, List, [], length, ◌++◌, map, AllPairs, None, true}
+use Rattle.std.specs.Prelude.{◌≡◌, ◌≤◌, ◌<◌, ℕ, ◌+◌, ◌||◌, ◌&&◌, nat_le, nat_lt, Bool, true, List, length, is_none, None, if◌then◌else◌}
+use Rattle.std.specs.List.{AllByRecursion}
 use Rattle.sk_base.specs.declared.find.Find.{Find}
 use Rattle.sk_base.specs.declared.rank.Rank.{Rank}
-use Rattle.sk_sorted.specs.Entries.{AreSorted}
-use Rattle.sk_query.specs.Trees.{Tree}
+use Rattle.sk_base.specs.Numbers.{Docs}
+use Rattle.sk_sorted.specs.Entries.{first_id}
+use Rattle.sk_query.specs.Trees as Query
 use Rattle.sk_query.specs.Fits.{is_sound}
-use Rattle.sk_model.specs.Bounds.{ceil}
-use Rattle.sk_model.specs.Matches.{found_by}
+use Rattle.sk_model.specs.Allowance.{key_readings, value_readings}
+use Rattle.sk_model.specs.Bounds.{ceil, static_count}
+use Rattle.sk_model.specs.Covers.{CoversAt}
+use Rattle.sk_model.specs.Edits.{document_at}
+use Rattle.sk_model.specs.Matches.{key_for}
 use Rattle.sk_index.specs.Indexed.{Indexed}
-use Rattle.sk_nodes.specs.Built.{left, IsTree, Built}
-use Rattle.sk_match.specs.Asking.{by_weight}
+use Rattle.sk_nodes.specs.Built.{gives, left, Built}
+use Rattle.sk_seen.specs.Walks.{Walk}
+use Rattle.sk_nodes.specs.declared.tree.Tree.{Tree}
+use Rattle.sk_heap.specs.declared.hit.Hit.{Hit}
+use Rattle.sk_seen.specs.Pages.{Offers, Pages}
+use Rattle.sk_seen.specs.Needs.{is_settled}
+use Rattle.sk_match.specs.Hits.{value_at}
 use Rattle.sk_match.specs.declared.turns.Search.{Search}
-
--- The rank of a document that weighs so, where its value does not matter.
-abbrev pub rank_at : ℕ × ℕ → Rank
-rank_at p = record { weight = p.1; value = []; id = p.0 }
 
 -- What a search still has to see: ids and weights, by rising id.
 abbrev pub ahead : Indexed → Search → List (ℕ × ℕ)
 ahead index search = left index search.tree
 
--- What it saw, and what it still has to see.
-abbrev pub all_of : Indexed → Search → List Rank
-all_of index search = search.seen.items ++ map rank_at (ahead index search)
+-- A search is done where nothing is ahead, or what is ahead cannot change its page.
+abbrev pub is_done : Indexed → Search → Bool
+is_done index search = is_none (first_id (ahead index search)) || is_settled search.options search.seen search.heap search.tree.top.greatest
 
--- A search is on this index: its tree is, under no need, and ids are different and fewer than 2^32.
-pub record IsOn (search : Search) (index : Indexed) : Type 0 where
-  pub tree : IsTree index search.tree
-  pub free : search.tree.need ≡ 0
-  pub sorted : AreSorted (ahead index search)
-  pub apart : AllPairs (λ (x y : Rank). x.id ≢ y.id) (all_of index search)
-  pub few : length (all_of index search) < 2 ^ 32
+-- The readings of a search so far: in lists, and of keys and values.
+abbrev pub spent_by : Search → ℕ
+spent_by search = search.tree.spent + search.read
 
--- A search is one of this find and query on this index: its tree is the query's, and what it saw and has to see is what the find matches.
-pub record Stands (search : Search) (index : Indexed) (find : Find) (query : Tree) : Type 0 where
+-- A search is one of this find and query on this index: its tree is the query's; it saw some of the matches, and is sure of what it passed over; it holds the page of them.
+pub record Stands (search : Search) (index : Indexed) (find : Find) (query : Query.Tree) : Type 0 where
   pub built : Built search.tree index query find.options.scheme
   pub sound : is_sound 1 query ≡ true
   pub options : search.options ≡ find.options
-  pub order : find.order ≡ by_weight
-  pub alone : find.collapse ≡ None
+  pub order : search.order ≡ find.order
+  pub collapse : search.collapse ≡ find.collapse
   pub greatest : search.greatest ≡ ceil query find.options.scheme 1 index.live.documents
-  pub matches : all_of index search ≡ found_by query find index.live.documents
+  pub most : search.most ≡ static_count query index.live.documents
+  pub need : search.need ≡ search.tree.need
+  pub low : search.greatest < find.options.cutoff → search.need ≤ find.options.cutoff
+  pub saw : List Rank
+  pub seen : search.seen ≡ length saw
+  pub walk : Walk query find index.live.documents (gives index search.tree) search.need saw
+  pub pages : Pages find index.live.documents walk.last saw search.heap search.collapser
+  pub read : search.read ≤ key_readings find.collapse (length saw) + value_readings find.order.by (length saw)
+
+-- Nothing was passed over, and nothing is left that is no less than the cutoff.
+abbrev pub is_whole : Indexed → Search → Bool
+is_whole index search =
+    nat_le search.need search.options.cutoff && (is_none (first_id (ahead index search)) || nat_lt search.tree.top.greatest search.options.cutoff)
+
+-- ---- a step of a search
+
+-- What it looks for, and in what order, is the same.
+pub record IsSamePage (old new : Search) : Type 0 where
+  pub options : new.options ≡ old.options
+  pub order : new.order ≡ old.order
+  pub collapse : new.collapse ≡ old.collapse
+  pub greatest : new.greatest ≡ old.greatest
+  pub most : new.most ≡ old.most
+
+-- And so are its tree, and what that was asked for.
+pub record IsSameBut (old new : Search) : Type 0 where
+  pub page : IsSamePage old new
+  pub tree : new.tree ≡ old.tree
+  pub need : new.need ≡ old.need
+
+-- It saw a document with this weight: as a hit with its value and its key it was offered to the page.
+pub record Sees (docs : Docs) (id weight : ℕ) (old new : Search) : Type 0 where
+  pub hit : Hit
+  pub rank : hit.rank ≡ record { weight = weight; value = value_at old.order.by (document_at id docs); id = id }
+  pub key : hit.key ≡ key_for old.collapse (document_at id docs)
+  pub offers : Offers old.heap new.heap old.collapser new.collapser hit
+  pub seen : new.seen ≡ old.seen + 1
+  pub read : new.read ≡ old.read + (value_readings old.order.by 1 + key_readings old.collapse 1)
+
+-- A tree went past a document: of each live one behind it what is left covers what was, under the need, and of the others nothing is left.
+abbrev pub PassesOver : Indexed → ℕ → Tree → Tree → ℕ → Type 0
+PassesOver index id old new need =
+    AllByRecursion (λ one. CoversAt (if nat_le (id + 1) one.0 then gives index old one.0 else None) (gives index new one.0) need) index.live.documents
+
+-- A search is on this index: it is one of some find and query there.
+abbrev pub IsOn : Search → Indexed → Type 0
+IsOn search index = (find : Find) × (query : Query.Tree) × Stands search index find query

@@ -1,44 +1,62 @@
 //! A search: its matches one by one, and its report.
-ghost use Rattle.std.specs.Prelude.{◌≡◌, ◌≤◌, ◌<◌, ◌+◌, [], drop, true, length, Some, IfOk};
+ghost use Rattle.std.specs.Prelude.{◌≡◌, ◌≢◌, ◌≤◌, ◌<◌, ◌+◌, ◌-◌, ◌^◌, ◌⊎◌, ℕ, List, min, max, true, length, All, IfOk, OnOk, IfSome, if◌then◌else◌};
 ghost use Rattle.sk_base.specs.declared.find.Find.{Find};
 ghost use Rattle.sk_base.specs.declared.find.Scheme.{Scheme};
-ghost use Rattle.sk_sorted.specs.Entries.{AreSorted, first_id};
 ghost use Rattle.sk_query.specs.Trees as QueryTree;
 ghost use Rattle.sk_query.specs.Trees.{query_view};
 ghost use Rattle.sk_query.specs.Fits.{fits_tree};
+ghost use Rattle.sk_base.specs.Records.{FitsFind};
+ghost use Rattle.sk_model.specs.Allowance.{key_readings, value_readings};
 ghost use Rattle.sk_model.specs.Reports.{ReportsFor};
-ghost use Rattle.sk_nodes.specs.Built.{left, IsTree, Built};
-ghost use Rattle.sk_match.specs.Asking.{is_built};
-ghost use Rattle.sk_match.specs.Searches.{IsOn, Stands, ahead, all_of};
+ghost use Rattle.sk_index.specs.Indexed.{Indexed};
+ghost use Rattle.sk_nodes.specs.Built.{IsTree, Built};
+ghost use Rattle.sk_collapse.specs.Collapsed.{group_of};
+ghost use Rattle.sk_seen.specs.Needs.{is_settled, need_for, wanted_by};
+ghost use Rattle.sk_match.specs.Hits.{kept_of};
+ghost use Rattle.sk_match.specs.Searches.{IsOn, Stands, Sees, IsSameBut, IsSamePage, PassesOver, ahead, is_done, is_whole, spent_by};
 ghost use Rattle.sk_match.specs.declared.turns.Turn.TheVariants as Turn;
 
-use crate::page::page_of;
-use sk_base::{Bytes, DocId, Find, Options, Rank, Report, Weight};
+use crate::offer::{key_of, offer, value_of};
+use crate::page::hits_of;
+use sk_base::{Collapse, DocId, Find, Options, Order, OrderBy, Rank, Report, Weight};
+use sk_collapse::Collapser;
+use sk_heap::{Hit, ResultHeap};
 use sk_index::Index;
 use sk_nodes::Tree;
 use sk_query::Query;
 use sk_steps::Steps;
-use sk_weight::ceil;
+use sk_weight::{ceil, static_count};
 use std::alloc::{AllocError, Global};
 use std::sync::ledger::Ledger;
 
-/// A search that was opened: its tree, and the matches that it has seen, by rising id.
+/// A search that was opened: its tree, and the page of the matches that it has seen.
 #[derive(Drop)]
 pub struct Search {
     alloc: Global,
     tree: Tree,
     options: Options,
+    order: Order,
+    collapse: Option<Collapse>,
     /// No document weighs more.
     greatest: Weight,
-    seen: Vec<Rank>,
+    /// No more documents match.
+    most: u64,
+    /// The last need that the tree was given.
+    need: Weight,
+    /// How many matches it saw.
+    seen: u32,
+    /// The readings of keys and values.
+    read: u64,
+    heap: ResultHeap,
+    collapser: Option<Collapser>,
 }
 
 /// What a turn of a search came to.
 #[derive(Clone, Copy, Debug, PartialEq, Eq)]
 pub enum Turn {
-    /// It saw one match, and moved past it.
+    /// It saw one document, and moved past it.
     More,
-    /// There was none left to see.
+    /// Nothing that is left can change the page.
     Done,
 }
 
@@ -52,57 +70,147 @@ impl Search {
         steps: &mut Steps<L>,
     ) -> Result<Search, AllocError>
         requires fits { fits_tree (query_view query.now) ≡ true }
-        requires built { is_built find.now ≡ true }
-        ensures on { IfOk result (λ search. IsOn search index.now) }
+        requires find { FitsFind find.now }
         ensures stands { IfOk result (λ search. Stands search index.now find.now (query_view query.now)) }
-        ensures cost { IfOk result (λ search. steps.new ≡ steps.old + search.tree.spent) }
+        ensures cost { IfOk result (λ search. steps.new ≡ steps.old + spent_by search) }
         ensures later { steps.old ≤ steps.new }
     {
-        let scheme = find.options.scheme;
+        let options = find.options;
         let _highest = index.highest();
         let _many = index.all().length();
-        let greatest = ceil(index, query, scheme, 1);
-        let tree = Tree::open(alloc, index, query, scheme, steps)?;
+        let greatest = ceil(index, query, options.scheme, 1);
+        let most = static_count(index, query);
+        let collapser = find.collapse.map(|collapse| Collapser::new(alloc, collapse.max, find.order));
+        let heap = ResultHeap::reserve(alloc, options.first + options.size, find.order)?;
+        let tree = Tree::open(alloc, index, query, options.scheme, steps)?;
         Ok(Search {
             alloc,
             tree,
-            options: find.options,
+            options,
+            order: find.order,
+            collapse: find.collapse,
             greatest,
-            seen: Vec::new(alloc),
+            most,
+            need: 0,
+            seen: 0,
+            read: 0,
+            heap,
+            collapser,
         })
     }
 
-    /// Sees the next match, if there is one. Where memory runs out the search is only to be dropped.
+    /// Sees the next document, unless nothing that is left can change the page. Where memory runs out the search is only to
+    /// be dropped.
     pub fn turn<L: Ledger>(
         &mut self,
         index: &Index,
         steps: &mut Steps<L>,
     ) -> Result<Turn, AllocError>
         requires on { IsOn self.old index.now }
-        ensures on { IfOk result (λ turn. IsOn self.new index.now) }
         ensures stands { IfOk result (λ turn. (find : Find) (query : QueryTree.Tree) → Stands self.old index.now find query → Stands self.new index.now find query) }
 
-        // It is done exactly where nothing is left to see, and then nothing changes.
-        ensures done { IfOk result (λ turn. turn ≡ Turn.Done → (ahead index.now self.old ≡ []) × (self.new ≡ self.old) × (steps.new ≡ steps.old)) }
-
-        // What it saw, and that alone, is left to see no more.
-        ensures one { IfOk result (λ turn. turn ≡ Turn.More → ahead index.now self.new ≡ drop 1 (ahead index.now self.old)) }
-        ensures more { IfOk result (λ turn. turn ≡ Turn.More → length (ahead index.now self.new) < length (ahead index.now self.old)) }
-        ensures all { IfOk result (λ turn. all_of index.now self.new ≡ all_of index.now self.old) }
-        ensures cost { steps.new + self.old.tree.spent ≡ steps.old + self.new.tree.spent }
+        // It is done exactly where nothing is left that can change the page, and then nothing changes.
+        ensures done { IfOk result (λ turn. turn ≡ (if is_done index.now self.old then Turn.Done else Turn.More)) }
+        ensures same { IfOk result (λ turn. turn ≡ Turn.Done → (self.new ≡ self.old) × (steps.new ≡ steps.old)) }
+        ensures fewer { IfOk result (λ turn. turn ≡ Turn.More → length (ahead index.now self.new) < length (ahead index.now self.old)) }
+        ensures cost { IfOk result (λ turn. steps.new + spent_by self.old ≡ steps.old + spent_by self.new) }
         ensures later { steps.old ≤ steps.new }
     {
         let Some(id) = self.tree.head() else {
             return Ok(Turn::Done);
         };
-        let rank = Rank {
-            weight: self.tree.weight(),
-            value: Bytes::empty(self.alloc),
-            id,
-        };
-        self.seen.push(rank)?;
-        pass(&mut self.tree, index, id, steps);
+        if self.is_settled() {
+            return Ok(Turn::Done);
+        }
+        let weight = self.tree.weight();
+        if weight >= self.options.cutoff {
+            self.see(index, id, weight, steps)?;
+        }
+        self.pass(index, id, steps);
         Ok(Turn::More)
+    }
+
+    // Whether nothing that is left can change the page, however much it weighs.
+    fn is_settled(&self) -> bool
+        ensures { result ≡ is_settled self.now.options self.now.seen self.now.heap self.now.tree.top.greatest }
+    {
+        let ceiling = self.tree.ceiling();
+        let is_above = match self.heap.need() {
+            Some(need) => ceiling < need,
+            None => true,
+        };
+        ceiling < self.options.cutoff || self.wanted() <= self.seen && is_above
+    }
+
+    fn wanted(&self) -> u32
+        ensures { result ≡ wanted_by self.now.options }
+    {
+        self.options.check.max(self.options.first + self.options.size)
+    }
+
+    // Sees a match, with its key and its value.
+    fn see<L: Ledger>(
+        &mut self,
+        index: &Index,
+        id: DocId,
+        weight: Weight,
+        steps: &mut Steps<L>,
+    ) -> Result<(), AllocError>
+        requires few { self.old.seen + 1 < 2 ^ 32 }
+        requires read { self.old.read + 2 < 2 ^ 64 }
+        requires light { weight < 2 ^ 63 }
+        requires room { self.old.heap.room ≡ self.old.heap.most }
+        requires differs { All (λ h. h.rank.id ≢ id) self.old.heap.hits }
+        requires known { IfSome self.old.collapser (λ c. c.seen + 1 < 2 ^ 32) }
+        requires apart { IfSome self.old.collapser (λ c. (k : List ℕ) → 0 < length k → All (λ r. r.id ≢ id) (group_of k c.groups).kept) }
+        ensures sees { OnOk result (Sees index.now.live.documents id weight self.old self.new) }
+        ensures rest { OnOk result (IsSameBut self.old self.new) }
+        ensures cost { OnOk result (steps.new + self.old.read ≡ steps.old + self.new.read) }
+        ensures later { steps.old ≤ steps.new }
+    {
+        let value = value_of(self.alloc, index, self.order.by, id, steps)?;
+        let key = key_of(self.alloc, index, self.collapse, id, steps)?;
+        let rank = Rank { weight, value, id };
+        offer(&mut self.heap, &mut self.collapser, Hit { rank, key })?;
+        self.seen += 1;
+        self.read += readings(self.order.by, self.collapse);
+        Ok(())
+    }
+
+    // Moves past the document with this id.
+    fn pass<L: Ledger>(&mut self, index: &Index, id: DocId, steps: &mut Steps<L>)
+        requires tree { IsTree index.now self.old.tree }
+        requires need { self.old.need ≡ self.old.tree.need }
+        ensures over { PassesOver index.now id self.old.tree self.new.tree self.new.need }
+        ensures built { (query : QueryTree.Tree) (scheme : Scheme) → Built self.old.tree index.now query scheme → Built self.new.tree index.now query scheme }
+        ensures need { self.new.need ≡ self.new.tree.need }
+        ensures asked { (self.new.need ≡ self.old.need) ⊎ (self.new.need ≡ max self.old.need (need_for self.old.options self.old.seen self.old.heap self.old.tree.top.greatest)) }
+        ensures rest { (self.new.seen ≡ self.old.seen) × (self.new.read ≡ self.old.read) × (self.new.heap ≡ self.old.heap) × (self.new.collapser ≡ self.old.collapser) }
+        ensures same { IsSamePage self.old self.new }
+        ensures cost { steps.new + self.old.tree.spent ≡ steps.old + self.new.tree.spent }
+        ensures later { steps.old ≤ steps.new }
+    {
+        if id == DocId::MAX {
+            self.tree.close();
+            return;
+        }
+        let need = self.need.max(self.wanted_need());
+        self.tree.seek(index, id + 1, need, steps);
+        self.need = need;
+    }
+
+    // What the tree is asked for: the cutoff, until enough matches were seen, and then what the page needs.
+    fn wanted_need(&self) -> Weight
+        requires { self.now.tree.top.greatest < 2 ^ 63 }
+        ensures { result ≡ need_for self.now.options self.now.seen self.now.heap self.now.tree.top.greatest }
+    {
+        if self.seen < self.wanted() {
+            return self.options.cutoff;
+        }
+        match self.heap.need() {
+            Some(need) => need.max(self.options.cutoff),
+            None => self.tree.ceiling() + 1,
+        }
     }
 
     /// The report of a search that is done.
@@ -112,47 +220,86 @@ impl Search {
         steps: &mut Steps<L>,
     ) -> Result<Report, AllocError>
         requires on { IsOn self index.now }
-        requires done { ahead index.now self ≡ [] }
+        requires done { is_done index.now self ≡ true }
         ensures report { IfOk result (λ report. (find : Find) (query : QueryTree.Tree) → Stands self index.now find query → ReportsFor query find index.now.live.documents report) }
-        ensures cost { IfOk result (λ report. steps.new + self.tree.spent ≡ steps.old + report.steps) }
+        ensures cost { IfOk result (λ report. steps.new + spent_by self ≡ steps.old + report.steps) }
         ensures later { steps.old ≤ steps.new }
     {
+        let _sorted = self.heap.len();
+        let is_whole = self.is_whole();
         let Search {
             alloc,
             tree,
             options,
             greatest,
+            most,
             seen,
+            read,
+            heap,
+            collapser,
+            ..
         } = self;
-        let spent = tree.spent();
-        let report = page_of(alloc, index, options, seen, greatest, spent, steps)?;
-        Ok(report)
+        let lower = kept_of(&collapser, seen);
+        let upper = if is_whole {
+            lower
+        } else {
+            (most - u64::from(seen - lower)) as u32
+        };
+        let held = heap.drain_sorted();
+        let page = &held[held.len().min(options.first as usize)..];
+        let hits = hits_of(alloc, index, &collapser, page, steps)?;
+        let beside = u128::from(read) + hits.as_slice().len() as u128;
+        let Some(all) = tree.spent().checked_add(beside) else {
+            return Err(AllocError);
+        };
+        Ok(Report {
+            hits,
+            lower,
+            estimate: lower + (upper - lower) / 2,
+            upper,
+            greatest,
+            steps: all,
+        })
+    }
+
+    // Whether a search that is done saw all that matches: nothing was passed over, and nothing is left that is no less than
+    // the cutoff.
+    fn is_whole(&self) -> bool
+        ensures { (i : Indexed) → IsTree i self.now.tree → result ≡ is_whole i self.now }
+    {
+        self.need <= self.options.cutoff
+            && (self.tree.head().is_none() || self.tree.ceiling() < self.options.cutoff)
     }
 
     /// The readings that were made since it was opened, and with the opening.
     pub fn spent(&self) -> u128
-        ensures { result ≡ self.now.tree.spent }
+        ensures { result ≡ min (2 ^ 128 - 1) (spent_by self.now) }
     {
-        self.tree.spent()
+        self.tree.spent().saturating_add(u128::from(self.read))
     }
 }
 
-/// Moves a tree past its head.
-fn pass<L: Ledger>(tree: &mut Tree, index: &Index, head: DocId, steps: &mut Steps<L>)
-    requires tree { IsTree index.now tree.old }
-    requires free { tree.old.need ≡ 0 }
-    requires sorted { AreSorted (left index.now tree.old) }
-    requires head { first_id (left index.now tree.old) ≡ Some head }
-    ensures left { left index.now tree.new ≡ drop 1 (left index.now tree.old) }
-    ensures tree { IsTree index.now tree.new }
-    ensures built { (query : QueryTree.Tree) (scheme : Scheme) → Built tree.old index.now query scheme → Built tree.new index.now query scheme }
-    ensures free { tree.new.need ≡ 0 }
-    ensures cost { steps.new + tree.old.spent ≡ steps.old + tree.new.spent }
-    ensures later { steps.old ≤ steps.new }
+// How many matches are kept of so many that were seen: all where nothing is collapsed.
+fn kept_of(collapser: &Option<Collapser>, seen: u32) -> u32
+    ensures { result ≡ kept_of collapser.now seen }
 {
-    if head == DocId::MAX {
-        tree.close();
-        return;
+    match collapser {
+        Some(collapser) => collapser.kept(),
+        None => seen,
     }
-    tree.seek(index, head + 1, 0, steps);
+}
+
+// The readings of a match: of its value and of its key, where they are read.
+fn readings(by: OrderBy, collapse: Option<Collapse>) -> u64
+    ensures { result ≡ value_readings by 1 + key_readings collapse 1 }
+{
+    let value = match by {
+        OrderBy::Relevance => 0,
+        _ => 1,
+    };
+    let key = match collapse {
+        Some(_) => 1,
+        None => 0,
+    };
+    value + key
 }

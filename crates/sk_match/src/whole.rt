@@ -3,7 +3,7 @@ ghost use Rattle.std.specs.Prelude.{◌≡◌, ◌≤◌, ◌+◌, true, IfOk};
 ghost use Rattle.sk_query.specs.Trees.{query_view};
 ghost use Rattle.sk_query.specs.Fits.{fits_tree};
 ghost use Rattle.sk_model.specs.Reports.{ReportsFor};
-ghost use Rattle.sk_match.specs.Asking.{is_built};
+ghost use Rattle.sk_base.specs.Records.{FitsFind};
 
 use crate::turns::{Search, Turn};
 use sk_base::{Find, Report};
@@ -22,7 +22,7 @@ pub fn search<L: Ledger>(
     steps: &mut Steps<L>,
 ) -> Result<Report, AllocError>
     requires fits { fits_tree (query_view query.now) ≡ true }
-    requires built { is_built find.now ≡ true }
+    requires find { FitsFind find.now }
     ensures report { IfOk result (λ report. ReportsFor (query_view query.now) find.now index.now.live.documents report) }
     ensures cost { IfOk result (λ report. steps.new ≡ steps.old + report.steps) }
     ensures later { steps.old ≤ steps.new }
