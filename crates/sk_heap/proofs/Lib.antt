@@ -2,3 +2,4 @@ mod HeapLemmas
 mod BestLemmas
 mod CallLemmas
 pub mod HeapLaws
+mod Examples

@@ -3,7 +3,11 @@
 
 mod heap;
 mod hit;
+mod laws;
 mod sift;
+#[cfg(test)]
+mod tests;
 
 pub use heap::ResultHeap;
 pub use hit::Hit;
+pub use laws::{best_of_all, falls_out, need_keeps_out, need_never_falls, ranks_in_order};
