@@ -1,12 +1,11 @@
 //! What follows for a search that keeps its hits in a heap, and for those who read of it.
-ghost use Rattle.std.specs.Prelude.{◌≡◌, ◌≢◌, ◌<◌, ◌≤◌, ◌==◌, ◌∷◌, ℕ, true, List, length, take, find, All, AllPairs, Some, IfSome};
-ghost use Rattle.std.specs.List.Sorted.{IsSortedBy};
+ghost use Rattle.std.specs.Prelude.{◌≡◌, ◌≢◌, ◌<◌, ◌≤◌, ◌==◌, ◌∷◌, ℕ, true, List, length, take, find, All, Some, IfSome};
 ghost use Rattle.sk_base.specs.declared.rank.Order.{Order};
 ghost use Rattle.sk_base.specs.declared.rank.Rank.{Rank};
 ghost use Rattle.sk_base.specs.Before.{is_before};
 ghost use Rattle.sk_model.specs.Page.{place, best_first};
 ghost use Rattle.sk_heap.specs.declared.hit.Hit.{Hit};
-ghost use Rattle.sk_heap.specs.Held.{Held, before, placed, best_hits, ranks_of, need_of, holds_for_any_id, offered, without, NeverFalls};
+ghost use Rattle.sk_heap.specs.Held.{Held, placed, best_hits, ranks_of, need_of, holds_for_any_id, offered, without, NeverFalls, IsInOrder};
 
 /// Laws: the ranks of hits in order are those ranks in order.
 pub fn ranks_in_order()
@@ -20,12 +19,17 @@ pub fn best_of_all()
         → (offered x held).hits ≡ take held.most (best_hits held.order (x ∷ all)) }
 {}
 
+/// Laws: what a heap holds is in order after an offer, and after a removal.
+pub fn order_is_kept()
+    ensures offered { (held : Held) (x : Hit) → IsInOrder held → All (λ h. h.rank.id ≢ x.rank.id) held.hits → IsInOrder (offered x held) }
+    ensures removed { (held : Held) (id : ℕ) → IsInOrder held → IsInOrder (without id held) }
+{}
+
 /// Laws: the need never falls while hits are offered, nor while a hit takes the place of one that it comes before.
 pub fn need_never_falls()
-    ensures offered { (held : Held) (x : Hit) → length held.hits ≤ held.most → IsSortedBy (before held.order) held.hits
+    ensures offered { (held : Held) (x : Hit) → IsInOrder held
         → NeverFalls (need_of held) (need_of (offered x held)) }
-    ensures exchanged { (held : Held) (x : Hit) (id : ℕ) → length held.hits ≤ held.most → IsSortedBy (before held.order) held.hits
-        → AllPairs (λ x y. x.rank.id ≢ y.rank.id) held.hits
+    ensures exchanged { (held : Held) (x : Hit) (id : ℕ) → IsInOrder held
         → IfSome (find (λ h. h.rank.id == id) held.hits) (λ y. is_before held.order x.rank y.rank ≡ true)
         → NeverFalls (need_of held) (need_of (offered x (without id held))) }
 {}
@@ -33,9 +37,9 @@ pub fn need_never_falls()
 /// Laws: what weighs less than the need comes after all that are held, if its id is greater than theirs; in some orders
 /// whatever its id.
 pub fn need_keeps_out()
-    ensures greater { (held : Held) (n : ℕ) (r : Rank) → IsSortedBy (before held.order) held.hits → need_of held ≡ Some n → r.weight < n
+    ensures greater { (held : Held) (n : ℕ) (r : Rank) → IsInOrder held → need_of held ≡ Some n → r.weight < n
         → All (λ h. h.rank.id < r.id) held.hits → All (λ h. is_before held.order h.rank r ≡ true) held.hits }
-    ensures any { (held : Held) (n : ℕ) (r : Rank) → IsSortedBy (before held.order) held.hits → need_of held ≡ Some n → r.weight < n
+    ensures any { (held : Held) (n : ℕ) (r : Rank) → IsInOrder held → need_of held ≡ Some n → r.weight < n
         → holds_for_any_id held.order.by held.order.falling ≡ true → All (λ h. is_before held.order h.rank r ≡ true) held.hits }
 {}
 

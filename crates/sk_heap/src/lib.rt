@@ -10,4 +10,6 @@ mod tests;
 
 pub use heap::ResultHeap;
 pub use hit::Hit;
-pub use laws::{best_of_all, falls_out, need_keeps_out, need_never_falls, ranks_in_order};
+pub use laws::{
+    best_of_all, falls_out, need_keeps_out, need_never_falls, order_is_kept, ranks_in_order,
+};
