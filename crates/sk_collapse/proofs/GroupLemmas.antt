@@ -19,10 +19,10 @@ use Rattle.std.proofs.lemmas.Map.Steps.{set_value_same}
 use Rattle.std.proofs.lemmas.Map.Views.{All-values-insert_entry, All-values-set_value}
 use Rattle.sk_base.specs.declared.rank.Rank.{Rank}
 use Rattle.sk_base.specs.declared.rank.Order.{Order}
-use Rattle.sk_base.specs.Before.{is_before}
 use Rattle.sk_model.specs.Page.{place}
 use Rattle.sk_heap.specs.declared.hit.Hit.{Hit}
 use Rattle.sk_heap.specs.Held.{Held, placed, ranks_of}
+use Rattle.sk_heap.proofs.HeapLaws.{ranks_placed}
 use Rattle.sk_collapse.specs.declared.group.KeyGroup.{KeyGroup}
 use Rattle.sk_collapse.specs.Collapsed.{Group, group_of}
 use Rattle.sk_collapse.specs.Groups.{group_in, groups_of, fallen, group_with, AreAlike}
@@ -38,14 +38,6 @@ if_err (Ok a) P Q f h = tt
 if_err (Err b) P Q f h = f b h
 
 -- ---- hits as matches
-
-pub ranks_placed : (order : Order) (hit : Hit) (hits : List Hit) → ranks_of (placed order hit hits) ≡ place order hit.rank (ranks_of hits)
-ranks_placed order hit [] = refl
-ranks_placed order hit (h ∷ t) =
-    elim (is_before order hit.rank h.rank) as (λ b. ranks_of (cond b (hit ∷ h ∷ t) (h ∷ placed order hit t)) ≡ cond b (hit.rank ∷ h.rank ∷ ranks_of t) (h.rank ∷ place order hit.rank (ranks_of t))) [
-      | true ↦ refl
-      | false ↦ ap (λ ys. h.rank ∷ ys) (ranks_placed order hit t)
-    ]
 
 ranks_drop : (n : ℕ) (hits : List Hit) → ranks_of (drop n hits) ≡ drop n (ranks_of hits)
 ranks_drop zero hits = refl

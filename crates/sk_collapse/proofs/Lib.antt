@@ -3,3 +3,4 @@ pub mod KeptMore
 pub mod CollapseLaws
 pub mod GroupLemmas
 pub mod SeeLemmas
+mod Examples

@@ -3,6 +3,8 @@
 
 mod collapser;
 mod group;
+#[cfg(test)]
+mod tests;
 mod verdict;
 
 pub use collapser::Collapser;
