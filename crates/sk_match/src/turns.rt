@@ -1,5 +1,5 @@
 //! A search: its matches one by one, and its report.
-ghost use Rattle.std.specs.Prelude.{◌≡◌, ◌≢◌, ◌≤◌, ◌<◌, ◌+◌, ◌-◌, ◌^◌, ◌⊎◌, ℕ, List, min, max, true, length, All, IfOk, OnOk, IfSome, if◌then◌else◌};
+ghost use Rattle.std.specs.Prelude.{◌≡◌, ◌≢◌, ◌≤◌, ◌<◌, ◌+◌, ◌-◌, ◌^◌, ◌⊎◌, ℕ, List, [], min, max, true, length, All, IfOk, OnOk, IfSome, if◌then◌else◌};
 ghost use Rattle.sk_base.specs.declared.find.Find.{Find};
 ghost use Rattle.sk_base.specs.declared.find.Scheme.{Scheme};
 ghost use Rattle.sk_query.specs.Trees as QueryTree;
@@ -11,6 +11,8 @@ ghost use Rattle.sk_model.specs.Reports.{ReportsFor};
 ghost use Rattle.sk_index.specs.Indexed.{Indexed};
 ghost use Rattle.sk_nodes.specs.Built.{IsTree, Built};
 ghost use Rattle.sk_collapse.specs.Collapsed.{group_of};
+ghost use Rattle.sk_base.specs.declared.rank.Rank as RankView;
+ghost use Rattle.sk_seen.specs.Pages.{CollapsesBy};
 ghost use Rattle.sk_seen.specs.Needs.{is_settled, need_for, wanted_by};
 ghost use Rattle.sk_match.specs.Hits.{kept_of};
 ghost use Rattle.sk_match.specs.Searches.{IsOn, Stands, Sees, IsSameBut, IsSamePage, PassesOver, ahead, is_done, is_whole, spent_by};
@@ -80,7 +82,7 @@ impl Search {
         let _many = index.all().length();
         let greatest = ceil(index, query, options.scheme, 1);
         let most = static_count(index, query);
-        let collapser = find.collapse.map(|collapse| Collapser::new(alloc, collapse.max, find.order));
+        let collapser = collapser_of(alloc, find.collapse, find.order);
         let heap = ResultHeap::reserve(alloc, options.first + options.size, find.order)?;
         let tree = Tree::open(alloc, index, query, options.scheme, steps)?;
         Ok(Search {
@@ -119,33 +121,35 @@ impl Search {
         let Some(id) = self.tree.head() else {
             return Ok(Turn::Done);
         };
-        if self.is_settled() {
+        let ceiling = self.tree.ceiling();
+        if self.is_settled(ceiling) {
             return Ok(Turn::Done);
         }
         let weight = self.tree.weight();
         if weight >= self.options.cutoff {
             self.see(index, id, weight, steps)?;
         }
+        let _sorted = self.heap.len();
         self.pass(index, id, steps);
         Ok(Turn::More)
     }
 
-    // Whether nothing that is left can change the page, however much it weighs.
-    fn is_settled(&self) -> bool
-        ensures { result ≡ is_settled self.now.options self.now.seen self.now.heap self.now.tree.top.greatest }
+    // Whether nothing that is left can change the page, if it weighs no more than this.
+    fn is_settled(&self, ceiling: Weight) -> bool
+        ensures { result ≡ is_settled self.now.options self.now.seen self.now.heap ceiling }
     {
-        let ceiling = self.tree.ceiling();
         let is_above = match self.heap.need() {
             Some(need) => ceiling < need,
             None => true,
         };
-        ceiling < self.options.cutoff || self.wanted() <= self.seen && is_above
+        ceiling < self.options.cutoff || self.wanted() <= u64::from(self.seen) && is_above
     }
 
-    fn wanted(&self) -> u32
+    fn wanted(&self) -> u64
         ensures { result ≡ wanted_by self.now.options }
     {
-        self.options.check.max(self.options.first + self.options.size)
+        let Options { first, size, check, .. } = self.options;
+        u64::from(check).max(u64::from(first) + u64::from(size))
     }
 
     // Sees a match, with its key and its value.
@@ -204,7 +208,7 @@ impl Search {
         requires { self.now.tree.top.greatest < 2 ^ 63 }
         ensures { result ≡ need_for self.now.options self.now.seen self.now.heap self.now.tree.top.greatest }
     {
-        if self.seen < self.wanted() {
+        if u64::from(self.seen) < self.wanted() {
             return self.options.cutoff;
         }
         match self.heap.need() {
@@ -276,6 +280,17 @@ impl Search {
         ensures { result ≡ min (2 ^ 128 - 1) (spent_by self.now) }
     {
         self.tree.spent().saturating_add(u128::from(self.read))
+    }
+}
+
+// A collapser for a find that collapses.
+fn collapser_of(alloc: Global, collapse: Option<Collapse>, order: Order) -> Option<Collapser>
+    requires { IfSome collapse (λ c. 1 ≤ c.max) }
+    ensures { (key : RankView.Rank → List ℕ) → CollapsesBy collapse order key [] result }
+{
+    match collapse {
+        Some(collapse) => Some(Collapser::new(alloc, collapse.max, order)),
+        None => None,
     }
 }
 

@@ -44,10 +44,10 @@ all_mapped P Q f (x ∷ xs) h = (f x h.0, all_mapped P Q f xs h.1)
 
 -- ---- ids and weights that are given
 
-abbrev weighed : (ℕ → Option ℕ) → Docs → List (ℕ × ℕ)
+abbrev pub weighed : (ℕ → Option ℕ) → Docs → List (ℕ × ℕ)
 weighed give docs = filter_map (λ one. option_map (λ w. (one.0, w)) (give one.0)) docs
 
-abbrev first_weight : List (ℕ × ℕ) → ℕ
+abbrev pub first_weight : List (ℕ × ℕ) → ℕ
 first_weight [] = 0
 first_weight (p ∷ ps) = p.1
 
@@ -121,7 +121,7 @@ quiet_step : (give : ℕ → Option ℕ) (d : ℕ × Document) (more : Docs) (o 
 quiet_step give d more None e none later = (e, later none)
 quiet_step give d more (Some w) e none later = let long : suc (length (weighed give more)) ≡ 0 = ap length none in absurd (omega (arith, long))
 
-all_quiet : (give : ℕ → Option ℕ) (rest : Docs) → weighed give rest ≡ [] → AllByRecursion (λ (d : ℕ × Document). give d.0 ≡ None) rest
+pub all_quiet : (give : ℕ → Option ℕ) (rest : Docs) → weighed give rest ≡ [] → AllByRecursion (λ (d : ℕ × Document). give d.0 ≡ None) rest
 all_quiet give [] none = tt
 all_quiet give (d ∷ more) none = quiet_step give d more (give d.0) refl none (all_quiet give more)
 
@@ -131,14 +131,14 @@ module _ (query : Tree) (find : Find) where
   abbrev cutoff : ℕ
   cutoff = find.options.cutoff
 
-  abbrev scores : ℕ × Document → Option ℕ
+  abbrev pub scores : ℕ × Document → Option ℕ
   scores one = score query find.options.scheme 1 one.1
 
-  abbrev ranked : ℕ × Document → ℕ → Rank
+  abbrev pub ranked : ℕ × Document → ℕ → Rank
   ranked one w = record { weight = w; value = value_for find.order one.1; id = one.0 }
 
   -- a document with what it scores, where it is no less than the cutoff
-  abbrev taken : ℕ × Document → Option ℕ → List Rank
+  abbrev pub taken : ℕ × Document → Option ℕ → List Rank
   taken one None = []
   taken one (Some w) = cond (nat_le cutoff w) (ranked one w ∷ []) []
 
@@ -151,7 +151,7 @@ module _ (query : Tree) (find : Find) where
   onto true r rs = refl
   onto false r rs = refl
 
-  found_step : (one : ℕ × Document) (more : Docs) (o : Option ℕ) → scores one ≡ o → found_by query find (one ∷ more) ≡ taken one o ++ found_by query find more
+  pub found_step : (one : ℕ × Document) (more : Docs) (o : Option ℕ) → scores one ≡ o → found_by query find (one ∷ more) ≡ taken one o ++ found_by query find more
   found_step one more None e = ap (λ o. at_least cutoff (cons_option (option_map (ranked one) o) (matches query find.options.scheme find.order more))) e
   found_step one more (Some w) e =
       ap (λ o. at_least cutoff (cons_option (option_map (ranked one) o) (matches query find.options.scheme find.order more))) e
@@ -267,6 +267,9 @@ module _ (query : Tree) (find : Find) (docs : Docs) where
     passes full r less most above = full.1 r less above
 
     -- the documents up to the head
+    pub the_head : (head : ℕ) → first_id (weighed give docs) ≡ Some head → AtHead give walk.last head (first_weight (weighed give walk.rest)) walk.rest
+    the_head head is = at_head give walk.last head walk.rest walk.rises (ap first_id (sym (ap (weighed give) walk.split ∙ weighed_behind give walk.before walk.rest walk.quiet)) ∙ is)
+
     module _ (head weight : ℕ) (at : AtHead give walk.last head weight walk.rest) where
       abbrev more : List Rank
       more = taken query find at.one (Some weight)
@@ -383,12 +386,12 @@ module _ (query : Tree) (find : Find) (docs : Docs) where
         under_more true = (omega (arith, at.id), tt)
         under_more false = tt
 
-        pub walked : need ≤ need2
+        walked_here : need ≤ need2
             → (IsFull find docs seen → (r : Rank) → IsPassed find docs seen r → IsPassed find docs (seen ++ more) r)
             → (length (seen ++ more) < wanted find → need2 ≤ find.options.cutoff)
             → IsNeed find docs (seen ++ more) head need2
             → Walk query find docs give2 need2 (seen ++ more)
-        walked rise keeps few right = record {
+        walked_here rise keeps few right = record {
           last = head;
           before = up_to;
           rest = at.later;
@@ -407,6 +410,19 @@ module _ (query : Tree) (find : Find) (docs : Docs) where
           covers = covers_later head at.later (omega arith) rise at.rises (covers_skipped at.skipped (at.one ∷ at.later) covers_rest).1.1 over_both.1;
           right = right;
         }
+
+        -- it saw these, and stands at the head
+        pub walked : (saw : List Rank) → seen ++ more ≡ saw → need ≤ need2
+            → (IsFull find docs seen → (r : Rank) → IsPassed find docs seen r → IsPassed find docs saw r)
+            → (length saw < wanted find → need2 ≤ find.options.cutoff)
+            → IsNeed find docs saw head need2
+            → (walk2 : Walk query find docs give2 need2 saw) × (walk2.last ≡ head)
+        unfolding walked_here
+        walked saw is = subst (λ (all : List Rank). need ≤ need2
+            → (IsFull find docs seen → (r : Rank) → IsPassed find docs seen r → IsPassed find docs all r)
+            → (length all < wanted find → need2 ≤ find.options.cutoff)
+            → IsNeed find docs all head need2
+            → (walk2 : Walk query find docs give2 need2 all) × (walk2.last ≡ head)) is (λ rise keeps few right. (walked_here rise keeps few right, refl))
 
     -- ---- its end
 

@@ -1,0 +1,469 @@
+-- A search that is opened, that sees a document, and that ends.
+use Rattle.std.proofs.Common.{◌≡◌, ◌≢◌, ◌≤◌, ◌<◌, ◌+◌, ◌-◌, ◌⊎◌, ◌^◌, ℕ, zero, suc, Bool, true, false, not, cond, ◌&&◌, ◌||◌, ◌==◌, nat_le, nat_lt, max, min, List, [], ◌∷◌, ◌++◌, length, take, drop, map, filter, All, Option, None, Some, option_map, is_some, is_none, unwrap_or, refl, sym, ap, ◌∙◌, subst, arith, inl, inr, true≢false, IfSome, append-nil}
+use Rattle.std.specs.List.{AllByRecursion, filter_map, cons_option}
+use Rattle.std.specs.List.Sorted.{IsSortedBy}
+use Rattle.std.proofs.lemmas.Bool.Decides.{nat_tests}
+use Rattle.std.proofs.lemmas.List.{length-map, length-append, length-take}
+use Rattle.std.proofs.lemmas.List.Elements.{All-from_recursion, recursion_from_All}
+use Rattle.sk_base.specs.declared.find.Collapse.{Collapse}
+use Rattle.sk_base.specs.declared.find.Find.{Find}
+use Rattle.sk_base.specs.declared.find.Options.{Options}
+use Rattle.sk_base.specs.declared.find.Scheme.{Scheme}
+use Rattle.sk_base.specs.declared.rank.Rank.{Rank}
+use Rattle.sk_base.specs.declared.rank.Order.{Order}
+use Rattle.sk_base.specs.declared.rank.OrderBy.{OrderBy}
+use Rattle.sk_base.specs.declared.rank.OrderBy.TheVariants as OrderBy
+use Rattle.sk_base.specs.Before.{is_before}
+use Rattle.sk_base.specs.Numbers.{Docs}
+use Rattle.sk_sorted.specs.Entries.{RiseAbove, AreSorted, first_id}
+use Rattle.sk_sorted.proofs.EntryLaws.{RiseAbove-lower, found-here, found-other, length_fits}
+use Rattle.sk_query.specs.Trees as Query
+use Rattle.sk_query.specs.Fits.{is_sound, leaves_of, depth_of, fits_tree}
+use Rattle.sk_model.specs.Allowance.{key_readings, value_readings}
+use Rattle.sk_model.specs.Bounds.{ceil, static_count}
+use Rattle.sk_model.specs.Counts.{wanted}
+use Rattle.sk_model.specs.Covers.{CoversAt}
+use Rattle.sk_model.specs.Documents.{Document}
+use Rattle.sk_model.specs.Edits.{document_at}
+use Rattle.sk_model.specs.Matches.{value_by, value_for, key_for, key_of, matches, at_least, found_by}
+use Rattle.sk_model.specs.Scores.{score}
+use Rattle.sk_model.proofs.OrderLaws as OrderLaws
+use Rattle.sk_model.proofs.OrderLaws.{both_so}
+use Rattle.sk_index.specs.Indexed.{Indexed}
+use Rattle.sk_nodes.specs.Built as Nodes
+use Rattle.sk_nodes.specs.Built.{weighed_ids, gives, left, scored, IsTree, Built}
+use Rattle.sk_nodes.specs.declared.tree.Tree.{Tree}
+use Rattle.sk_heap.specs.declared.hit.Hit.{Hit}
+use Rattle.sk_heap.specs.Held.{Held, need_of}
+use Rattle.sk_collapse.specs.Collapsed.{Collapsed, Knows, group_of}
+use Rattle.sk_collapse.proofs.CollapseLaws.{knows_differ}
+use Rattle.sk_seen.specs.Shown.{is_behind}
+use Rattle.sk_seen.specs.Walks.{page_end, held_by, IsFull, IsPassed, IsNeed, Walk}
+use Rattle.sk_seen.specs.Pages.{CollapsesBy, Offers, Pages}
+use Rattle.sk_seen.specs.Needs.{wanted_by, is_above, is_settled, need_for}
+use Rattle.sk_seen.proofs.ShownLaws.{shown_beside}
+use Rattle.sk_seen.proofs.WalkLaws as Walks
+use Rattle.sk_seen.proofs.WalkLaws.{AtHead, weighed, taken, ranked, scores, the_head, walked, started}
+use Rattle.sk_seen.proofs.PageLaws.{page_start, page_offered, page_later, fresh, fresh_hits}
+use Rattle.sk_seen.proofs.NeedLaws.{need_max, need_on, need_right, need_few}
+use Rattle.sk_match.specs.Hits.{value_at}
+use Rattle.sk_match.specs.Searches.{Stands, Sees, IsSameBut, IsSamePage, PassesOver}
+use Rattle.sk_match.specs.declared.turns.Search.{Search}
+
+all_filter : {X : Type 0} (P : X → Type 0) (p : X → Bool) (xs : List X) → AllByRecursion P xs → AllByRecursion P (filter p xs)
+all_filter P p [] h = tt
+all_filter P p (x ∷ xs) h =
+    elim (p x) as (λ b. AllByRecursion P (cond b (x ∷ filter p xs) (filter p xs))) [
+      | true ↦ (h.0, all_filter P p xs h.1)
+      | false ↦ all_filter P p xs h.1
+    ]
+
+-- ids differ from those of fewer hits
+pub differ_without : (id other : ℕ) (hits : List Hit) → All (λ (h : Hit). h.rank.id ≢ other) hits → All (λ (h : Hit). h.rank.id ≢ other) (filter (λ (h : Hit). not (h.rank.id == id)) hits)
+differ_without id other hits h =
+    All-from_recursion (λ (x : Hit). x.rank.id ≢ other) (filter (λ (x : Hit). not (x.rank.id == id)) hits)
+    (all_filter (λ (x : Hit). x.rank.id ≢ other) (λ (x : Hit). not (x.rank.id == id)) hits (recursion_from_All (λ (x : Hit). x.rank.id ≢ other) hits h))
+
+-- ---- a search that was opened
+
+-- documents that weigh something stand in the order of all
+rises : (f : ℕ × Document → Option ℕ) (low : ℕ) (docs : Docs) → RiseAbove low docs → RiseAbove low (weighed_ids f docs)
+rises f low [] up = tt
+rises f low (one ∷ docs) up = step (f one) low one.0 (weighed_ids f docs) up.0 (rises f one.0 docs up.1)
+  where
+    step : (o : Option ℕ) (low id : ℕ) (ps : List (ℕ × ℕ)) → low < id → RiseAbove id ps → RiseAbove low (cons_option (option_map (λ w. (id, w)) o) ps)
+    step None low id ps less up = RiseAbove-lower low id ps (omega (arith, less)) up
+    step (Some w) low id ps less up = (less, up)
+
+not_first : (id w : ℕ) (ps qs : List (ℕ × ℕ)) → RiseAbove id ps → ps ≡ (id, w) ∷ qs → ⊥
+not_first id w [] qs up e = let long : 0 ≡ suc (length qs) = ap length e in absurd (omega (arith, long))
+not_first id w (p ∷ ps) qs up e = let same : p.0 ≡ id = ap (λ (rs : List (ℕ × ℕ)). unwrap_or (first_id rs) 0) e in absurd (omega (arith, up.0, same))
+
+-- what weighs the same in order weighs the same one by one
+same_given : (f g : ℕ × Document → Option ℕ) (low : ℕ) (docs : Docs) → RiseAbove low docs → weighed_ids f docs ≡ weighed_ids g docs → AllByRecursion (λ (one : ℕ × Document). f one ≡ g one) docs
+same_given f g low [] up e = tt
+same_given f g low (one ∷ docs) up e = step (f one) (g one) refl refl e (rises f one.0 docs up.1) (rises g one.0 docs up.1) (same_given f g one.0 docs up.1)
+  where
+    step : (o p : Option ℕ) → f one ≡ o → g one ≡ p
+        → cons_option (option_map (λ w. (one.0, w)) o) (weighed_ids f docs) ≡ cons_option (option_map (λ w. (one.0, w)) p) (weighed_ids g docs)
+        → RiseAbove one.0 (weighed_ids f docs) → RiseAbove one.0 (weighed_ids g docs)
+        → (weighed_ids f docs ≡ weighed_ids g docs → AllByRecursion (λ (d : ℕ × Document). f d ≡ g d) docs)
+        → (f one ≡ g one) × AllByRecursion (λ (d : ℕ × Document). f d ≡ g d) docs
+    step None None a b e up down rest = (a ∙ sym b, rest e)
+    step None (Some w) a b e up down rest = absurd (not_first one.0 w (weighed_ids f docs) (weighed_ids g docs) up e)
+    step (Some v) None a b e up down rest = absurd (not_first one.0 v (weighed_ids g docs) (weighed_ids f docs) down (sym e))
+    step (Some v) (Some w) a b e up down rest = (a ∙ ap Some (ap (λ (rs : List (ℕ × ℕ)). Nodes.first_weight rs) e) ∙ sym b, rest (ap (drop 1) e))
+
+pub opened : (i : Indexed) (s : Search) (find : Find) (query : Query.Tree) → fits_tree query ≡ true
+    → Built s.tree i query find.options.scheme
+    → left i s.tree ≡ scored query find.options.scheme 1 i.live.documents
+    → s.tree.need ≡ 0 → s.need ≡ 0 → s.seen ≡ 0 → s.read ≡ 0
+    → s.options ≡ find.options → s.order ≡ find.order → s.collapse ≡ find.collapse
+    → s.greatest ≡ ceil query find.options.scheme 1 i.live.documents
+    → s.most ≡ static_count query i.live.documents
+    → s.heap ≡ record { order = find.order; most = page_end find; room = page_end find; hits = [] }
+    → ((key : Rank → List ℕ) → CollapsesBy find.collapse find.order key [] s.collapser)
+    → Stands s i find query
+opened i s find query fits built all none need seen read options order collapse greatest most heap knows =
+    let docs = i.live.documents in
+    let walk : Walk query find docs (gives i s.tree) 0 [] = started query find docs (gives i s.tree) built.tree.documents.rise
+    (same_given (λ one. gives i s.tree one.0) (scores query find) 0 docs built.tree.documents.rise all) in
+    record {
+      built = built;
+      sound = (both_so (is_sound 1 query) (nat_le (leaves_of query) 1024) (both_so (is_sound 1 query && nat_le (leaves_of query) 1024) (nat_le (depth_of query) 1000) fits).0).0;
+      options = options;
+      order = order;
+      collapse = collapse;
+      greatest = greatest;
+      most = most;
+      need = need ∙ sym none;
+      low = λ _. omega (arith, need);
+      saw = [];
+      seen = seen;
+      walk = subst (λ n. Walk query find docs (gives i s.tree) n []) (sym need) walk;
+      pages = page_later find docs 0 _ [] s.heap s.collapser (omega arith) (page_start find docs s.heap s.collapser heap (knows (key_of find.collapse docs)));
+      read = omega (arith, read);
+    }
+
+-- ---- a search at a head
+
+first_same : (ps : List (ℕ × ℕ)) → Nodes.first_weight ps ≡ Walks.first_weight ps
+first_same [] = refl
+first_same (p ∷ ps) = refl
+
+less : (a b : ℕ) → nat_lt a b ≡ true → a < b
+less a b e = grind (arith, nat_tests)
+
+no_less : (a b : ℕ) → nat_lt a b ≡ false → b ≤ a
+no_less a b e = grind (arith, nat_tests)
+
+most_is : (a b : ℕ) → a ≤ b → nat_le a b ≡ true
+most_is a b l = grind (arith, nat_tests)
+
+not_most : (a b : ℕ) → b < a → nat_le a b ≡ false
+not_most a b l = grind (arith, nat_tests)
+
+-- no more match than there are
+found_few : (query : Query.Tree) (find : Find) (docs : Docs) → length (found_by query find docs) ≤ length docs
+found_few query find [] = omega arith
+found_few query find (d ∷ docs) = few (scores query find d) (Walks.found_step query find d docs (scores query find d) refl) (found_few query find docs)
+  where
+    few : (o : Option ℕ) → found_by query find (d ∷ docs) ≡ taken query find d o ++ found_by query find docs → length (found_by query find docs) ≤ length docs → length (found_by query find (d ∷ docs)) ≤ suc (length docs)
+    few None e h = let long : length (found_by query find (d ∷ docs)) ≡ length (found_by query find docs) = ap length e in omega (arith, long, h)
+    few (Some w) e h =
+        let long : length (found_by query find (d ∷ docs)) ≡ length (taken query find d (Some w) ++ found_by query find docs) = ap length e in
+        let both : length (taken query find d (Some w) ++ found_by query find docs) ≡ length (taken query find d (Some w)) + length (found_by query find docs) = length-append (taken query find d (Some w)) (found_by query find docs) in
+        let one : length (taken query find d (Some w)) ≤ 1 = at_one (nat_le find.options.cutoff w) in
+        omega (arith, long, both, one, h)
+      where
+        at_one : (b : Bool) → length (cond b (ranked query find d w ∷ []) []) ≤ 1
+        at_one true = omega arith
+        at_one false = omega arith
+
+found_at : (h : ℕ) (xs ys : Docs) (one : ℕ × Document) → AllByRecursion (λ (d : ℕ × Document). d.0 < h) xs → one.0 ≡ h → document_at h (xs ++ one ∷ ys) ≡ Some one.1
+found_at h [] ys one low is = found-here h one ys is
+found_at h (x ∷ xs) ys one low is = found-other h x (xs ++ one ∷ ys) (λ e. absurd (omega (arith, low.0, e))) ∙ found_at h xs ys one low.1 is
+
+all_both : {X : Type 0} (P : X → Type 0) (xs ys : List X) → AllByRecursion P xs → AllByRecursion P ys → AllByRecursion P (xs ++ ys)
+all_both P [] ys h g = g
+all_both P (x ∷ xs) ys h g = (h.0, all_both P xs ys h.1 g)
+
+all_less : (last h : ℕ) (ds : Docs) → last < h → AllByRecursion (λ (d : ℕ × Document). d.0 ≤ last) ds → AllByRecursion (λ (d : ℕ × Document). d.0 < h) ds
+all_less last h [] up all = tt
+all_less last h (d ∷ ds) up all = (omega (arith, up, all.0), all_less last h ds up all.1)
+
+assoc : {X : Type 0} (xs ys zs : List X) → (xs ++ ys) ++ zs ≡ xs ++ (ys ++ zs)
+assoc [] ys zs = refl
+assoc (x ∷ xs) ys zs = ap (λ ws. x ∷ ws) (assoc xs ys zs)
+
+more_keys : (c : Option Collapse) (n : ℕ) → key_readings c (n + 1) ≡ key_readings c n + key_readings c 1
+more_keys None n = omega arith
+more_keys (Some c) n = omega arith
+
+more_values : (by : OrderBy) (n : ℕ) → value_readings by (n + 1) ≡ value_readings by n + value_readings by 1
+more_values OrderBy.Relevance n = omega arith
+more_values (OrderBy.Value k) n = omega arith
+more_values (OrderBy.ValueThenRelevance k) n = omega arith
+more_values (OrderBy.RelevanceThenValue k) n = omega arith
+
+few_keys : (c : Option Collapse) (n : ℕ) → key_readings c n ≤ n
+few_keys None n = omega arith
+few_keys (Some c) n = omega arith
+
+few_values : (by : OrderBy) (n : ℕ) → value_readings by n ≤ n
+few_values OrderBy.Relevance n = omega arith
+few_values (OrderBy.Value k) n = omega arith
+few_values (OrderBy.ValueThenRelevance k) n = omega arith
+few_values (OrderBy.RelevanceThenValue k) n = omega arith
+
+module _ (i : Indexed) (old : Search) (find : Find) (query : Query.Tree) (stands : Stands old i find query) (h w : ℕ) (head : first_id (left i old.tree) ≡ Some h) (weight : w ≡ Nodes.first_weight (left i old.tree)) where
+  abbrev docs : Docs
+  docs = i.live.documents
+
+  abbrev give : ℕ → Option ℕ
+  give = gives i old.tree
+
+  rest_is : weighed give docs ≡ weighed give stands.walk.rest
+  rest_is = ap (weighed give) stands.walk.split ∙ Walks.weighed_behind give stands.walk.before stands.walk.rest stands.walk.quiet
+
+  weight_is : Walks.first_weight (weighed give stands.walk.rest) ≡ w
+  weight_is = sym (weight ∙ first_same (left i old.tree) ∙ ap Walks.first_weight rest_is)
+
+  pub at : AtHead give stands.walk.last h w stands.walk.rest
+  at = subst (λ n. AtHead give stands.walk.last h n stands.walk.rest) weight_is (the_head query find docs give old.need stands.saw stands.walk h head)
+
+  -- the document there
+  pub there : document_at h docs ≡ Some at.one.1
+  there =
+      ap (document_at h) (stands.walk.split ∙ ap (λ ds. stands.walk.before ++ ds) at.is ∙ sym (assoc stands.walk.before at.skipped (at.one ∷ at.later)))
+      ∙ found_at h (stands.walk.before ++ at.skipped) at.later at.one
+      (all_both (λ (d : ℕ × Document). d.0 < h) stands.walk.before at.skipped (all_less stands.walk.last h stands.walk.before at.higher stands.walk.low) at.low) at.id
+
+  -- fewer were seen than there are
+  pub seen_few : old.seen + 1 < 2 ^ 32
+  seen_few =
+      let saw_few = (shown_beside (is_behind find.order (held_by find docs stands.saw)) (λ _. []) (λ _ _ _. refl) (found_by query find stands.walk.before) stands.saw stands.walk.shown).long in
+      let found = found_few query find stands.walk.before in
+      let all : length docs ≡ length (stands.walk.before ++ stands.walk.rest) = ap length stands.walk.split in
+      let both : length (stands.walk.before ++ stands.walk.rest) ≡ length stands.walk.before + length stands.walk.rest = length-append stands.walk.before stands.walk.rest in
+      let rest : length stands.walk.rest ≡ length (at.skipped ++ at.one ∷ at.later) = ap length at.is in
+      let parts : length (at.skipped ++ at.one ∷ at.later) ≡ length at.skipped + length (at.one ∷ at.later) = length-append at.skipped (at.one ∷ at.later) in
+      let small = length_fits docs stands.built.tree.documents in
+      omega (arith, saw_few, found, all, both, rest, parts, small, stands.seen)
+
+  pub read_few : old.read + 2 < 2 ^ 64
+  read_few =
+      let keys = few_keys find.collapse (length stands.saw) in
+      let values = few_values find.order.by (length stands.saw) in
+      omega (arith, stands.read, keys, values, seen_few, stands.seen)
+
+  pub light : ((id : ℕ) → unwrap_or (give id) 0 ≤ old.tree.top.greatest) → w < 2 ^ 63
+  light most =
+      let own : w ≡ unwrap_or (give at.one.0) 0 = sym (ap (λ o. unwrap_or o 0) at.gives) in
+      omega (arith, own, most at.one.0, stands.built.tree.fits)
+
+  pub full_room : old.heap.room ≡ old.heap.most
+  full_room = stands.pages.room ∙ sym stands.pages.most
+
+  pub differ_hits : All (λ (x : Hit). x.rank.id ≢ h) old.heap.hits
+  differ_hits = fresh_hits find docs stands.walk.last stands.saw old.heap old.collapser stands.pages (record { weight = 0; value = []; id = h }) at.higher
+
+  pub known_few : IfSome old.collapser (λ c. c.seen + 1 < 2 ^ 32)
+  known_few = few_by find.collapse (key_of find.collapse docs) old.collapser stands.pages.collapse
+    where
+      newest_long : length stands.pages.newest ≡ length stands.saw
+      newest_long = sym (OrderLaws.length-best_first find.order stands.pages.newest) ∙ ap length (sym stands.pages.same) ∙ OrderLaws.length-best_first find.order stands.saw
+
+      few_by : (o : Option Collapse) (k : Rank → List ℕ) (c : Option Collapsed) → CollapsesBy o find.order k stands.pages.newest c → IfSome c (λ c. c.seen + 1 < 2 ^ 32)
+      few_by None k None g = cc
+      few_by None k (Some c) g = absurd g
+      few_by (Some o) k None g = absurd g
+      few_by (Some o) k (Some c) g = omega (arith, g.2.seen, newest_long, seen_few, stands.seen)
+
+  pub known_apart : IfSome old.collapser (λ c. (k : List ℕ) → 0 < length k → All (λ (r : Rank). r.id ≢ h) (group_of k c.groups).kept)
+  known_apart = apart_by find.collapse (key_of find.collapse docs) old.collapser stands.pages.collapse
+    where
+      apart_by : (o : Option Collapse) (f : Rank → List ℕ) (c : Option Collapsed) → CollapsesBy o find.order f stands.pages.newest c → IfSome c (λ c. (k : List ℕ) → 0 < length k → All (λ (r : Rank). r.id ≢ h) (group_of k c.groups).kept)
+      apart_by None f None g = cc
+      apart_by None f (Some c) g = absurd g
+      apart_by (Some o) f None g = absurd g
+      apart_by (Some o) f (Some c) g =
+          knows_differ c f stands.pages.newest g.2 (record { weight = 0; value = []; id = h })
+          (fresh find docs stands.walk.last stands.saw old.heap old.collapser stands.pages (record { weight = 0; value = []; id = h }) at.higher)
+
+  -- ---- past the head
+
+  module _ (high : find.options.cutoff ≤ old.tree.top.greatest) where
+    heavy : find.options.cutoff ≤ old.greatest
+    heavy = omega (arith, high, stands.built.ceiling, stands.greatest)
+
+    -- what was seen, and what the page holds then
+    pub record Looked (mid : Search) (saw2 : List Rank) : Type 0 where
+      pub is : stands.saw ++ taken query find at.one (Some w) ≡ saw2
+      pub pages : Pages find docs h saw2 mid.heap mid.collapser
+      pub keeps : IsFull find docs stands.saw → (r : Rank) → IsPassed find docs stands.saw r → IsPassed find docs saw2 r
+      pub full : IsFull find docs stands.saw → IsFull find docs saw2
+      pub long : length stands.saw ≤ length saw2
+      pub seen : mid.seen ≡ length saw2
+      pub read : mid.read ≤ key_readings find.collapse (length saw2) + value_readings find.order.by (length saw2)
+
+    pub passed_by : w < find.options.cutoff → Looked old stands.saw
+    passed_by light = record {
+      is = ap (λ b. stands.saw ++ cond b (ranked query find at.one w ∷ []) []) (not_most find.options.cutoff w light) ∙ append-nil stands.saw;
+      pages = page_later find docs stands.walk.last h stands.saw old.heap old.collapser (omega (arith, at.higher)) stands.pages;
+      keeps = λ full r p. p;
+      full = λ full. full;
+      long = omega arith;
+      seen = stands.seen;
+      read = stands.read;
+    }
+
+    value_there : (by : OrderBy) → value_at by (document_at h docs) ≡ value_by by at.one.1
+    value_there by = ap (value_at by) there
+
+    pub looked_at : (mid : Search) → find.options.cutoff ≤ w → Sees docs h w old mid → (saw2 : List Rank) × Looked mid saw2
+    looked_at mid heavy_enough sees =
+        let hit : Hit = sees.hit in
+        let rank_is : hit.rank ≡ ranked query find at.one w = sees.rank ∙ (λ j. record { weight = w; value = (ap (λ (o : Order). value_at o.by (document_at h docs)) stands.order ∙ value_there find.order.by) j; id = sym at.id j }) in
+        let id_is : hit.rank.id ≡ h = ap (λ (r : Rank). r.id) sees.rank in
+        let own_key : hit.key ≡ key_of find.collapse docs hit.rank = sees.key ∙ (λ j. key_for (stands.collapse j) (document_at (sym id_is j) docs)) in
+        let more = page_offered find docs stands.walk.last stands.saw old.heap mid.heap old.collapser mid.collapser hit stands.pages (omega (arith, at.higher, id_is)) own_key sees.offers in
+        let one_more : length (stands.saw ++ hit.rank ∷ []) ≡ length stands.saw + length (hit.rank ∷ []) = length-append stands.saw (hit.rank ∷ []) in
+        let len : length (stands.saw ++ hit.rank ∷ []) ≡ length stands.saw + 1 = omega (arith, one_more) in
+        (stands.saw ++ hit.rank ∷ [], record {
+          is = ap (λ b. stands.saw ++ cond b (ranked query find at.one w ∷ []) []) (most_is find.options.cutoff w heavy_enough) ∙ ap (λ r. stands.saw ++ r ∷ []) (sym rank_is);
+          pages = subst (λ n. Pages find docs n (stands.saw ++ hit.rank ∷ []) mid.heap mid.collapser) id_is more.pages2;
+          keeps = more.keeps;
+          full = more.full;
+          long = omega (arith, len);
+          seen = omega (arith, sees.seen, stands.seen, len);
+          read =
+              let keys : key_readings old.collapse 1 ≡ key_readings find.collapse 1 = ap (λ c. key_readings c 1) stands.collapse in
+              let values : value_readings old.order.by 1 ≡ value_readings find.order.by 1 = ap (λ (o : Order). value_readings o.by 1) stands.order in
+              let more_k : key_readings find.collapse (length (stands.saw ++ hit.rank ∷ [])) ≡ key_readings find.collapse (length stands.saw) + key_readings find.collapse 1 = ap (key_readings find.collapse) len ∙ more_keys find.collapse (length stands.saw) in
+              let more_v : value_readings find.order.by (length (stands.saw ++ hit.rank ∷ [])) ≡ value_readings find.order.by (length stands.saw) + value_readings find.order.by 1 = ap (value_readings find.order.by) len ∙ more_values find.order.by (length stands.saw) in
+              omega (arith, sees.read, stands.read, keys, values, more_k, more_v);
+        })
+
+    pub gone_on : (mid new : Search) (saw2 : List Rank) → Looked mid saw2
+        → IsSamePage old mid → mid.tree ≡ old.tree → mid.need ≡ old.need
+        → IsSortedBy (λ (x y : Hit). is_before mid.heap.order x.rank y.rank) mid.heap.hits
+        → PassesOver i h mid.tree new.tree new.need
+        → Built new.tree i query find.options.scheme
+        → new.need ≡ new.tree.need
+        → (new.need ≡ mid.need) ⊎ (new.need ≡ max mid.need (need_for mid.options mid.seen mid.heap mid.tree.top.greatest))
+        → new.seen ≡ mid.seen → new.read ≡ mid.read → new.heap ≡ mid.heap → new.collapser ≡ mid.collapser → IsSamePage mid new
+        → Stands new i find query
+    gone_on mid new saw2 looked same tree need sorted over built needed asked seen read heap collapser after =
+        let right_old : IsNeed find docs saw2 h old.need = need_on find docs stands.saw saw2 stands.walk.last h old.need (omega (arith, at.higher)) looked.full looked.keeps stands.walk.right in
+        let right_new : IsNeed find docs saw2 h (need_for find.options mid.seen mid.heap mid.tree.top.greatest) = need_right find docs h saw2 mid.heap mid.collapser looked.pages sorted mid.seen mid.tree.top.greatest in
+        let options_mid = same.options ∙ stands.options in
+        let asked2 : (new.need ≡ old.need) ⊎ (new.need ≡ max old.need (need_for find.options mid.seen mid.heap mid.tree.top.greatest)) = asked_by options_mid asked in
+        let walk2 = walked query find docs give old.need stands.saw stands.walk h w at (gives i new.tree) new.need
+        (subst (λ (t : Tree). AllByRecursion (λ (one : ℕ × Document). CoversAt (cond (nat_le (h + 1) one.0) (gives i t one.0) None) (gives i new.tree one.0) new.need) docs) tree over)
+        saw2 looked.is (rises_by asked2) looked.keeps
+        (few_by asked2) (right_by right_old right_new asked2) in
+        record {
+          built = built;
+          sound = stands.sound;
+          options = after.options ∙ options_mid;
+          order = after.order ∙ same.order ∙ stands.order;
+          collapse = after.collapse ∙ same.collapse ∙ stands.collapse;
+          greatest = after.greatest ∙ same.greatest ∙ stands.greatest;
+          most = after.most ∙ same.most ∙ stands.most;
+          need = needed;
+          low = λ low. let g = after.greatest ∙ same.greatest in absurd (omega (arith, low, g, heavy));
+          saw = saw2;
+          seen = seen ∙ looked.seen;
+          walk = walk2.0;
+          pages = pages_at walk2.0 walk2.1;
+          read = omega (arith, read, looked.read);
+        }
+      where
+        asked_by : mid.options ≡ find.options → (new.need ≡ mid.need) ⊎ (new.need ≡ max mid.need (need_for mid.options mid.seen mid.heap mid.tree.top.greatest))
+            → (new.need ≡ old.need) ⊎ (new.need ≡ max old.need (need_for find.options mid.seen mid.heap mid.tree.top.greatest))
+        asked_by options (inl e) = inl (e ∙ need)
+        asked_by options (inr e) = inr (e ∙ (λ j. max (need j) (need_for (options j) mid.seen mid.heap mid.tree.top.greatest)))
+
+        rises_by : (new.need ≡ old.need) ⊎ (new.need ≡ max old.need (need_for find.options mid.seen mid.heap mid.tree.top.greatest)) → old.need ≤ new.need
+        rises_by (inl e) = omega (arith, e)
+        rises_by (inr e) = omega (arith, e)
+
+        right_by : IsNeed find docs saw2 h old.need → IsNeed find docs saw2 h (need_for find.options mid.seen mid.heap mid.tree.top.greatest)
+            → (new.need ≡ old.need) ⊎ (new.need ≡ max old.need (need_for find.options mid.seen mid.heap mid.tree.top.greatest)) → IsNeed find docs saw2 h new.need
+        right_by a b (inl e) = subst (IsNeed find docs saw2 h) (sym e) a
+        right_by a b (inr e) = subst (IsNeed find docs saw2 h) (sym e) (need_max find docs saw2 h old.need (need_for find.options mid.seen mid.heap mid.tree.top.greatest) a b)
+
+        few_by : (new.need ≡ old.need) ⊎ (new.need ≡ max old.need (need_for find.options mid.seen mid.heap mid.tree.top.greatest)) → length saw2 < wanted find → new.need ≤ find.options.cutoff
+        few_by (inl e) few = let low = stands.walk.few (omega (arith, few, looked.long)) in omega (arith, e, low)
+        few_by (inr e) few =
+            let low = stands.walk.few (omega (arith, few, looked.long)) in
+            let cut = need_few find mid.seen mid.tree.top.greatest mid.heap (omega (arith, few, looked.seen)) in
+            omega (arith, e, low, cut)
+
+        pages_at : (walk2 : Walk query find docs (gives i new.tree) new.need saw2) → walk2.last ≡ h → Pages find docs walk2.last saw2 new.heap new.collapser
+        pages_at walk2 last =
+            subst (λ n. Pages find docs n saw2 new.heap new.collapser) (sym last)
+            (subst (λ c. Pages find docs h saw2 new.heap c) (sym collapser) (subst (λ g. Pages find docs h saw2 g mid.collapser) (sym heap) looked.pages))
+
+-- ---- fewer are left
+
+abbrev the_none : Option ℕ
+the_none = None
+
+fewer_step : (give give2 : ℕ → Option ℕ) (need h : ℕ) (docs : Docs) → AllByRecursion (λ (d : ℕ × Document). CoversAt (cond (nat_le (h + 1) d.0) (give d.0) None) (give2 d.0) need) docs → length (weighed give2 docs) ≤ length (weighed give docs)
+fewer_step give give2 need h [] over = omega arith
+fewer_step give give2 need h (d ∷ docs) over = step (nat_le (h + 1) d.0) (give d.0) (give2 d.0) over.0 (fewer_step give give2 need h docs over.1)
+  where
+    step : (b : Bool) (o p : Option ℕ) → CoversAt (cond b o None) p need → length (weighed give2 docs) ≤ length (weighed give docs)
+        → length (cons_option (option_map (λ w. (d.0, w)) p) (weighed give2 docs)) ≤ length (cons_option (option_map (λ w. (d.0, w)) o) (weighed give docs))
+    step b None None c le = le
+    step b (Some v) None c le = omega (arith, le)
+    step true None (Some w) c le = absurd c
+    step false None (Some w) c le = absurd c
+    step b (Some v) (Some w) c le = omega (arith, le)
+
+none_either : (b : Bool) → cond b (the_none) the_none ≡ the_none
+none_either true = refl
+none_either false = refl
+
+pub fewer_left : (give give2 : ℕ → Option ℕ) (need h : ℕ) (docs : Docs) → first_id (weighed give docs) ≡ Some h → AllByRecursion (λ (d : ℕ × Document). CoversAt (cond (nat_le (h + 1) d.0) (give d.0) None) (give2 d.0) need) docs
+    → length (weighed give2 docs) < length (weighed give docs)
+fewer_left give give2 need h [] e over = absurd (true≢false (sym (ap is_some e)))
+fewer_left give give2 need h (d ∷ docs) e over = step (give d.0) (give2 d.0) e over.0 (fewer_step give give2 need h docs over.1) (λ f. fewer_left give give2 need h docs f over.1)
+  where
+    not_later : (b : ℕ) → b ≡ h → nat_le (h + 1) b ≡ false
+    not_later b same = not_most (h + 1) b (omega (arith, same))
+
+    step : (o p : Option ℕ) → first_id (cons_option (option_map (λ w. (d.0, w)) o) (weighed give docs)) ≡ Some h → CoversAt (cond (nat_le (h + 1) d.0) o None) p need → length (weighed give2 docs) ≤ length (weighed give docs)
+        → (first_id (weighed give docs) ≡ Some h → length (weighed give2 docs) < length (weighed give docs))
+        → length (cons_option (option_map (λ w. (d.0, w)) p) (weighed give2 docs)) < length (cons_option (option_map (λ w. (d.0, w)) o) (weighed give docs))
+    step None None f c le rest = rest f
+    step None (Some w) f c le rest = absurd (subst (λ (o : Option ℕ). CoversAt o (Some w) need) (none_either (nat_le (h + 1) d.0)) c)
+    step (Some v) None f c le rest = omega (arith, le)
+    step (Some v) (Some w) f c le rest =
+        let same : d.0 ≡ h = ap (λ o. unwrap_or o 0) f in
+        absurd (subst (λ b. CoversAt (cond b (Some v) None) (Some w) need) (not_later d.0 same) c)
+
+-- ---- a turn
+
+pub high_of : (i : Indexed) (s : Search) (ceiling : ℕ) → is_settled s.options s.seen s.heap ceiling ≡ false → s.options.cutoff ≤ ceiling
+high_of i s ceiling e = step (nat_lt ceiling s.options.cutoff) refl e
+  where
+    step : (b : Bool) → nat_lt ceiling s.options.cutoff ≡ b → (b || (nat_le (wanted_by s.options) s.seen && is_above (need_of s.heap) ceiling)) ≡ false → s.options.cutoff ≤ ceiling
+    step true f e = absurd (true≢false e)
+    step false f e = no_less ceiling s.options.cutoff f
+
+-- the pass that a search makes
+pub record Passes (i : Indexed) (h : ℕ) (mid new : Search) : Type 0 where
+  pub sorted : IsSortedBy (λ (x y : Hit). is_before mid.heap.order x.rank y.rank) mid.heap.hits
+  pub over : PassesOver i h mid.tree new.tree new.need
+  pub built : (query : Query.Tree) (scheme : Scheme) → Built mid.tree i query scheme → Built new.tree i query scheme
+  pub need : new.need ≡ new.tree.need
+  pub asked : (new.need ≡ mid.need) ⊎ (new.need ≡ max mid.need (need_for mid.options mid.seen mid.heap mid.tree.top.greatest))
+  pub rest : (new.seen ≡ mid.seen) × (new.read ≡ mid.read) × (new.heap ≡ mid.heap) × (new.collapser ≡ mid.collapser)
+  pub same : IsSamePage mid new
+
+same_page : (s : Search) → IsSamePage s s
+same_page s = record { options = refl; order = refl; collapse = refl; greatest = refl; most = refl }
+
+module _ (i : Indexed) (old : Search) (h w : ℕ) (head : Some h ≡ first_id (left i old.tree)) (weight : w ≡ Nodes.first_weight (left i old.tree)) (high : old.options.cutoff ≤ old.tree.top.greatest) (find : Find) (query : Query.Tree) (stands : Stands old i find query) where
+  higher : find.options.cutoff ≤ old.tree.top.greatest
+  higher = let same : old.options.cutoff ≡ find.options.cutoff = ap (λ (o : Options). o.cutoff) stands.options in omega (arith, high, same)
+
+  pub turned_seen : (mid new : Search) → old.options.cutoff ≤ w → Sees i.live.documents h w old mid → IsSameBut old mid → Passes i h mid new → Stands new i find query
+  turned_seen mid new enough sees same passes =
+      let cut : old.options.cutoff ≡ find.options.cutoff = ap (λ (o : Options). o.cutoff) stands.options in
+      let looked = looked_at i old find query stands h w (sym head) weight higher mid (omega (arith, enough, cut)) sees in
+      gone_on i old find query stands h w (sym head) weight higher mid new looked.0 looked.1 same.page same.tree same.need passes.sorted passes.over
+      (passes.built query find.options.scheme (subst (λ t. Built t i query find.options.scheme) (sym same.tree) stands.built))
+      passes.need passes.asked passes.rest.0 passes.rest.1 passes.rest.2 passes.rest.3 passes.same
+
+  pub turned_light : (new : Search) → w < old.options.cutoff → Passes i h old new → Stands new i find query
+  turned_light new light passes =
+      let cut : old.options.cutoff ≡ find.options.cutoff = ap (λ (o : Options). o.cutoff) stands.options in
+      gone_on i old find query stands h w (sym head) weight higher old new stands.saw (passed_by i old find query stands h w (sym head) weight higher (omega (arith, light, cut))) (same_page old) refl refl passes.sorted passes.over
+      (passes.built query find.options.scheme stands.built) passes.need passes.asked passes.rest.0 passes.rest.1 passes.rest.2 passes.rest.3 passes.same
+
+pub turned_fewer : (i : Indexed) (h need : ℕ) (old new : Tree) → Some h ≡ first_id (left i old) → PassesOver i h old new need → length (left i new) < length (left i old)
+turned_fewer i h need old new head over = fewer_left (gives i old) (gives i new) need h i.live.documents (sym head) over

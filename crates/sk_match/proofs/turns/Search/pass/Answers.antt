@@ -1,0 +1,9 @@
+use Rattle.sk_match.proofs.PassLemmas.{passed_by_seek, passed_by_close}
+use Rattle.sk_match.proofs.turns.Search.pass.Goals as goal
+
+pub returns-then-id-eq4294967295-clause-over : goal.returns-then-id-eq4294967295-clause-over
+returns-then-id-eq4294967295-clause-over g c =
+    passed_by_close c.args.index.now c.args.id c.args.self.now.need c.args.self.now.tree c.close.new.self c.if-id-eq4294967295.true c.requires.tree.documents (c.close.ensures.left c.args.index.now)
+
+pub returns-clause-over : goal.returns-clause-over
+returns-clause-over g c = passed_by_seek c.args.index.now c.args.id c.max-need.result c.args.self.now.tree c.seek.new.self c.seek.ensures.covers
