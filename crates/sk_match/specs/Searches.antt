@@ -51,10 +51,9 @@ pub record Stands (search : Search) (index : Indexed) (find : Find) (query : Que
   pub pages : Pages find index.live.documents walk.last saw search.heap search.collapser
   pub read : search.read ≤ key_readings find.collapse (length saw) + value_readings find.order.by (length saw)
 
--- Nothing was passed over, and nothing is left that is no less than the cutoff.
-abbrev pub is_whole : Indexed → Search → Bool
-is_whole index search =
-    nat_le search.need search.options.cutoff && (is_none (first_id (ahead index search)) || nat_lt search.tree.top.greatest search.options.cutoff)
+-- Nothing was passed over, and nothing is left that weighs as much as the cutoff, where nothing weighs more than the ceiling.
+abbrev pub is_whole : Indexed → Search → ℕ → Bool
+is_whole index search ceiling = nat_le search.need search.options.cutoff && (is_none (first_id (ahead index search)) || nat_lt ceiling search.options.cutoff)
 
 -- ---- a step of a search
 

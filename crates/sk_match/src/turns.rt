@@ -230,7 +230,8 @@ impl Search {
         ensures later { steps.old ≤ steps.new }
     {
         let _sorted = self.heap.len();
-        let is_whole = self.is_whole();
+        let ceiling = self.tree.ceiling();
+        let is_whole = self.is_whole(ceiling);
         let Search {
             alloc,
             tree,
@@ -266,13 +267,13 @@ impl Search {
         })
     }
 
-    // Whether a search that is done saw all that matches: nothing was passed over, and nothing is left that is no less than
-    // the cutoff.
-    fn is_whole(&self) -> bool
-        ensures { (i : Indexed) → IsTree i self.now.tree → result ≡ is_whole i self.now }
+    // Whether a search that is done saw all that matches: nothing was passed over, and nothing is left that weighs as much as
+    // the cutoff, where nothing weighs more than this.
+    fn is_whole(&self, ceiling: Weight) -> bool
+        ensures { (i : Indexed) → IsTree i self.now.tree → result ≡ is_whole i self.now ceiling }
     {
         self.need <= self.options.cutoff
-            && (self.tree.head().is_none() || self.tree.ceiling() < self.options.cutoff)
+            && (self.tree.head().is_none() || ceiling < self.options.cutoff)
     }
 
     /// The readings that were made since it was opened, and with the opening.

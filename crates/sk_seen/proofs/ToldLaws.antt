@@ -36,14 +36,14 @@ key_by_id : (collapse : Option Collapse) (docs : Docs) (x y : Rank) → x.id ≡
 key_by_id collapse docs x y e = ap (λ id. key_for collapse (document_at id docs)) e
 
 -- what is dropped of a key hangs on how often keys occur
-in_order : (key : Rank → List ℕ) (k : List ℕ) (order : Order) (ranks : List Rank) → count_key key k (best_first order ranks) ≡ count_key key k ranks
+pub in_order : (key : Rank → List ℕ) (k : List ℕ) (order : Order) (ranks : List Rank) → count_key key k (best_first order ranks) ≡ count_key key k ranks
 in_order key k order ranks = sum_by-IsPermutation (λ y. cond (bytes_eq (key y) k) 1 0) ranks (best_first order ranks) (best_first_permutation order ranks)
 
 kept_same : (order : Order) (collapse : Option Collapse) (key : Rank → List ℕ) (k : List ℕ) (xs ys : List Rank) → count_key key k xs ≡ count_key key k ys → count_key key k (kept order collapse key xs) ≡ count_key key k (kept order collapse key ys)
 kept_same order None key k xs ys h = in_order key k order xs ∙ h ∙ sym (in_order key k order ys)
 kept_same order (Some collapse) key k xs ys h = kept_each order collapse key k xs ∙ ap (kept_number collapse.max k) h ∙ sym (kept_each order collapse key k ys)
 
-dropped_alike : (order : Order) (collapse : Option Collapse) (key : Rank → List ℕ) (k : List ℕ) (xs ys : List Rank)
+pub dropped_alike : (order : Order) (collapse : Option Collapse) (key : Rank → List ℕ) (k : List ℕ) (xs ys : List Rank)
     → count_key key k xs ≡ count_key key k ys → dropped order collapse key k xs ≡ dropped order collapse key k ys
 dropped_alike order collapse key k xs ys h = λ i. cond (length k == 0) 0 (h i - kept_same order collapse key k xs ys h i)
 
@@ -64,7 +64,7 @@ module _ (query : Tree) (find : Find) (docs : Docs) (saw : List Rank) (end : End
   abbrev all : List Rank
   all = found_by query find docs
 
-  beside : Beside key all saw
+  pub beside : Beside key all saw
   beside = shown_beside _ key (key_by_id find.collapse docs) all saw end.shown
 
   -- the page is that of what was seen
