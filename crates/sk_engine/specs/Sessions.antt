@@ -9,7 +9,7 @@ use Rattle.sk_run.specs.declared.find_answer.FindAnswer.TheVariants as FindAnswe
 use Rattle.sk_run.specs.declared.response.Response.{Response}
 use Rattle.sk_run.specs.declared.response.Response.TheVariants as Response
 use Rattle.sk_engine.specs.declared.session.Answer.{Answer}
-use Rattle.sk_engine.specs.declared.session.Answer.TheVariants.{Found, BadQuery, BadTree, NotBuilt}
+use Rattle.sk_engine.specs.declared.session.Answer.TheVariants.{Found, BadQuery, BadTree}
 
 -- The session holds these live documents: its index does.
 abbrev pub SessionHolds : Session → Live → Type 0
@@ -24,11 +24,9 @@ abbrev pub steps_in : Answer → ℕ
 steps_in (Found report) = report.steps
 steps_in (BadQuery kind place) = 0
 steps_in BadTree = 0
-steps_in NotBuilt = 0
 
 -- How an answer is printed, the rank of its first hit being `first`.
 abbrev pub response_of : ℕ → Answer → Response FindAnswer
 response_of first (Found report) = Response.Own (FindAnswer.Found first report)
 response_of first (BadQuery kind place) = Response.Own (FindAnswer.BadQuery kind place)
 response_of first BadTree = Response.Own FindAnswer.BadTree
-response_of first NotBuilt = Response.Refused Refusal.BadShape

@@ -4,7 +4,6 @@ ghost use Rattle.sk_base.specs.Records.{FitsEdit, FitsFind};
 ghost use Rattle.sk_query.specs.Trees.{query_view};
 ghost use Rattle.sk_query.specs.Fits.{fits_tree};
 ghost use Rattle.sk_model.specs.Edits.{Live, nothing_live, edited, reply_to};
-ghost use Rattle.sk_match.specs.Asking.{is_built};
 ghost use Rattle.sk_engine.specs.Sessions.{SessionHolds, fields_of, steps_in, response_of};
 ghost use Rattle.sk_engine.specs.Finds.{FoundFor, Shows};
 
@@ -12,7 +11,7 @@ use sk_asked::{AskError, query_of};
 use sk_base::{Edit, Find, Reply, Report, Schema};
 use sk_grammar::FaultKind;
 use sk_index::Index;
-use sk_match::{is_built, search};
+use sk_match::search;
 use sk_query::Query;
 use sk_steps::Steps;
 use std::alloc::{AllocError, Global};
@@ -32,8 +31,6 @@ pub enum Answer {
     BadQuery(FaultKind, usize),
     /// The tree is no query.
     BadTree,
-    /// A find with an option that is not answered as yet.
-    NotBuilt,
 }
 
 impl Session {
@@ -84,14 +81,12 @@ impl Session {
         find: &Find,
         steps: &mut Steps<L>,
     ) -> Result<Answer, AllocError>
-        requires { fits_tree (query_view query.now) ≡ true }
-        ensures answer { IfOk result (λ answer. (live : Live) → SessionHolds self.now live → FoundFor (is_built find.now) (query_view query.now) find.now live (response_of find.now.options.first answer)) }
+        requires fits { fits_tree (query_view query.now) ≡ true }
+        requires find { FitsFind find.now }
+        ensures answer { IfOk result (λ answer. (live : Live) → SessionHolds self.now live → FoundFor (query_view query.now) find.now live (response_of find.now.options.first answer)) }
         ensures cost { IfOk result (λ answer. steps.new ≡ steps.old + steps_in answer) }
         ensures later { steps.old ≤ steps.new }
     {
-        if !is_built(find) {
-            return Ok(Answer::NotBuilt);
-        }
         let report = search(self.index.allocator(), &self.index, find, query, steps)?;
         Ok(Answer::Found(report))
     }

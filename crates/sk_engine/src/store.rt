@@ -12,7 +12,7 @@ ghost use Rattle.sk_engine.specs.Finds.{Shows};
 
 use crate::{Answer, Session};
 use sk_base::{Command, Edit, Find, Schema};
-use sk_run::{FindAnswer, Refusal, Response, Store, response_to, shown};
+use sk_run::{FindAnswer, Response, Store, response_to, shown};
 use sk_steps::Steps;
 use std::alloc::{AllocError, Global};
 use std::sync::ledger::Ledger;
@@ -80,7 +80,7 @@ fn apply(session: Session, edit: Edit) -> Result<(Session, Response<FindAnswer>)
     Ok((session, response_to(reply)))
 }
 
-/// What a find is answered. One with an option that is not built yet is refused as a line of a bad shape.
+/// What a find is answered.
 fn answer<L: Ledger>(
     session: &Session,
     find: &Find,
@@ -103,6 +103,5 @@ fn response_of(first: u32, answer: Answer) -> Response<FindAnswer>
         Answer::Found(report) => Response::Own(FindAnswer::Found(first, report)),
         Answer::BadQuery(kind, place) => Response::Own(FindAnswer::BadQuery(kind, place)),
         Answer::BadTree => Response::Own(FindAnswer::BadTree),
-        Answer::NotBuilt => Response::Refused(Refusal::BadShape),
     }
 }

@@ -309,21 +309,23 @@ module _ (i : Indexed) (old : Search) (find : Find) (query : Query.Tree) (stands
         let own_key : hit.key ≡ key_of find.collapse docs hit.rank = sees.key ∙ (λ j. key_for (stands.collapse j) (document_at (sym id_is j) docs)) in
         let more = page_offered find docs stands.walk.last stands.saw old.heap mid.heap old.collapser mid.collapser hit stands.pages (omega (arith, at.higher, id_is)) own_key sees.offers in
         let one_more : length (stands.saw ++ hit.rank ∷ []) ≡ length stands.saw + length (hit.rank ∷ []) = length-append stands.saw (hit.rank ∷ []) in
-        let len : length (stands.saw ++ hit.rank ∷ []) ≡ length stands.saw + 1 = omega (arith, one_more) in
-        (stands.saw ++ hit.rank ∷ [], record {
-          is = ap (λ b. stands.saw ++ cond b (ranked query find at.one w ∷ []) []) (most_is find.options.cutoff w heavy_enough) ∙ ap (λ r. stands.saw ++ r ∷ []) (sym rank_is);
-          pages = subst (λ n. Pages find docs n (stands.saw ++ hit.rank ∷ []) mid.heap mid.collapser) id_is more.pages2;
-          keeps = more.keeps;
-          full = more.full;
-          long = omega (arith, len);
-          seen = omega (arith, sees.seen, stands.seen, len);
-          read =
-              let keys : key_readings old.collapse 1 ≡ key_readings find.collapse 1 = ap (λ c. key_readings c 1) stands.collapse in
-              let values : value_readings old.order.by 1 ≡ value_readings find.order.by 1 = ap (λ (o : Order). value_readings o.by 1) stands.order in
-              let more_k : key_readings find.collapse (length (stands.saw ++ hit.rank ∷ [])) ≡ key_readings find.collapse (length stands.saw) + key_readings find.collapse 1 = ap (key_readings find.collapse) len ∙ more_keys find.collapse (length stands.saw) in
-              let more_v : value_readings find.order.by (length (stands.saw ++ hit.rank ∷ [])) ≡ value_readings find.order.by (length stands.saw) + value_readings find.order.by 1 = ap (value_readings find.order.by) len ∙ more_values find.order.by (length stands.saw) in
-              omega (arith, sees.read, stands.read, keys, values, more_k, more_v);
-        })
+        let len : length (stands.saw ++ hit.rank ∷ []) ≡ length stands.saw + 1 = omega (arith, one_more) in (
+          stands.saw ++ hit.rank ∷ [],
+          record {
+            is = ap (λ b. stands.saw ++ cond b (ranked query find at.one w ∷ []) []) (most_is find.options.cutoff w heavy_enough) ∙ ap (λ r. stands.saw ++ r ∷ []) (sym rank_is);
+            pages = subst (λ n. Pages find docs n (stands.saw ++ hit.rank ∷ []) mid.heap mid.collapser) id_is more.pages2;
+            keeps = more.keeps;
+            full = more.full;
+            long = omega (arith, len);
+            seen = omega (arith, sees.seen, stands.seen, len);
+            read =
+                let keys : key_readings old.collapse 1 ≡ key_readings find.collapse 1 = ap (λ c. key_readings c 1) stands.collapse in
+                let values : value_readings old.order.by 1 ≡ value_readings find.order.by 1 = ap (λ (o : Order). value_readings o.by 1) stands.order in
+                let more_k : key_readings find.collapse (length (stands.saw ++ hit.rank ∷ [])) ≡ key_readings find.collapse (length stands.saw) + key_readings find.collapse 1 = ap (key_readings find.collapse) len ∙ more_keys find.collapse (length stands.saw) in
+                let more_v : value_readings find.order.by (length (stands.saw ++ hit.rank ∷ [])) ≡ value_readings find.order.by (length stands.saw) + value_readings find.order.by 1 = ap (value_readings find.order.by) len ∙ more_values find.order.by (length stands.saw) in
+                omega (arith, sees.read, stands.read, keys, values, more_k, more_v);
+          },
+        )
 
     pub gone_on : (mid new : Search) (saw2 : List Rank) → Looked mid saw2
         → IsSamePage old mid → mid.tree ≡ old.tree → mid.need ≡ old.need

@@ -148,7 +148,12 @@ impl Search {
     fn wanted(&self) -> u64
         ensures { result ≡ wanted_by self.now.options }
     {
-        let Options { first, size, check, .. } = self.options;
+        let Options {
+            first,
+            size,
+            check,
+            ..
+        } = self.options;
         u64::from(check).max(u64::from(first) + u64::from(size))
     }
 

@@ -370,7 +370,7 @@ module _ (find : Find) (docs : Docs) where
     judged_is (Some o) k newest v (Some c) (Some d) h s own apart =
         let both = s.2 k newest h.2 own apart in (
           subst (λ m. Judges v find.order k hit.rank (kept_in find.order m k newest) (kept_in find.order m k (hit.rank ∷ newest))) h.1
-          (subst (λ (p : Order). Judges v p k hit.rank (kept_in p c.most k newest) (kept_in p c.most k (hit.rank ∷ newest))) h.0 both.1),
+              (subst (λ (p : Order). Judges v p k hit.rank (kept_in p c.most k newest) (kept_in p c.most k (hit.rank ∷ newest))) h.0 both.1),
           (s.0 ∙ h.0, s.1 ∙ h.1, both.0),
         )
 

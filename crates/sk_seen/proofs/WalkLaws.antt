@@ -521,7 +521,7 @@ module _ (query : Tree) (find : Find) (docs : Docs) where
     -- nothing that is given weighs more than the ceiling
     module _ (ceiling : ℕ) (most : (id : ℕ) → unwrap_or (give id) 0 ≤ ceiling) where
       module _ (is : Rank → Bool) (light : (r : Rank) → r.weight < need → find.options.cutoff ≤ r.weight → walk.last < r.id → is r ≡ true)
-        (under : (r : Rank) → r.weight ≤ ceiling → find.options.cutoff ≤ r.weight → walk.last < r.id → is r ≡ true) where
+          (under : (r : Rank) → r.weight ≤ ceiling → find.options.cutoff ≤ r.weight → walk.last < r.id → is r ≡ true) where
         taken_under : (one : ℕ × Document) (v : ℕ) → walk.last < one.0 → (v ≤ ceiling) ⊎ (v < need) → Shown is (taken query find one (Some v)) []
         taken_under one v above h =
             elim (nat_le find.options.cutoff v) as (λ b. nat_le find.options.cutoff v ≡ b → Shown is (cond b (ranked query find one v ∷ []) []) []) [
