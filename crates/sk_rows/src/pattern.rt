@@ -19,16 +19,38 @@ pub fn fits(wanted: &[String], answered: &str) -> bool {
     lines.next().is_none()
 }
 
-/// Whether a line is the one that is written. A line that ends in `<=` and a number fits one that ends in `=` and a
-/// number that is no greater: how many readings a find makes is only bounded.
+/// Whether a line is the one that is written, word by word. A word that ends in `<=` and a number fits one that ends in
+/// `=` and a number that is no greater, one in `>=` a number that is no less, and one in `=*` any: how many readings a
+/// find makes, and what it tells of the number of matches, is only bounded.
 fn line_fits(want: &str, line: &str) -> bool {
-    match want.rsplit_once("<=") {
-        Some((front, most)) => match line.rsplit_once("=") {
-            Some((start, number)) => start == front && is_at_most(number, most),
-            None => false,
-        },
-        None => want == line,
+    let mut words = line.split(" ");
+    for want in want.split(" ") {
+        match words.next() {
+            Some(word) => {
+                if !word_fits(want, word) {
+                    return false;
+                }
+            }
+            None => return false,
+        }
     }
+    words.next().is_none()
+}
+
+fn word_fits(want: &str, word: &str) -> bool {
+    if want == word {
+        return true;
+    }
+    let Some((name, number)) = word.split_once("=") else {
+        return false;
+    };
+    if let Some((start, most)) = want.split_once("<=") {
+        return start == name && is_at_most(number, most);
+    }
+    if let Some((start, least)) = want.split_once(">=") {
+        return start == name && is_at_most(least, number);
+    }
+    want.strip_suffix("=*").is_some_and(|start| start == name)
 }
 
 fn is_at_most(number: &str, most: &str) -> bool {
