@@ -1,0 +1,140 @@
+#!/usr/bin/env python3
+"""Compares finds of the built sk_tool with those of the built sk_reference, over random documents, trees and options: hits,
+order, weights and payloads are to be equal, and counts within their bounds. Ends with 1 where one differs.
+
+Wants both programs: (cd crates/sk_tool && rt run; cd ../sk_reference && rt run). Run it at the top of the repository:
+python3 bench/random_finds.py [SEEDS [FOLDER]], FOLDER being where crates/ is."""
+import json
+import os
+import random
+import re
+import subprocess
+import sys
+
+HERE = os.path.dirname(os.path.realpath(__file__))
+SCHEMA = {
+    "schema": [
+        {"name": "body", "kind": "text"},
+        {"name": "site", "kind": "word", "slot": 0},
+        {"name": "year", "kind": "number", "slot": 1},
+    ]
+}
+FINDS = 40
+
+
+def leaf(picks):
+    a, b, c = picks.choices("abcde", k=3)
+    return picks.choice(
+        [
+            {"term": a},
+            {"term": b},
+            {"all": []},
+            {"wildcard": "a"},
+            {"range": [1, picks.choice([None, 3]), picks.choice([None, 7])]},
+            {"synonym": sorted({a, b, c})},
+            {"near": [picks.randint(1, 5), a, b]},
+            {"phrase": [picks.randint(1, 4), a, b]},
+        ]
+    )
+
+
+def tree(picks, depth):
+    """A random tree, so deep at the most."""
+    if depth == 0 or picks.random() < 0.3:
+        return leaf(picks)
+    if picks.random() < 0.1:
+        return {"scale": [picks.randint(0, 3), tree(picks, depth - 1)]}
+    form = picks.choice(["and", "or", "or", "xor", "max", "and_not", "and_maybe", "filter"])
+    return {form: [tree(picks, depth - 1) for _ in range(picks.randint(2, 3))]}
+
+
+def asked(picks):
+    """A find by a random tree, with random options."""
+    find = {"tree": tree(picks, picks.randint(0, 3))}
+    for name, chance, value in [
+        ("scheme", 0.5, lambda: picks.choice(["bool", "coord", "nnn"])),
+        ("size", 0.7, lambda: picks.randint(0, 6)),
+        ("first", 0.3, lambda: picks.randint(0, 4)),
+        ("check", 0.3, lambda: picks.randint(0, 20)),
+        ("cutoff", 0.3, lambda: picks.randint(0, 4)),
+        ("ids", 0.4, lambda: picks.choice(["rising", "falling"])),
+    ]:
+        if picks.random() < chance:
+            find[name] = value()
+    if picks.random() < 0.6:
+        find["order"] = picks.choice(["value", "value_relevance", "relevance_value"])
+        find["by"] = picks.choice(["site", "year"])
+        if picks.random() < 0.5:
+            find["reverse"] = picks.random() < 0.5
+    if picks.random() < 0.5:
+        find["collapse"] = picks.choice(["site", "year"])
+        if picks.random() < 0.5:
+            find["max"] = picks.randint(1, 4)
+    return find
+
+
+def commands(picks):
+    """A schema, documents and some deletions, and finds."""
+    yield SCHEMA
+    for number in range(picks.randint(5, 60)):
+        record = {"body": " ".join(picks.choices("abcde", [5, 3, 2, 1, 1], k=picks.randint(0, 8)))}
+        if picks.random() < 0.8:
+            record["site"] = picks.choice(["x", "y", "z", ""])
+        if picks.random() < 0.8:
+            record["year"] = picks.randint(0, 9)
+        yield {"add": record, "data": f"d{number}"}
+        if picks.random() < 0.05:
+            yield {"delete": picks.randint(1, number + 1)}
+    for _ in range(FINDS):
+        yield asked(picks)
+
+
+def answers(program, text):
+    """Each answer with its hits."""
+    told = []
+    for line in subprocess.run([program, "run"], input=text, capture_output=True).stdout.decode().splitlines():
+        if line.startswith("hit"):
+            told[-1].append(line)
+        else:
+            told.append([line])
+    return told
+
+
+def agree(ours, plain):
+    """Whether an answer is one that the plain program's allows."""
+    if not ours[0].startswith("found"):
+        return ours == plain
+    mine, true = (dict(word.split("=") for word in told[0].split()[1:]) for told in (ours, plain))
+    lower, upper, count = int(mine["lower"]), int(mine["upper"]), int(true["lower"])
+    collapsed = [[int(number) for number in re.findall(r"collapsed=(\d+)", " ".join(told))] for told in (ours, plain)]
+    bare = [[re.sub(r"collapsed=\d+", "", line) for line in told[1:]] for told in (ours, plain)]
+    return (
+        bare[0] == bare[1]
+        and mine["max"] == true["max"]
+        and lower <= count <= upper
+        and int(mine["estimate"]) == (lower + upper) // 2
+        and all(few <= all_of for few, all_of in zip(*collapsed))
+    )
+
+
+def main():
+    seeds = int(sys.argv[1]) if len(sys.argv) > 1 else 100
+    folder = sys.argv[2] if len(sys.argv) > 2 else os.path.join(HERE, "..")
+    programs = [os.path.join(folder, "crates", name, "out", name) for name in ("sk_tool", "sk_reference")]
+    finds = differing = 0
+    for seed in range(seeds):
+        lines = list(commands(random.Random(seed)))
+        text = "".join(json.dumps(line) + "\n" for line in lines).encode()
+        ours, plain = (answers(program, text) for program in programs)
+        for line, mine, true in zip(lines, ours, plain):
+            finds += "tree" in line
+            if not agree(mine, true):
+                differing += 1
+                print(seed, json.dumps(line), mine, true)
+        differing += abs(len(ours) - len(plain))
+    print(f"{finds} finds, {differing} differ")
+    sys.exit(1 if differing else 0)
+
+
+if __name__ == "__main__":
+    main()
