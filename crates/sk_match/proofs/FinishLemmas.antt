@@ -1,6 +1,6 @@
 -- A search at its end.
-use Rattle.std.proofs.Common.{◌≡◌, ◌≤◌, ◌<◌, ◌+◌, ◌-◌, ◌/◌, ◌⊎◌, ◌^◌, ℕ, zero, suc, Bool, true, false, not, cond, ◌&&◌, ◌||◌, ◌==◌, nat_le, nat_lt, max, min, bytes_eq, List, [], ◌∷◌, ◌++◌, length, take, drop, map, Option, None, Some, option_map, is_none, unwrap_or, refl, sym, ap, ◌∙◌, subst, arith, inl, inr, true≢false}
-use Rattle.std.specs.List.{AllByRecursion, AllZip, cons_option}
+use Rattle.std.proofs.Common.{◌≡◌, ◌≤◌, ◌<◌, ◌+◌, ◌-◌, ◌/◌, ◌⊎◌, ◌^◌, ℕ, zero, suc, Bool, true, false, cond, ◌&&◌, ◌||◌, ◌==◌, nat_le, nat_lt, min, List, [], ◌∷◌, length, take, drop, map, Option, None, Some, is_none, unwrap_or, refl, sym, ap, ◌∙◌, subst, arith, inl, inr, true≢false}
+use Rattle.std.specs.List.{AllByRecursion, AllZip}
 use Rattle.std.specs.List.Sorted.{IsSortedBy}
 use Rattle.std.proofs.lemmas.Bool.Decides.{nat_tests}
 use Rattle.std.proofs.lemmas.List.{take_all, length-drop}
@@ -16,14 +16,13 @@ use Rattle.sk_base.specs.Numbers.{Docs}
 use Rattle.sk_sorted.specs.Entries.{first_id}
 use Rattle.sk_sorted.proofs.EntryLaws.{length_fits}
 use Rattle.sk_query.specs.Trees as Query
-use Rattle.sk_model.specs.Allowance.{leaf_readings, key_readings, value_readings}
-use Rattle.sk_model.specs.Bounds.{ceil, static_count}
-use Rattle.sk_model.specs.Counts.{wanted, kept_by, dropped_by, duplicates, Counts}
-use Rattle.sk_model.specs.Edits.{document_at}
+use Rattle.sk_model.specs.Allowance.{leaf_readings}
+use Rattle.sk_model.specs.Bounds.{ceil}
+use Rattle.sk_model.specs.Counts.{wanted, kept_by, dropped_by}
 use Rattle.sk_model.specs.Matches.{found_by, key_of}
 use Rattle.sk_model.specs.Page as Page
 use Rattle.sk_model.specs.Page.{best_first, kept, count_key, dropped}
-use Rattle.sk_model.specs.Reports.{payload_of, ReportsFor}
+use Rattle.sk_model.specs.Reports.{ReportsFor}
 use Rattle.sk_model.proofs.CountLaws.{found_within}
 use Rattle.sk_model.proofs.KeptLaws.{kept_few}
 use Rattle.sk_model.proofs.OrderLaws.{both_so, length-best_first}
@@ -31,13 +30,13 @@ use Rattle.sk_model.proofs.StaticLaws.{static_live}
 use Rattle.sk_index.specs.Indexed.{Indexed}
 use Rattle.sk_nodes.specs.Built.{gives, left}
 use Rattle.sk_heap.specs.declared.hit.Hit.{Hit}
-use Rattle.sk_heap.specs.Held.{Held, ranks_of, need_of}
-use Rattle.sk_collapse.specs.Collapsed.{Collapsed, group_of, kept_in}
-use Rattle.sk_collapse.proofs.CollapseLaws.{knows_kept, knows_dropped}
+use Rattle.sk_heap.specs.Held.{ranks_of}
+use Rattle.sk_collapse.specs.Collapsed.{Collapsed, kept_in}
+use Rattle.sk_collapse.proofs.CollapseLaws.{knows_dropped}
 use Rattle.sk_seen.specs.Walks.{page_end, held_by, IsFull, IsPassed, Ended}
 use Rattle.sk_seen.specs.Pages.{CollapsesBy, Pages}
 use Rattle.sk_seen.specs.Needs.{is_settled}
-use Rattle.sk_seen.specs.Told.{TellsHit, IsUpper, Tells}
+use Rattle.sk_seen.specs.Told.{TellsHit, IsUpper}
 use Rattle.sk_seen.proofs.WalkLaws.{weighed, ended_at_end, all_at_end, ended_below, all_below, ended_settled}
 use Rattle.sk_seen.proofs.NeedLaws.{settled_is}
 use Rattle.sk_seen.proofs.ToldLaws.{in_order, dropped_alike, beside, counts_told, told}

@@ -1,9 +1,9 @@
 -- A search that is opened, that sees a document, and that ends.
-use Rattle.std.proofs.Common.{◌≡◌, ◌≢◌, ◌≤◌, ◌<◌, ◌+◌, ◌-◌, ◌⊎◌, ◌^◌, ℕ, zero, suc, Bool, true, false, not, cond, ◌&&◌, ◌||◌, ◌==◌, nat_le, nat_lt, max, min, List, [], ◌∷◌, ◌++◌, length, take, drop, map, filter, All, Option, None, Some, option_map, is_some, is_none, unwrap_or, refl, sym, ap, ◌∙◌, subst, arith, inl, inr, true≢false, IfSome, append-nil}
-use Rattle.std.specs.List.{AllByRecursion, filter_map, cons_option}
+use Rattle.std.proofs.Common.{◌≡◌, ◌≢◌, ◌≤◌, ◌<◌, ◌+◌, ◌⊎◌, ◌^◌, ℕ, suc, Bool, true, false, not, cond, ◌&&◌, ◌||◌, ◌==◌, nat_le, nat_lt, max, List, [], ◌∷◌, ◌++◌, length, drop, filter, All, Option, None, Some, option_map, is_some, unwrap_or, refl, sym, ap, ◌∙◌, subst, arith, inl, inr, true≢false, IfSome, append-nil}
+use Rattle.std.specs.List.{AllByRecursion, cons_option}
 use Rattle.std.specs.List.Sorted.{IsSortedBy}
 use Rattle.std.proofs.lemmas.Bool.Decides.{nat_tests}
-use Rattle.std.proofs.lemmas.List.{length-map, length-append, length-take}
+use Rattle.std.proofs.lemmas.List.{length-append}
 use Rattle.std.proofs.lemmas.List.Elements.{All-from_recursion, recursion_from_All}
 use Rattle.sk_base.specs.declared.find.Collapse.{Collapse}
 use Rattle.sk_base.specs.declared.find.Find.{Find}
@@ -12,10 +12,9 @@ use Rattle.sk_base.specs.declared.find.Scheme.{Scheme}
 use Rattle.sk_base.specs.declared.rank.Rank.{Rank}
 use Rattle.sk_base.specs.declared.rank.Order.{Order}
 use Rattle.sk_base.specs.declared.rank.OrderBy.{OrderBy}
-use Rattle.sk_base.specs.declared.rank.OrderBy.TheVariants as OrderBy
 use Rattle.sk_base.specs.Before.{is_before}
 use Rattle.sk_base.specs.Numbers.{Docs}
-use Rattle.sk_sorted.specs.Entries.{RiseAbove, AreSorted, first_id}
+use Rattle.sk_sorted.specs.Entries.{RiseAbove, first_id}
 use Rattle.sk_sorted.proofs.EntryLaws.{RiseAbove-lower, found-here, found-other, length_fits}
 use Rattle.sk_query.specs.Trees as Query
 use Rattle.sk_query.specs.Fits.{is_sound, leaves_of, depth_of, fits_tree}
@@ -25,8 +24,7 @@ use Rattle.sk_model.specs.Counts.{wanted}
 use Rattle.sk_model.specs.Covers.{CoversAt}
 use Rattle.sk_model.specs.Documents.{Document}
 use Rattle.sk_model.specs.Edits.{document_at}
-use Rattle.sk_model.specs.Matches.{value_by, value_for, key_for, key_of, matches, at_least, found_by}
-use Rattle.sk_model.specs.Scores.{score}
+use Rattle.sk_model.specs.Matches.{value_by, key_for, key_of, found_by}
 use Rattle.sk_model.proofs.OrderLaws as OrderLaws
 use Rattle.sk_model.proofs.OrderLaws.{both_so}
 use Rattle.sk_index.specs.Indexed.{Indexed}
@@ -34,12 +32,12 @@ use Rattle.sk_nodes.specs.Built as Nodes
 use Rattle.sk_nodes.specs.Built.{weighed_ids, gives, left, scored, IsTree, Built}
 use Rattle.sk_nodes.specs.declared.tree.Tree.{Tree}
 use Rattle.sk_heap.specs.declared.hit.Hit.{Hit}
-use Rattle.sk_heap.specs.Held.{Held, need_of}
-use Rattle.sk_collapse.specs.Collapsed.{Collapsed, Knows, group_of}
+use Rattle.sk_heap.specs.Held.{need_of}
+use Rattle.sk_collapse.specs.Collapsed.{Collapsed, group_of}
 use Rattle.sk_collapse.proofs.CollapseLaws.{knows_differ}
 use Rattle.sk_seen.specs.Shown.{is_behind}
 use Rattle.sk_seen.specs.Walks.{page_end, held_by, IsFull, IsPassed, IsNeed, Walk}
-use Rattle.sk_seen.specs.Pages.{CollapsesBy, Offers, Pages}
+use Rattle.sk_seen.specs.Pages.{CollapsesBy, Pages}
 use Rattle.sk_seen.specs.Needs.{wanted_by, is_above, is_settled, need_for}
 use Rattle.sk_seen.proofs.ShownLaws.{shown_beside}
 use Rattle.sk_seen.proofs.WalkLaws as Walks
@@ -220,7 +218,7 @@ module _ (i : Indexed) (old : Search) (find : Find) (query : Query.Tree) (stands
       (all_both (λ (d : ℕ × Document). d.0 < h) stands.walk.before at.skipped (all_less stands.walk.last h stands.walk.before at.higher stands.walk.low) at.low) at.id
 
   -- fewer were seen than there are
-  pub seen_few : old.seen + 1 < 2 ^ 32
+  seen_few : old.seen + 1 < 2 ^ 32
   seen_few =
       let saw_few = (shown_beside (is_behind find.order (held_by find docs stands.saw)) (λ _. []) (λ _ _ _. refl) (found_by query find stands.walk.before) stands.saw stands.walk.shown).long in
       let found = found_few query find stands.walk.before in
@@ -231,24 +229,24 @@ module _ (i : Indexed) (old : Search) (find : Find) (query : Query.Tree) (stands
       let small = length_fits docs stands.built.tree.documents in
       omega (arith, saw_few, found, all, both, rest, parts, small, stands.seen)
 
-  pub read_few : old.read + 2 < 2 ^ 64
+  read_few : old.read + 2 < 2 ^ 64
   read_few =
       let keys = few_keys find.collapse (length stands.saw) in
       let values = few_values find.order.by (length stands.saw) in
       omega (arith, stands.read, keys, values, seen_few, stands.seen)
 
-  pub light : ((id : ℕ) → unwrap_or (give id) 0 ≤ old.tree.top.greatest) → w < 2 ^ 63
+  light : ((id : ℕ) → unwrap_or (give id) 0 ≤ old.tree.top.greatest) → w < 2 ^ 63
   light most =
       let own : w ≡ unwrap_or (give at.one.0) 0 = sym (ap (λ o. unwrap_or o 0) at.gives) in
       omega (arith, own, most at.one.0, stands.built.tree.fits)
 
-  pub full_room : old.heap.room ≡ old.heap.most
+  full_room : old.heap.room ≡ old.heap.most
   full_room = stands.pages.room ∙ sym stands.pages.most
 
-  pub differ_hits : All (λ (x : Hit). x.rank.id ≢ h) old.heap.hits
+  differ_hits : All (λ (x : Hit). x.rank.id ≢ h) old.heap.hits
   differ_hits = fresh_hits find docs stands.walk.last stands.saw old.heap old.collapser stands.pages (record { weight = 0; value = []; id = h }) at.higher
 
-  pub known_few : IfSome old.collapser (λ c. c.seen + 1 < 2 ^ 32)
+  known_few : IfSome old.collapser (λ c. c.seen + 1 < 2 ^ 32)
   known_few = few_by find.collapse (key_of find.collapse docs) old.collapser stands.pages.collapse
     where
       newest_long : length stands.pages.newest ≡ length stands.saw
@@ -260,7 +258,7 @@ module _ (i : Indexed) (old : Search) (find : Find) (query : Query.Tree) (stands
       few_by (Some o) k None g = absurd g
       few_by (Some o) k (Some c) g = omega (arith, g.2.seen, newest_long, seen_few, stands.seen)
 
-  pub known_apart : IfSome old.collapser (λ c. (k : List ℕ) → 0 < length k → All (λ (r : Rank). r.id ≢ h) (group_of k c.groups).kept)
+  known_apart : IfSome old.collapser (λ c. (k : List ℕ) → 0 < length k → All (λ (r : Rank). r.id ≢ h) (group_of k c.groups).kept)
   known_apart = apart_by find.collapse (key_of find.collapse docs) old.collapser stands.pages.collapse
     where
       apart_by : (o : Option Collapse) (f : Rank → List ℕ) (c : Option Collapsed) → CollapsesBy o find.order f stands.pages.newest c → IfSome c (λ c. (k : List ℕ) → 0 < length k → All (λ (r : Rank). r.id ≢ h) (group_of k c.groups).kept)
@@ -469,3 +467,25 @@ module _ (i : Indexed) (old : Search) (h w : ℕ) (head : Some h ≡ first_id (l
 
 pub turned_fewer : (i : Indexed) (h need : ℕ) (old new : Tree) → Some h ≡ first_id (left i old) → PassesOver i h old new need → length (left i new) < length (left i old)
 turned_fewer i h need old new head over = fewer_left (gives i old) (gives i new) need h i.live.documents (sym head) over
+
+-- what a search at a head needs to see the document there
+pub record MaySee (old : Search) (h w : ℕ) : Type 0 where
+  pub few : old.seen + 1 < 2 ^ 32
+  pub read : old.read + 2 < 2 ^ 64
+  pub light : w < 2 ^ 63
+  pub room : old.heap.room ≡ old.heap.most
+  pub differs : All (λ (x : Hit). x.rank.id ≢ h) old.heap.hits
+  pub known : IfSome old.collapser (λ c. c.seen + 1 < 2 ^ 32)
+  pub apart : IfSome old.collapser (λ c. (k : List ℕ) → 0 < length k → All (λ (r : Rank). r.id ≢ h) (group_of k c.groups).kept)
+
+pub may_see : (i : Indexed) (old : Search) (find : Find) (query : Query.Tree) (stands : Stands old i find query) (h w ceiling : ℕ) → Some h ≡ first_id (left i old.tree) → w ≡ Nodes.first_weight (left i old.tree)
+    → ceiling ≡ old.tree.top.greatest → ((id : ℕ) → unwrap_or (gives i old.tree id) 0 ≤ ceiling) → MaySee old h w
+may_see i old find query stands h w ceiling head weight is most = record {
+  few = seen_few i old find query stands h w (sym head) weight;
+  read = read_few i old find query stands h w (sym head) weight;
+  light = light i old find query stands h w (sym head) weight (subst (λ n. (id : ℕ) → unwrap_or (gives i old.tree id) 0 ≤ n) is most);
+  room = full_room i old find query stands h w (sym head) weight;
+  differs = differ_hits i old find query stands h w (sym head) weight;
+  known = known_few i old find query stands h w (sym head) weight;
+  apart = known_apart i old find query stands h w (sym head) weight;
+}

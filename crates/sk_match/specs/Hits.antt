@@ -1,6 +1,5 @@
 -- What a search reads of a match, and what it tells of one on its page.
 use Rattle.std.specs.Prelude.{ℕ, List, [], Option, None, Some}
-use Rattle.sk_base.specs.declared.find.Collapse.{Collapse}
 use Rattle.sk_base.specs.declared.rank.OrderBy.{OrderBy}
 use Rattle.sk_base.specs.declared.report.Ranked.{Ranked}
 use Rattle.sk_base.specs.Numbers.{Docs}

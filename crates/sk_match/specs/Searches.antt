@@ -1,5 +1,5 @@
 -- What a search has seen, and what it still has to see.
-use Rattle.std.specs.Prelude.{◌≡◌, ◌≤◌, ◌<◌, ℕ, ◌+◌, ◌||◌, ◌&&◌, nat_le, nat_lt, Bool, true, List, length, is_none, None, if◌then◌else◌}
+use Rattle.std.specs.Prelude.{◌≡◌, ◌≤◌, ◌<◌, ℕ, ◌+◌, ◌||◌, ◌&&◌, ◌⊎◌, max, nat_le, nat_lt, Bool, true, List, [], length, is_none, None, if◌then◌else◌}
 use Rattle.std.specs.List.{AllByRecursion}
 use Rattle.sk_base.specs.declared.find.Find.{Find}
 use Rattle.sk_base.specs.declared.rank.Rank.{Rank}
@@ -18,7 +18,7 @@ use Rattle.sk_seen.specs.Walks.{Walk}
 use Rattle.sk_nodes.specs.declared.tree.Tree.{Tree}
 use Rattle.sk_heap.specs.declared.hit.Hit.{Hit}
 use Rattle.sk_seen.specs.Pages.{Offers, Pages}
-use Rattle.sk_seen.specs.Needs.{is_settled}
+use Rattle.sk_seen.specs.Needs.{is_settled, need_for}
 use Rattle.sk_match.specs.Hits.{value_at}
 use Rattle.sk_match.specs.declared.turns.Search.{Search}
 
@@ -84,6 +84,10 @@ pub record Sees (docs : Docs) (id weight : ℕ) (old new : Search) : Type 0 wher
 abbrev pub PassesOver : Indexed → ℕ → Tree → Tree → ℕ → Type 0
 PassesOver index id old new need =
     AllByRecursion (λ one. CoversAt (if nat_le (id + 1) one.0 then gives index old one.0 else None) (gives index new one.0) need) index.live.documents
+
+-- A search asked its tree for the need of its page, with what it saw, and for no less than before; or nothing is ahead.
+abbrev pub Asks : Indexed → Search → Search → Type 0
+Asks index old new = (ahead index new ≡ []) ⊎ (new.need ≡ max old.need (need_for new.options new.seen new.heap old.tree.top.greatest))
 
 -- A search is on this index: it is one of some find and query there.
 abbrev pub IsOn : Search → Indexed → Type 0

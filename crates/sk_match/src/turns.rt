@@ -9,13 +9,13 @@ ghost use Rattle.sk_base.specs.Records.{FitsFind};
 ghost use Rattle.sk_model.specs.Allowance.{key_readings, value_readings};
 ghost use Rattle.sk_model.specs.Reports.{ReportsFor};
 ghost use Rattle.sk_index.specs.Indexed.{Indexed};
-ghost use Rattle.sk_nodes.specs.Built.{IsTree, Built};
+ghost use Rattle.sk_nodes.specs.Built.{left, IsTree, Built};
 ghost use Rattle.sk_collapse.specs.Collapsed.{group_of};
 ghost use Rattle.sk_base.specs.declared.rank.Rank as RankView;
 ghost use Rattle.sk_seen.specs.Pages.{CollapsesBy};
 ghost use Rattle.sk_seen.specs.Needs.{is_settled, need_for, wanted_by};
 ghost use Rattle.sk_match.specs.Hits.{kept_of};
-ghost use Rattle.sk_match.specs.Searches.{IsOn, Stands, Sees, IsSameBut, IsSamePage, PassesOver, ahead, is_done, is_whole, spent_by};
+ghost use Rattle.sk_match.specs.Searches.{IsOn, Stands, Asks, Sees, IsSameBut, IsSamePage, PassesOver, ahead, is_done, is_whole, spent_by};
 ghost use Rattle.sk_match.specs.declared.turns.Turn.TheVariants as Turn;
 
 use crate::offer::{key_of, offer, value_of};
@@ -115,6 +115,9 @@ impl Search {
         ensures done { IfOk result (λ turn. turn ≡ (if is_done index.now self.old then Turn.Done else Turn.More)) }
         ensures same { IfOk result (λ turn. turn ≡ Turn.Done → (self.new ≡ self.old) × (steps.new ≡ steps.old)) }
         ensures fewer { IfOk result (λ turn. turn ≡ Turn.More → length (ahead index.now self.new) < length (ahead index.now self.old)) }
+
+        // The tree was asked for what the page needs with what was seen, and for no less than before.
+        ensures asked { IfOk result (λ turn. turn ≡ Turn.More → Asks index.now self.old self.new) }
         ensures cost { IfOk result (λ turn. steps.new + spent_by self.old ≡ steps.old + spent_by self.new) }
         ensures later { steps.old ≤ steps.new }
     {
@@ -193,7 +196,7 @@ impl Search {
         ensures over { PassesOver index.now id self.old.tree self.new.tree self.new.need }
         ensures built { (query : QueryTree.Tree) (scheme : Scheme) → Built self.old.tree index.now query scheme → Built self.new.tree index.now query scheme }
         ensures need { self.new.need ≡ self.new.tree.need }
-        ensures asked { (self.new.need ≡ self.old.need) ⊎ (self.new.need ≡ max self.old.need (need_for self.old.options self.old.seen self.old.heap self.old.tree.top.greatest)) }
+        ensures asked { ((self.new.need ≡ self.old.need) × (left index.now self.new.tree ≡ [])) ⊎ (self.new.need ≡ max self.old.need (need_for self.old.options self.old.seen self.old.heap self.old.tree.top.greatest)) }
         ensures rest { (self.new.seen ≡ self.old.seen) × (self.new.read ≡ self.old.read) × (self.new.heap ≡ self.old.heap) × (self.new.collapser ≡ self.old.collapser) }
         ensures same { IsSamePage self.old self.new }
         ensures cost { steps.new + self.old.tree.spent ≡ steps.old + self.new.tree.spent }

@@ -1,7 +1,7 @@
 -- The page of what was seen is the page of all matches, where what was passed over is behind the page.
-use Rattle.std.proofs.Common.{◌≡◌, ◌≤◌, ◌<◌, ◌+◌, ℕ, zero, suc, Bool, true, false, not, cond, ◌&&◌, List, [], ◌∷◌, ◌++◌, length, take, filter, Option, None, Some, refl, sym, ap, ◌∙◌, subst, arith, true≢false, add-one}
+use Rattle.std.proofs.Common.{◌≡◌, ◌≤◌, ℕ, zero, suc, Bool, true, false, not, cond, ◌&&◌, List, [], ◌∷◌, ◌++◌, length, take, filter, Option, None, Some, refl, sym, ap, ◌∙◌, subst, arith, true≢false}
 use Rattle.std.specs.List.{list_all}
-use Rattle.std.proofs.lemmas.List.{take-append-le, length-append}
+use Rattle.std.proofs.lemmas.List.{take-append-le}
 use Rattle.sk_base.specs.declared.find.Collapse.{Collapse}
 use Rattle.sk_base.specs.declared.rank.Rank.{Rank}
 use Rattle.sk_base.specs.declared.rank.Order.{Order}

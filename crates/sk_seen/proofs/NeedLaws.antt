@@ -1,5 +1,5 @@
 -- What a search asks its tree for is right.
-use Rattle.std.proofs.Common.{◌≡◌, ◌≤◌, ◌<◌, ◌⊎◌, ℕ, Bool, true, false, cond, max, nat_lt, nat_le, ◌||◌, ◌&&◌, List, length, Option, None, Some, refl, sym, ap, subst, arith, inl, inr, true≢false}
+use Rattle.std.proofs.Common.{◌≡◌, ◌≤◌, ◌<◌, ◌⊎◌, ℕ, Bool, true, false, cond, max, nat_lt, nat_le, ◌||◌, ◌&&◌, List, Option, None, Some, refl, sym, ap, arith, inl, inr, true≢false}
 use Rattle.std.specs.List.Sorted.{IsSortedBy}
 use Rattle.std.proofs.lemmas.Bool.Decides.{nat_tests}
 use Rattle.sk_base.specs.declared.find.Find.{Find}

@@ -1,5 +1,5 @@
 -- A search keeps what its page needs.
-use Rattle.std.proofs.Common.{◌≡◌, ◌≢◌, ◌≤◌, ◌<◌, ◌+◌, ◌⊎◌, ℕ, zero, suc, Bool, true, false, not, cond, ◌&&◌, ◌==◌, List, [], ◌∷◌, ◌++◌, length, take, filter, map, get_or, All, AllPairs, IsPermutation, Option, None, Some, refl, sym, ap, ◌∙◌, subst, arith, inl, inr, true≢false, min, length-take, nat_lt, IsSomeAnd, add-one}
+use Rattle.std.proofs.Common.{◌≡◌, ◌≢◌, ◌≤◌, ◌<◌, ◌+◌, ℕ, zero, suc, Bool, true, false, not, cond, ◌==◌, List, [], ◌∷◌, ◌++◌, length, take, filter, get_or, All, AllPairs, IsPermutation, Option, None, Some, refl, sym, ap, ◌∙◌, subst, arith, min, length-take, nat_lt, add-one}
 use Rattle.std.specs.List.{AllByRecursion, list_all, IsAmong}
 use Rattle.std.specs.List.Sorted.{IsSortedBy}
 use Rattle.std.proofs.lemmas.Bool.Decides.{nat_tests}
@@ -14,20 +14,19 @@ use Rattle.sk_base.specs.Before.{is_before}
 use Rattle.sk_base.specs.Numbers.{Docs}
 use Rattle.sk_model.specs.Matches.{key_of}
 use Rattle.sk_model.specs.Page.{place, best_first, kept_of, kept}
-use Rattle.sk_model.specs.Counts.{wanted, kept_by}
-use Rattle.sk_model.proofs.OrderLaws.{before_order, both_so, NoneBefore, Rises, rises_best_first, best_first_permutation, sorted_is}
+use Rattle.sk_model.specs.Counts.{kept_by}
+use Rattle.sk_model.proofs.OrderLaws.{before_order, both_so, Rises, rises_best_first, best_first_permutation, sorted_is}
 use Rattle.sk_heap.specs.declared.hit.Hit.{Hit}
 use Rattle.sk_heap.specs.Held.{Held, ranks_of, placed, last_weight, need_behind, need_of, offered, without}
 use Rattle.sk_heap.proofs.HeapLaws.{ranks_placed, need_keeps_out}
-use Rattle.sk_collapse.specs.Collapsed.{Collapsed, Knows, kept_in}
+use Rattle.sk_collapse.specs.Collapsed.{Collapsed, kept_in}
 use Rattle.sk_collapse.specs.Verdicts.{Judges, without_rank}
 use Rattle.sk_collapse.specs.declared.verdict.Verdict.{Verdict}
-use Rattle.sk_collapse.specs.declared.verdict.Verdict.TheVariants as Verdict
 use Rattle.sk_collapse.proofs.CollapseLaws.{distinct_from, differ_more, best_more_kept, best_for_kept, kept_sorted, kept_differ, length-without_rank}
 use Rattle.sk_collapse.proofs.PlacedLaws.{Distinct, distinct_best}
 use Rattle.std.proofs.lemmas.List.Kept.{AllPairs-cons}
 use Rattle.sk_seen.specs.Shown.{is_behind}
-use Rattle.sk_seen.specs.Walks.{page_end, held_by, IsFull, IsPassed, IsNeed}
+use Rattle.sk_seen.specs.Walks.{page_end, held_by, IsFull, IsPassed}
 use Rattle.sk_seen.specs.Pages.{CollapsesBy, judged, SeesBy, Offers, Pages}
 use Rattle.sk_seen.proofs.FrontLaws.{both_are, before_through}
 

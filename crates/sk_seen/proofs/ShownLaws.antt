@@ -1,5 +1,5 @@
 -- What was seen of matches: more of them, fewer that are behind, and how often each key was.
-use Rattle.std.proofs.Common.{◌≡◌, ◌⊎◌, ◌+◌, ℕ, Bool, true, false, not, cond, List, [], ◌∷◌, ◌++◌, length, filter, bytes_eq, refl, sym, ap, ◌∙◌, subst, arith, inl, inr}
+use Rattle.std.proofs.Common.{◌≡◌, ◌⊎◌, ◌+◌, ℕ, Bool, true, not, cond, List, [], ◌∷◌, ◌++◌, length, filter, bytes_eq, refl, sym, ap, ◌∙◌, subst, arith, inl, inr}
 use Rattle.std.proofs.lemmas.List.Sums.{sum_by-cons, sum_by-append}
 use Rattle.sk_base.specs.declared.rank.Rank.{Rank}
 use Rattle.sk_model.specs.Page.{count_key}

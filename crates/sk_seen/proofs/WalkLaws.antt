@@ -1,14 +1,13 @@
 -- A search that goes on, and one that ends.
-use Rattle.std.proofs.Common.{◌≡◌, ◌≤◌, ◌<◌, ◌+◌, ◌⊎◌, ℕ, zero, suc, Bool, true, false, not, cond, nat_le, List, [], ◌∷◌, ◌++◌, length, take, filter, Option, None, Some, option_map, is_some, unwrap_or, refl, sym, ap, ◌∙◌, subst, arith, inl, inr, true≢false, append_assoc, append-nil}
+use Rattle.std.proofs.Common.{◌≡◌, ◌≤◌, ◌<◌, ◌+◌, ◌⊎◌, ℕ, suc, Bool, true, false, cond, nat_le, List, [], ◌∷◌, ◌++◌, length, take, Option, None, Some, option_map, is_some, unwrap_or, refl, sym, ap, ◌∙◌, subst, arith, inl, inr, true≢false, append_assoc, append-nil}
 use Rattle.std.specs.List.{AllByRecursion, filter_map, cons_option}
 use Rattle.std.proofs.lemmas.Bool.Decides.{nat_tests}
-use Rattle.std.proofs.lemmas.List.{take-append-le, length-append}
+use Rattle.std.proofs.lemmas.List.{take-append-le}
 use Rattle.std.proofs.lemmas.List.Elements.{filter_map-append, filter-append}
 use Rattle.sk_base.specs.declared.find.Find.{Find}
 use Rattle.sk_base.specs.declared.rank.Rank.{Rank}
 use Rattle.sk_base.specs.Numbers.{Docs}
 use Rattle.sk_sorted.specs.Entries.{RiseAbove, first_id}
-use Rattle.sk_sorted.proofs.EntryLaws.{RiseAbove-lower}
 use Rattle.sk_query.specs.Trees.{Tree}
 use Rattle.sk_model.specs.Covers.{CoversAt}
 use Rattle.sk_model.specs.Counts.{wanted}
@@ -17,7 +16,7 @@ use Rattle.sk_model.specs.Matches.{value_for, rank_of, matches, at_least, found_
 use Rattle.sk_model.specs.Scores.{score}
 use Rattle.sk_model.proofs.CoverLaws.{covers_then}
 use Rattle.sk_seen.specs.Shown.{is_behind, Shown}
-use Rattle.sk_seen.specs.Walks.{page_end, held_by, IsFull, IsPassed, IsNeed, Walk, Ended}
+use Rattle.sk_seen.specs.Walks.{held_by, IsFull, IsPassed, IsNeed, Walk, Ended}
 use Rattle.sk_seen.proofs.ShownLaws.{shown_same, shown_append, shown_weaker, shown_beside}
 
 -- ---- tests and lists

@@ -14,7 +14,6 @@ use Rattle.sk_heap.specs.Held.{Held, ranks_of, offered, without}
 use Rattle.sk_collapse.specs.Collapsed.{Collapsed, Knows, kept_in}
 use Rattle.sk_collapse.specs.Verdicts.{Judges}
 use Rattle.sk_collapse.specs.declared.verdict.Verdict.{Verdict}
-use Rattle.sk_collapse.specs.declared.verdict.Verdict.TheVariants as Verdict
 use Rattle.sk_seen.specs.Walks.{page_end, held_by}
 
 -- A find that collapses has a collapser that knows the matches, and another one has none.

@@ -1,5 +1,4 @@
-use Rattle.std.proofs.Common.{ℕ, List, [], Some, sym, subst, ap}
-use Rattle.sk_base.specs.declared.rank.Rank.{Rank}
+use Rattle.std.proofs.Common.{[], Some, sym, subst}
 use Rattle.sk_seen.specs.Pages.{CollapsesBy}
 use Rattle.sk_match.proofs.turns.collapser_of.Goals as goal
 

@@ -1,4 +1,4 @@
-use Rattle.std.proofs.Common.{◌≡◌, ◌≤◌, ◌+◌, ℕ, length}
+use Rattle.std.proofs.Common.{◌≡◌, ◌+◌, length}
 use Rattle.sk_query.specs.Trees.{query_view}
 use Rattle.sk_match.specs.Searches.{Stands, ahead, spent_by}
 use Rattle.sk_match.proofs.whole.search.Given as goal

@@ -1,8 +1,8 @@
-use Rattle.std.proofs.Common.{◌≡◌, ◌≤◌, ℕ, Bool, true, false, rules, sym, ap, subst, arith, ◌∙◌, refl, length, drop, map, min, cond}
+use Rattle.std.proofs.Common.{true, false, rules, sym, ap, arith, ◌∙◌, refl, map}
 use Rattle.sk_query.specs.Trees as QueryTree
 use Rattle.sk_base.specs.declared.find.Find.{Find}
-use Rattle.sk_match.specs.Hits.{ranked_of, kept_of}
-use Rattle.sk_match.specs.Searches.{Stands, is_whole}
+use Rattle.sk_match.specs.Hits.{ranked_of}
+use Rattle.sk_match.specs.Searches.{Stands}
 use Rattle.sk_seen.specs.Told.{IsUpper}
 use Rattle.sk_match.proofs.FinishLemmas.{kept_seen, dropped_fits, most_fits, upper_told, lower_upper, range_is, finished}
 use Rattle.sk_match.proofs.turns.Search.finish.Given as given

@@ -1,49 +1,47 @@
-use Rattle.std.proofs.Common.{◌≡◌, ◌≤◌, ◌<◌, ℕ, length, unwrap_or, Some, sym, subst, ap, ◌∙◌}
-use Rattle.sk_sorted.specs.Entries.{first_id}
-use Rattle.sk_query.specs.Trees as QueryTree
-use Rattle.sk_nodes.specs.Built.{gives, left}
-use Rattle.sk_match.specs.Searches.{Stands, Sees, IsSameBut, PassesOver}
+use Rattle.std.proofs.Common.{◌⊎◌, inl, inr, max, [], ◌≡◌, ◌≤◌, sym, subst, ap, ◌∙◌}
+use Rattle.sk_nodes.specs.Built.{left}
+use Rattle.sk_match.specs.Searches.{Asks, Sees, IsSameBut, PassesOver}
+use Rattle.sk_index.specs.Indexed.{Indexed}
+use Rattle.sk_nodes.specs.declared.tree.Tree.{Tree}
+use Rattle.sk_seen.specs.Needs.{need_for}
 use Rattle.sk_match.specs.declared.turns.Search.{Search}
-use Rattle.sk_match.proofs.TurnLemmas.{seen_few, read_few, light, full_room, differ_hits, known_few, known_apart, high_of, Passes, turned_seen, turned_light, turned_fewer}
+use Rattle.sk_match.proofs.TurnLemmas.{MaySee, may_see, high_of, Passes, turned_seen, turned_light, turned_fewer}
 use Rattle.sk_match.proofs.turns.Search.turn.Given as given
 use Rattle.sk_match.proofs.turns.Search.turn.Goals as goal
 use Rattle.sk_match.proofs.turns.Search.turn.Goals.{then-weight-self+in_ok-see, else-weight-self}
 
-pub see-requires-clause-few : goal.see-requires-clause-few
-see-requires-clause-few g c =
+-- it may see the document at its head
+fits : (g : given.Over) (c : goal.After-see-arg-then-weight-self-1 g) → MaySee c.args.self.now c.in-Some.id c.weight-weight.result
+fits g c =
     let on = c.requires.on in
-    seen_few c.args.index.now c.args.self.now on.0 on.1 on.2 c.in-Some.id c.weight-weight.result (sym (c.in-Some.ensures c.args.index.now on.2.built.tree)) (c.weight-weight.ensures c.args.index.now on.2.built.tree)
+    let tree = on.2.built.tree in
+    may_see c.args.index.now c.args.self.now on.0 on.1 on.2 c.in-Some.id c.weight-weight.result c.ceiling-ceiling.result (c.in-Some.ensures c.args.index.now tree) (c.weight-weight.ensures c.args.index.now tree)
+    c.ceiling-ceiling.ensures.value (c.ceiling-ceiling.ensures.bound c.args.index.now tree)
+
+pub see-requires-clause-few : goal.see-requires-clause-few
+see-requires-clause-few g c = (fits g c).few
 
 pub see-requires-clause-read : goal.see-requires-clause-read
-see-requires-clause-read g c =
-    let on = c.requires.on in
-    read_few c.args.index.now c.args.self.now on.0 on.1 on.2 c.in-Some.id c.weight-weight.result (sym (c.in-Some.ensures c.args.index.now on.2.built.tree)) (c.weight-weight.ensures c.args.index.now on.2.built.tree)
+see-requires-clause-read g c = (fits g c).read
 
 pub see-requires-clause-light : goal.see-requires-clause-light
-see-requires-clause-light g c =
-    let on = c.requires.on in
-    light c.args.index.now c.args.self.now on.0 on.1 on.2 c.in-Some.id c.weight-weight.result (sym (c.in-Some.ensures c.args.index.now on.2.built.tree)) (c.weight-weight.ensures c.args.index.now on.2.built.tree)
-    (subst (λ n. (id : ℕ) → unwrap_or (gives c.args.index.now c.args.self.now.tree id) 0 ≤ n) c.ceiling-ceiling.ensures.value (c.ceiling-ceiling.ensures.bound c.args.index.now on.2.built.tree))
+see-requires-clause-light g c = (fits g c).light
 
 pub see-requires-clause-room : goal.see-requires-clause-room
-see-requires-clause-room g c =
-    let on = c.requires.on in
-    full_room c.args.index.now c.args.self.now on.0 on.1 on.2 c.in-Some.id c.weight-weight.result (sym (c.in-Some.ensures c.args.index.now on.2.built.tree)) (c.weight-weight.ensures c.args.index.now on.2.built.tree)
+see-requires-clause-room g c = (fits g c).room
 
 pub see-requires-clause-differs : goal.see-requires-clause-differs
-see-requires-clause-differs g c =
-    let on = c.requires.on in
-    differ_hits c.args.index.now c.args.self.now on.0 on.1 on.2 c.in-Some.id c.weight-weight.result (sym (c.in-Some.ensures c.args.index.now on.2.built.tree)) (c.weight-weight.ensures c.args.index.now on.2.built.tree)
+see-requires-clause-differs g c = (fits g c).differs
 
 pub see-requires-clause-known : goal.see-requires-clause-known
-see-requires-clause-known g c =
-    let on = c.requires.on in
-    known_few c.args.index.now c.args.self.now on.0 on.1 on.2 c.in-Some.id c.weight-weight.result (sym (c.in-Some.ensures c.args.index.now on.2.built.tree)) (c.weight-weight.ensures c.args.index.now on.2.built.tree)
+see-requires-clause-known g c = (fits g c).known
 
 pub see-requires-clause-apart : goal.see-requires-clause-apart
-see-requires-clause-apart g c =
-    let on = c.requires.on in
-    known_apart c.args.index.now c.args.self.now on.0 on.1 on.2 c.in-Some.id c.weight-weight.result (sym (c.in-Some.ensures c.args.index.now on.2.built.tree)) (c.weight-weight.ensures c.args.index.now on.2.built.tree)
+see-requires-clause-apart g c = (fits g c).apart
+
+asked_of : {A B C : Type 0} → (A × B) ⊎ C → A ⊎ C
+asked_of (inl both) = inl both.0
+asked_of (inr other) = inr other
 
 passes_of : (g : given.Over) (c : goal.After-pass g) → Passes c.args.index.now c.in-Some.id c.if-weight-self.self c.pass.new.self
 passes_of g c = record {
@@ -51,7 +49,7 @@ passes_of g c = record {
   over = c.pass.ensures.over;
   built = c.pass.ensures.built;
   need = c.pass.ensures.need;
-  asked = c.pass.ensures.asked;
+  asked = asked_of c.pass.ensures.asked;
   rest = c.pass.ensures.rest;
   same = c.pass.ensures.same;
 }
@@ -71,6 +69,22 @@ returns-clause-stands g c find query stands =
       | else-weight-self w ↦
           turned_light i old c.in-Some.id c.weight-weight.result (c.in-Some.ensures i tree) (c.weight-weight.ensures i tree) high find query stands c.pass.new.self w.if-weight-self.false
           (subst (λ mid. Passes i c.in-Some.id mid c.pass.new.self) w.self-is (passes_of g c))
+    ]
+
+-- what it asked for
+asks : (i : Indexed) (old mid new : Search) → mid.need ≡ old.need → mid.tree ≡ old.tree → new.options ≡ mid.options → new.seen ≡ mid.seen → new.heap ≡ mid.heap
+    → ((new.need ≡ mid.need) × (left i new.tree ≡ [])) ⊎ (new.need ≡ max mid.need (need_for mid.options mid.seen mid.heap mid.tree.top.greatest)) → Asks i old new
+asks i old mid new need tree options seen heap (inl both) = inl both.1
+asks i old mid new need tree options seen heap (inr asked) = inr (asked ∙ (λ j. max (need j) (need_for (sym options j) (sym seen j) (sym heap j) (ap (λ (t : Tree). t.top.greatest) tree j))))
+
+pub returns-clause-asked : goal.returns-clause-asked
+returns-clause-asked g c more =
+    asks c.args.index.now c.args.self.now c.if-weight-self.self c.pass.new.self same.0 same.1 c.pass.ensures.same.options c.pass.ensures.rest.0 c.pass.ensures.rest.2 c.pass.ensures.asked
+  where
+    same : (c.if-weight-self.self.need ≡ c.args.self.now.need) × (c.if-weight-self.self.tree ≡ c.args.self.now.tree)
+    same = elim c.if-weight-self.branch [
+      | then-weight-self+in_ok-see w ↦ (ap (λ (s : Search). s.need) w.self-is ∙ w.in_ok-see.ensures.rest.need, ap (λ (s : Search). s.tree) w.self-is ∙ w.in_ok-see.ensures.rest.tree)
+      | else-weight-self w ↦ (ap (λ (s : Search). s.need) w.self-is, ap (λ (s : Search). s.tree) w.self-is)
     ]
 
 pub returns-clause-fewer : goal.returns-clause-fewer
