@@ -31,7 +31,7 @@ module _ (order : Order) where
       both_are (is_before order h y) (is_behind order held y) (before_through h x y b.0 f) (behind_through held x y b.1 f)
 
   module _ (held : List Rank) where
-    abbrev ahead : Rank → Bool
+    abbrev pub ahead : Rank → Bool
     ahead x = not (is_behind order held x)
 
     ahead_step : (y : Rank) (zs : List Rank) (b : Bool) → is_behind order held y ≡ b → filter ahead (y ∷ zs) ≡ cond (not b) (y ∷ filter ahead zs) (filter ahead zs)
@@ -82,7 +82,7 @@ module _ (order : Order) where
     best_step x xs false e rest = place_ahead x (best_first order xs) e (rises_best_first order xs) ∙ ap (place order x) rest ∙ sym (ap (best_first order) (ahead_step x xs false e))
 
     -- what is ahead in order is in order what is ahead
-    front_best : (xs : List Rank) → filter ahead (best_first order xs) ≡ best_first order (filter ahead xs)
+    pub front_best : (xs : List Rank) → filter ahead (best_first order xs) ≡ best_first order (filter ahead xs)
     front_best [] = refl
     front_best (x ∷ xs) = best_step x xs (is_behind order held x) refl (front_best xs)
 
@@ -184,7 +184,7 @@ not_some order xs ys x =
       | false ↦ λ e. e
     ] refl
 
-held_ahead : (order : Order) (xs ys : List Rank) → list_all (λ x. not (is_behind order (xs ++ ys) x)) ys ≡ true
+pub held_ahead : (order : Order) (xs ys : List Rank) → list_all (λ x. not (is_behind order (xs ++ ys) x)) ys ≡ true
 held_ahead order xs [] = refl
 held_ahead order xs (y ∷ ys) =
     both_are (not (is_behind order (xs ++ y ∷ ys) y)) (list_all (λ x. not (is_behind order (xs ++ y ∷ ys) x)) ys) (ap not (not_some order xs ys y))

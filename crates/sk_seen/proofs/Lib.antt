@@ -4,3 +4,5 @@ pub mod WalkLaws
 pub mod ToldLaws
 pub mod PageLaws
 pub mod NeedLaws
+pub mod HeavyLaws
+pub mod StopLaws

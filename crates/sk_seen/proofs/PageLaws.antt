@@ -401,7 +401,7 @@ module _ (find : Find) (docs : Docs) where
   -- ---- what the heap's need says
 
   module _ (last : ℕ) (saw : List Rank) (held : Held) (c : Option Collapsed) (pages : Pages find docs last saw held c) where
-    held_is : ranks_of held.hits ≡ held_by find docs saw
+    pub held_is : ranks_of held.hits ≡ held_by find docs saw
     held_is = pages.hits ∙ ap (λ rs. take (page_end find) (kept_of find.collapse key rs)) (sym pages.same)
 
     all_behind : (r : Rank) (hits : List Hit) → AllByRecursion (λ (h : Hit). is_before held.order h.rank r ≡ true) hits → is_behind held.order (ranks_of hits) r ≡ true

@@ -3,3 +3,4 @@ pub mod Walks
 pub mod Told
 pub mod Pages
 pub mod Needs
+pub mod Calm
