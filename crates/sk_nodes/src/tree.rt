@@ -1,5 +1,5 @@
 //! The tree of a query, as a search sees it.
-ghost use Rattle.std.specs.Prelude.{◌≡◌, ◌≤◌, ◌<◌, ◌+◌, ◌^◌, ℕ, [], unwrap_or, IfOk, true};
+ghost use Rattle.std.specs.Prelude.{◌≡◌, ◌≤◌, ◌<◌, ◌+◌, ◌^◌, ℕ, List, [], Some, unwrap_or, IfOk, true};
 ghost use Rattle.sk_base.specs.declared.find.Scheme.{Scheme};
 ghost use Rattle.sk_sorted.specs.Entries.{from, first_id};
 ghost use Rattle.sk_query.specs.Trees as QueryTree;
@@ -8,10 +8,12 @@ ghost use Rattle.sk_query.specs.Fits.{fits_tree};
 ghost use Rattle.sk_model.specs.Covers.{Covers};
 ghost use Rattle.sk_model.specs.Bounds.{ceil};
 ghost use Rattle.sk_model.specs.Allowance.{leaf_readings};
+ghost use Rattle.sk_model.specs.Sharp.{flat_lists, ups};
 ghost use Rattle.sk_index.specs.Indexed.{Indexed};
 ghost use Rattle.sk_nodes.specs.Left.{from_on};
 ghost use Rattle.sk_nodes.specs.Leaves.{AtMost};
 ghost use Rattle.sk_nodes.specs.Built.{gives, left, scored, first_weight, IsTree, Built};
+ghost use Rattle.sk_nodes.specs.Stops.{Stops, MayMove};
 
 use crate::moves::reach;
 use crate::node::Node;
@@ -49,6 +51,9 @@ impl Tree {
         ensures left { IfOk result (λ tree. left index.now tree ≡ scored (query_view query.now) scheme 1 index.now.live.documents) }
         ensures need { IfOk result (λ tree. tree.need ≡ 0) }
 
+        // Of terms alone it stops at any point: it read one entry of each list.
+        ensures stops { IfOk result (λ tree. (lists : List (List ℕ)) → flat_lists (query_view query.now) index.now.live.documents ≡ Some lists → (point : ℕ) → Stops index.now tree point (ups lists point index.now.live.documents)) }
+
         ensures cost { IfOk result (λ tree. steps.new ≡ steps.old + tree.spent) }
         ensures later { steps.old ≤ steps.new }
     {
@@ -84,6 +89,9 @@ impl Tree {
         ensures closed { self.old.top.greatest < need → (steps.new ≡ steps.old) × (left index.now self.new ≡ []) }
         ensures falls { self.new.top.greatest ≤ self.old.top.greatest }
         ensures need { self.new.need ≡ need }
+
+        // It goes on to stop at a point up to which it may go.
+        ensures stops { (point most : ℕ) → Stops index.now self.old point most → MayMove point target need self.old.top.greatest (gives index.now self.old point) → Stops index.now self.new point most }
 
         ensures cost { steps.new + self.old.spent ≡ steps.old + self.new.spent }
         ensures later { steps.old ≤ steps.new }
@@ -136,6 +144,7 @@ impl Tree {
     pub fn spent(&self) -> u128
         ensures value { result ≡ self.now.spent }
         ensures within { (i : Indexed) (query : QueryTree.Tree) (scheme : Scheme) → Built self.now i query scheme → result ≤ leaf_readings query i.live.documents }
+        ensures stops { (i : Indexed) (point most : ℕ) → Stops i self.now point most → result ≤ most }
     {
         self.spent
     }
@@ -147,6 +156,7 @@ impl Tree {
         ensures built { (i : Indexed) (query : QueryTree.Tree) (scheme : Scheme) → Built self.old i query scheme → Built self.new i query scheme }
         ensures spent { self.new.spent ≡ self.old.spent }
         ensures need { self.new.need ≡ self.old.need }
+        ensures stops { (i : Indexed) (point most : ℕ) → Stops i self.old point most → Stops i self.new point most }
     {
         self.node = Node::Nothing;
         self.top = Top::ended();

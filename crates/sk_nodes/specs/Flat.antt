@@ -1,0 +1,63 @@
+-- Nodes of terms alone that read no list behind a point by more than one entry.
+use Rattle.std.specs.Prelude.{◌≡◌, ◌≤◌, ◌<◌, ◌+◌, ◌-◌, ◌^◌, ◌⊎◌, ℕ, Option, None, Some}
+use Rattle.sk_lists.specs.Seeks.{count_to}
+use Rattle.sk_query.specs.declared.form.Form.{Form}
+use Rattle.sk_model.specs.Covers.{first_need, second_need}
+use Rattle.sk_index.specs.Indexed.{Indexed}
+use Rattle.sk_nodes.specs.Leaves.{entries_of}
+use Rattle.sk_nodes.specs.Shapes.{Shape, ended, leaf, span, pair, odd, tested}
+use Rattle.sk_nodes.specs.Left.{rest}
+
+-- How many entries a node of terms has left with ids up to a point.
+abbrev pub room_to : Indexed → ℕ → Shape → ℕ
+room_to i point ended = 0
+room_to i point (leaf l) = count_to point (entries_of i l)
+room_to i point (span r) = 0
+room_to i point (pair form ta a tb b) = room_to i point a + room_to i point b
+room_to i point (odd ss) = 0
+room_to i point (tested p t s) = 0
+
+-- The forms of a flat node: an or, and under a need the and_maybe and the and that it becomes.
+abbrev pub IsFlatForm : Form → ℕ → Type 0
+IsFlatForm Form.Or need = Unit {0}
+IsFlatForm Form.And need = 0 < need
+IsFlatForm Form.AndMaybe need = 0 < need
+IsFlatForm _ need = ⊥
+
+-- Leaves, and what an or of leaves, nested to any depth, has become under needs that rose up to this one.
+abbrev pub IsFlat : ℕ → Shape → Type 0
+IsFlat need ended = Unit {0}
+IsFlat need (leaf l) = Unit {0}
+IsFlat need (span r) = ⊥
+IsFlat need (pair form ta a tb b) = IsFlatForm form need × (IsFlat (first_need form need tb.greatest) a × IsFlat (second_need form need ta.greatest) b)
+IsFlat need (odd ss) = ⊥
+IsFlat need (tested p t s) = ⊥
+
+-- Leaves, and a max of leaves nested to any depth.
+abbrev pub IsPlain : Shape → Type 0
+IsPlain ended = Unit {0}
+IsPlain (leaf l) = Unit {0}
+IsPlain (span r) = ⊥
+IsPlain (pair Form.Max ta a tb b) = IsPlain a × IsPlain b
+IsPlain (pair _ ta a tb b) = ⊥
+IsPlain (odd ss) = ⊥
+IsPlain (tested p t s) = ⊥
+
+-- There is a weight, and it is at least the need.
+abbrev pub IsAtLeast : ℕ → Option ℕ → Type 0
+IsAtLeast need None = ⊥
+IsAtLeast need (Some w) = need ≤ w
+
+-- What has this weight at the point may be moved on from the target under the need, and no list is read behind the point by
+-- more than one entry: the point is the last id; or nothing is needed, and the target is at most the next id; or the target is
+-- at most the point, and what is there is wanted.
+abbrev pub MayGo : ℕ → ℕ → ℕ → Option ℕ → Type 0
+MayGo point target need weight = (2 ^ 32 - 1 ≤ point) ⊎ (((need ≡ 0) × (target ≤ point + 1)) ⊎ ((target ≤ point) × IsAtLeast need weight))
+
+-- A node was moved on from the target under the need, with this spent before and after: what is spent and what is left up to a
+-- point together have not grown.
+pub record Stays (i : Indexed) (target need : ℕ) (before after : ℕ) (old new : Shape) : Type 0 where
+  pub flat : (last : ℕ) → last ≤ need → IsFlat last old → IsFlat need new
+  pub flat_paid : (last point : ℕ) → last ≤ need → IsFlat last old → MayGo point target need (rest i old point) → after + room_to i point new ≤ before + room_to i point old
+  pub plain : IsPlain old → IsPlain new
+  pub plain_paid : (point : ℕ) → IsPlain old → target ≤ point + 1 → after + room_to i point new ≤ before + room_to i point old
