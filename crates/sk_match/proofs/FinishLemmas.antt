@@ -3,7 +3,7 @@ use Rattle.std.proofs.Common.{◌≡◌, ◌≤◌, ◌<◌, ◌+◌, ◌-◌, �
 use Rattle.std.specs.List.{AllByRecursion, AllZip}
 use Rattle.std.specs.List.Sorted.{IsSortedBy}
 use Rattle.std.proofs.lemmas.Bool.Decides.{nat_tests}
-use Rattle.std.proofs.lemmas.List.{take_all, length-drop}
+use Rattle.std.proofs.lemmas.List.{take_all, length-take, length-drop}
 use Rattle.sk_base.specs.declared.find.Collapse.{Collapse}
 use Rattle.sk_base.specs.declared.find.Find.{Find}
 use Rattle.sk_base.specs.declared.find.Options.{Options}
@@ -22,6 +22,9 @@ use Rattle.sk_model.specs.Counts.{wanted, kept_by, dropped_by}
 use Rattle.sk_model.specs.Matches.{found_by, key_of}
 use Rattle.sk_model.specs.Page as Page
 use Rattle.sk_model.specs.Page.{best_first, kept, count_key, dropped}
+use Rattle.sk_model.specs.Settled.{stop_point}
+use Rattle.sk_model.specs.Sharp.{ups}
+use Rattle.sk_nodes.specs.Stops.{Stops}
 use Rattle.sk_model.specs.Reports.{ReportsFor}
 use Rattle.sk_model.proofs.CountLaws.{found_within}
 use Rattle.sk_model.proofs.KeptLaws.{kept_few}
@@ -59,6 +62,17 @@ most_is a b e = grind (arith, nat_tests)
 
 not_most : (a b : ℕ) → nat_le a b ≡ false → b < a
 not_most a b e = grind (arith, nat_tests)
+
+-- when a search is done
+pub done_at_end : (i : Indexed) (s : Search) → None ≡ first_id (left i s.tree) → is_done i s ≡ true
+done_at_end i s e = ap (λ o. is_none o || is_settled s.options s.seen s.heap s.tree.top.greatest) (sym e)
+
+pub done_settled : (i : Indexed) (s : Search) → is_settled s.options s.seen s.heap s.tree.top.greatest ≡ true → is_done i s ≡ true
+done_settled i s e = ap (λ b. is_none (first_id (left i s.tree)) || b) e ∙ or_true (is_none (first_id (left i s.tree)))
+  where
+    or_true : (b : Bool) → (b || true) ≡ true
+    or_true true = refl
+    or_true false = refl
 
 drop_none : {X : Type 0} (k : ℕ) → drop {A = X} k [] ≡ []
 drop_none zero = refl
@@ -193,6 +207,12 @@ module _ (i : Indexed) (s : Search) (find : Find) (query : Query.Tree) (stands :
     pub end : Ended query find docs saw
     end = end_by how
 
+    -- as many were seen as are wanted, or all
+    pub seen_enough : min (wanted find) (length (found_by query find docs)) ≤ s.seen
+    seen_enough =
+        let same : length (take (wanted find) (found_by query find docs)) ≡ length (take (wanted find) saw) = ap length end.first in
+        omega (arith, same, length-take (wanted find) (found_by query find docs), length-take (wanted find) saw, stands.seen)
+
     whole_by : (weighed give docs ≡ []) ⊎ (ceiling < find.options.cutoff) → s.need ≤ find.options.cutoff → found_by query find docs ≡ saw
     whole_by (inl none) low = all_at_end query find docs give s.need saw stands.walk none low
     whole_by (inr below) low = all_below query find docs give s.need saw stands.walk ceiling most below low
@@ -264,6 +284,7 @@ module _ (i : Indexed) (s : Search) (find : Find) (query : Query.Tree) (stands :
         omega (arith, low, high)
 
     pub finished : (report : Report) (spent : ℕ) → spent ≤ leaf_readings query docs
+        → ((point most : ℕ) → Stops i s.tree point most → spent ≤ most)
         → report.hits ≡ map (ranked_of docs s.collapser) (drop (min (length s.heap.hits) s.options.first) s.heap.hits)
         → report.lower ≡ kept_of s.collapser s.seen
         → IsUpper query find docs saw report.upper
@@ -271,7 +292,7 @@ module _ (i : Indexed) (s : Search) (find : Find) (query : Query.Tree) (stands :
         → report.greatest ≡ s.greatest
         → report.steps ≡ spent + (s.read + length report.hits)
         → ReportsFor query find docs report
-    finished report spent few hits lower upper estimate greatest steps =
+    finished report spent few stops hits lower upper estimate greatest steps =
         let order = lower_upper report.upper upper in
         told query find docs saw end 1 report stands.sound (record {
           hits = page_told report.hits hits;
@@ -280,5 +301,7 @@ module _ (i : Indexed) (s : Search) (find : Find) (query : Query.Tree) (stands :
           estimate = omega (arith, estimate, order, lower);
           greatest = greatest ∙ stands.greatest;
           least_steps = omega (arith, steps);
-          most_steps = omega (arith, steps, few, stands.read);
+          spent = spent;
+          within = record { lists = few; stop = λ plain lists flat. stops (stop_point query find docs) (ups lists (stop_point query find docs) docs) (stands.accounts.stops plain lists flat) };
+          most_steps = omega (arith, steps, stands.read);
         })

@@ -1,6 +1,7 @@
 -- A search that is opened, that sees a document, and that ends.
 use Rattle.std.proofs.Common.{◌≡◌, ◌≢◌, ◌≤◌, ◌<◌, ◌+◌, ◌⊎◌, ◌^◌, ℕ, suc, Bool, true, false, not, cond, ◌&&◌, ◌||◌, ◌==◌, nat_le, nat_lt, max, List, [], ◌∷◌, ◌++◌, length, drop, filter, All, Option, None, Some, option_map, is_some, unwrap_or, refl, sym, ap, ◌∙◌, subst, arith, inl, inr, true≢false, IfSome, append-nil}
 use Rattle.std.specs.List.{AllByRecursion, cons_option}
+use Rattle.std.specs.Option.{option_and_then, IsSomeAnd}
 use Rattle.std.specs.List.Sorted.{IsSortedBy}
 use Rattle.std.proofs.lemmas.Bool.Decides.{nat_tests}
 use Rattle.std.proofs.lemmas.List.{length-append}
@@ -12,9 +13,10 @@ use Rattle.sk_base.specs.declared.find.Scheme.{Scheme}
 use Rattle.sk_base.specs.declared.rank.Rank.{Rank}
 use Rattle.sk_base.specs.declared.rank.Order.{Order}
 use Rattle.sk_base.specs.declared.rank.OrderBy.{OrderBy}
+use Rattle.sk_base.specs.declared.rank.OrderBy.TheVariants as OrderBy
 use Rattle.sk_base.specs.Before.{is_before}
 use Rattle.sk_base.specs.Numbers.{Docs}
-use Rattle.sk_sorted.specs.Entries.{RiseAbove, first_id}
+use Rattle.sk_sorted.specs.Entries.{RiseAbove, LieBelow, first_id}
 use Rattle.sk_sorted.proofs.EntryLaws.{RiseAbove-lower, found-here, found-other, length_fits}
 use Rattle.sk_query.specs.Trees as Query
 use Rattle.sk_query.specs.Fits.{is_sound, leaves_of, depth_of, fits_tree}
@@ -23,16 +25,21 @@ use Rattle.sk_model.specs.Bounds.{ceil, static_count}
 use Rattle.sk_model.specs.Counts.{wanted}
 use Rattle.sk_model.specs.Covers.{CoversAt}
 use Rattle.sk_model.specs.Documents.{Document}
-use Rattle.sk_model.specs.Edits.{document_at}
+use Rattle.sk_model.specs.Edits.{document_at, last_id}
+use Rattle.sk_model.specs.Scores.{score}
+use Rattle.sk_model.specs.Settled.{stop_point}
+use Rattle.sk_model.specs.Sharp.{is_plain, flat_lists, ups}
 use Rattle.sk_model.specs.Matches.{value_by, key_for, key_of, found_by}
 use Rattle.sk_model.proofs.OrderLaws as OrderLaws
 use Rattle.sk_model.proofs.OrderLaws.{both_so}
 use Rattle.sk_index.specs.Indexed.{Indexed}
 use Rattle.sk_nodes.specs.Built as Nodes
 use Rattle.sk_nodes.specs.Built.{weighed_ids, gives, left, scored, IsTree, Built}
+use Rattle.sk_nodes.specs.Flat.{IsAtLeast}
+use Rattle.sk_nodes.specs.Stops.{Stops, MayMove}
 use Rattle.sk_nodes.specs.declared.tree.Tree.{Tree}
 use Rattle.sk_heap.specs.declared.hit.Hit.{Hit}
-use Rattle.sk_heap.specs.Held.{need_of}
+use Rattle.sk_heap.specs.Held.{Held, need_of}
 use Rattle.sk_collapse.specs.Collapsed.{Collapsed, group_of}
 use Rattle.sk_collapse.proofs.CollapseLaws.{knows_differ}
 use Rattle.sk_seen.specs.Shown.{is_behind}
@@ -44,8 +51,11 @@ use Rattle.sk_seen.proofs.WalkLaws as Walks
 use Rattle.sk_seen.proofs.WalkLaws.{AtHead, weighed, taken, ranked, scores, the_head, walked, started}
 use Rattle.sk_seen.proofs.PageLaws.{page_start, page_offered, page_later, fresh, fresh_hits}
 use Rattle.sk_seen.proofs.NeedLaws.{need_max, need_on, need_right, need_few}
+use Rattle.sk_seen.specs.Calm.{IsCalm}
+use Rattle.sk_seen.proofs.StopLaws.{calm_need, asks_more, given_there, done_after, first_lowest, calm_max, calm_later, calm_less}
+use Rattle.sk_seen.proofs.SharpLaws.{plain_is}
 use Rattle.sk_match.specs.Hits.{value_at}
-use Rattle.sk_match.specs.Searches.{Stands, Sees, IsSameBut, IsSamePage, PassesOver}
+use Rattle.sk_match.specs.Searches.{IsOn, Accounts, Stands, Sees, IsSameBut, IsSamePage, PassesOver, KeepsStops}
 use Rattle.sk_match.specs.declared.turns.Search.{Search}
 
 all_filter : {X : Type 0} (P : X → Type 0) (p : X → Bool) (xs : List X) → AllByRecursion P xs → AllByRecursion P (filter p xs)
@@ -92,6 +102,15 @@ same_given f g low (one ∷ docs) up e = step (f one) (g one) refl refl e (rises
     step (Some v) None a b e up down rest = absurd (not_first one.0 v (weighed_ids g docs) (weighed_ids f docs) down (sym e))
     step (Some v) (Some w) a b e up down rest = (a ∙ ap Some (ap (λ (rs : List (ℕ × ℕ)). Nodes.first_weight rs) e) ∙ sym b, rest (ap (drop 1) e))
 
+calm_opened : (i : Indexed) (s : Search) (find : Find) (query : Query.Tree) → (find.order.by ≡ OrderBy.Relevance) × (find.collapse ≡ None) → RiseAbove 0 i.live.documents
+    → (walk : Walk query find i.live.documents (gives i s.tree) s.need []) → Pages find i.live.documents walk.last [] s.heap s.collapser
+    → s.heap ≡ record { order = find.order; most = page_end find; room = page_end find; hits = [] } → s.need ≡ 0
+    → IsCalm query find i.live.documents (stop_point query find i.live.documents) walk.last s.need
+calm_opened i s find query plain rise walk pages heap need =
+    calm_less query find i.live.documents (stop_point query find i.live.documents) walk.last s.need (need_for find.options 0 s.heap 0) (omega (arith, need))
+    (calm_need query find i.live.documents plain.0 plain.1 rise (gives i s.tree) s.need [] walk (ceil query find.options.scheme 1 i.live.documents) s.heap s.collapser pages
+    (subst (λ (held : Held). IsSortedBy (λ (x y : Hit). is_before held.order x.rank y.rank) held.hits) (sym heap) (λ k d l m. absurd (omega (arith, l, m)))) 0)
+
 pub opened : (i : Indexed) (s : Search) (find : Find) (query : Query.Tree) → fits_tree query ≡ true
     → Built s.tree i query find.options.scheme
     → left i s.tree ≡ scored query find.options.scheme 1 i.live.documents
@@ -101,11 +120,14 @@ pub opened : (i : Indexed) (s : Search) (find : Find) (query : Query.Tree) → f
     → s.most ≡ static_count query i.live.documents
     → s.heap ≡ record { order = find.order; most = page_end find; room = page_end find; hits = [] }
     → ((key : Rank → List ℕ) → CollapsesBy find.collapse find.order key [] s.collapser)
+    → ((lists : List (List ℕ)) → flat_lists query i.live.documents ≡ Some lists → (point : ℕ) → Stops i s.tree point (ups lists point i.live.documents))
     → Stands s i find query
-opened i s find query fits built all none need seen read options order collapse greatest most heap knows =
+opened i s find query fits built all none need seen read options order collapse greatest most heap knows stops =
     let docs = i.live.documents in
     let walk : Walk query find docs (gives i s.tree) 0 [] = started query find docs (gives i s.tree) built.tree.documents.rise
     (same_given (λ one. gives i s.tree one.0) (scores query find) 0 docs built.tree.documents.rise all) in
+    let walk_on : Walk query find docs (gives i s.tree) s.need [] = subst (λ n. Walk query find docs (gives i s.tree) n []) (sym need) walk in
+    let pages : Pages find docs walk_on.last [] s.heap s.collapser = page_later find docs 0 walk_on.last [] s.heap s.collapser (omega arith) (page_start find docs s.heap s.collapser heap (knows (key_of find.collapse docs))) in
     record {
       built = built;
       sound = (both_so (is_sound 1 query) (nat_le (leaves_of query) 1024) (both_so (is_sound 1 query && nat_le (leaves_of query) 1024) (nat_le (depth_of query) 1000) fits).0).0;
@@ -118,9 +140,10 @@ opened i s find query fits built all none need seen read options order collapse 
       low = λ _. omega (arith, need);
       saw = [];
       seen = seen;
-      walk = subst (λ n. Walk query find docs (gives i s.tree) n []) (sym need) walk;
-      pages = page_later find docs 0 _ [] s.heap s.collapser (omega arith) (page_start find docs s.heap s.collapser heap (knows (key_of find.collapse docs)));
+      walk = walk_on;
+      pages = pages;
       read = omega (arith, read);
+      accounts = record { calm = λ plain. calm_opened i s find query (plain_is find plain) built.tree.documents.rise walk_on pages heap need; stops = λ _ lists e. stops lists e (stop_point query find docs) };
     }
 
 -- ---- a search at a head
@@ -194,6 +217,21 @@ few_values (OrderBy.Value k) n = omega arith
 few_values (OrderBy.ValueThenRelevance k) n = omega arith
 few_values (OrderBy.RelevanceThenValue k) n = omega arith
 
+-- a document that is there has an id
+small_there : (h : ℕ) (docs : Docs) → LieBelow (2 ^ 32) docs → (document : Document) → document_at h docs ≡ Some document → h < 2 ^ 32
+small_there h [] low document e = absurd (cc)
+small_there h (d ∷ docs) low document e = by_id (d.0 == h) refl (small_there h docs low.1 document)
+  where
+    same_id : (a b : ℕ) → (a == b) ≡ true → a ≡ b
+    same_id a b e = grind (arith, nat_tests)
+
+    other_id : (a b : ℕ) → (a == b) ≡ false → a ≢ b
+    other_id a b e = grind (arith, nat_tests)
+
+    by_id : (b : Bool) → (d.0 == h) ≡ b → (document_at h docs ≡ Some document → h < 2 ^ 32) → h < 2 ^ 32
+    by_id true f rest = let same = same_id d.0 h f in let l = low.0 in omega (arith, same, l)
+    by_id false f rest = rest (sym (found-other h d docs (other_id d.0 h f)) ∙ e)
+
 module _ (i : Indexed) (old : Search) (find : Find) (query : Query.Tree) (stands : Stands old i find query) (h w : ℕ) (head : first_id (left i old.tree) ≡ Some h) (weight : w ≡ Nodes.first_weight (left i old.tree)) where
   abbrev docs : Docs
   docs = i.live.documents
@@ -234,6 +272,13 @@ module _ (i : Indexed) (old : Search) (find : Find) (query : Query.Tree) (stands
       let keys = few_keys find.collapse (length stands.saw) in
       let values = few_values find.order.by (length stands.saw) in
       omega (arith, stands.read, keys, values, seen_few, stands.seen)
+
+  -- no document has an id behind the last
+  at_last : h ≤ last_id
+  at_last = below at.id (small_there h docs stands.built.tree.documents.small at.one.1 there)
+    where
+      below : at.one.0 ≡ h → h < 2 ^ 32 → h ≤ last_id
+      below e l = omega (arith, l)
 
   light : ((id : ℕ) → unwrap_or (give id) 0 ≤ old.tree.top.greatest) → w < 2 ^ 63
   light most =
@@ -325,20 +370,90 @@ module _ (i : Indexed) (old : Search) (find : Find) (query : Query.Tree) (stands
           },
         )
 
+    -- what it asked for, and how its tree went on
+    module _ (saw2 : List Rank) (held : Held) (c : Option Collapsed) (pages : Pages find docs h saw2 held c) (sorted : IsSortedBy (λ (x y : Hit). is_before held.order x.rank y.rank) held.hits)
+        (seen2 : ℕ) (is_seen : seen2 ≡ length saw2) (ceiling : ℕ) (is_ceiling : ceiling ≡ old.tree.top.greatest) (need2 : ℕ) (tree2 : Tree)
+        (asked : ((need2 ≡ old.need) × (h ≡ last_id)) ⊎ (need2 ≡ max old.need (need_for find.options seen2 held ceiling))) (keeps : KeepsStops i h need2 old.tree tree2)
+        (walk2 : Walk query find docs (gives i tree2) need2 saw2) (at_head : walk2.last ≡ h) where
+      abbrev stop : ℕ
+      stop = stop_point query find docs
+
+      abbrev own_ask : ℕ
+      own_ask = need_for find.options seen2 held ceiling
+
+      ask_is : need_for find.options (length saw2) held ceiling ≡ own_ask
+      ask_is = ap (λ n. need_for find.options n held ceiling) (sym is_seen)
+
+      module _ (plain : (find.order.by ≡ OrderBy.Relevance) × (find.collapse ≡ None)) where
+        calm_ask : IsCalm query find docs stop h own_ask
+        calm_ask =
+            subst (λ n. IsCalm query find docs stop n own_ask) at_head
+            (subst (IsCalm query find docs stop walk2.last) ask_is
+            (calm_need query find docs plain.0 plain.1 stands.built.tree.documents.rise (gives i tree2) need2 saw2 walk2 (ceil query find.options.scheme 1 docs) held c
+            (subst (λ n. Pages find docs n saw2 held c) (sym at_head) pages) sorted ceiling))
+
+        calm_on : IsCalm query find docs stop stands.walk.last old.need → ((need2 ≡ old.need) × (h ≡ last_id)) ⊎ (need2 ≡ max old.need own_ask) → IsCalm query find docs stop h need2
+        calm_on calm (inl e) = subst (IsCalm query find docs stop h) (sym e.0) (calm_later query find docs stop stands.walk.last h old.need (omega (arith, at.higher)) calm)
+        calm_on calm (inr e) = subst (IsCalm query find docs stop h) (sym e) (calm_max query find docs stop h old.need own_ask (calm_later query find docs stop stands.walk.last h old.need (omega (arith, at.higher)) calm) calm_ask)
+
+        at_least : (o : Option ℕ) (w n : ℕ) → o ≡ Some w → n ≤ w → IsAtLeast n o
+        at_least o w n e l = subst (IsAtLeast n) (sym e) l
+
+        -- before the point the document there is wanted
+        before_stop : IsCalm query find docs stop stands.walk.last old.need → h < stop → stop < last_id → MayMove stop (h + 1) need2 old.tree.top.greatest (gives i old.tree stop)
+        before_stop calm less within =
+            let t = given_there query find docs plain.0 plain.1 stands.built.tree.documents.rise (gives i old.tree) old.need stands.saw stands.walk stop calm (omega (arith, at.higher, less)) within in
+            let low : need2 ≤ t.0 = subst (λ o. IsSomeAnd o (λ w. need2 ≤ w)) t.2 (calm_on calm asked less within) in
+            inr (inr (inr (omega (arith, less), at_least (gives i old.tree stop) t.0 need2 t.1 low)))
+
+        -- from it on nothing is
+        from_stop : stop ≤ h → h < last_id → MayMove stop (h + 1) need2 old.tree.top.greatest (gives i old.tree stop)
+        from_stop after within =
+            above asked
+            (asks_more query find docs plain.0 plain.1 stands.built.tree.documents.rise (gives i tree2) need2 saw2 walk2 (ceil query find.options.scheme 1 docs) held c
+            (subst (λ n. Pages find docs n saw2 held c) (sym at_head) pages) sorted ceiling (omega (arith, after, at_head)) (omega (arith, within, at_head)))
+          where
+            above : ((need2 ≡ old.need) × (h ≡ last_id)) ⊎ (need2 ≡ max old.need own_ask)
+                → (ceil query find.options.scheme 1 docs < need_for find.options (length saw2) held ceiling) ⊎ (ceiling < need_for find.options (length saw2) held ceiling)
+                → MayMove stop (h + 1) need2 old.tree.top.greatest (gives i old.tree stop)
+            above (inl e) high = absurd (omega (arith, e.1, within))
+            above (inr e) (inl high) = inl (omega (arith, e, high, ask_is, stands.built.ceiling))
+            above (inr e) (inr high) = inl (omega (arith, e, high, ask_is, is_ceiling))
+
+        may_go : IsCalm query find docs stop stands.walk.last old.need → (h ≡ last_id) ⊎ MayMove stop (h + 1) need2 old.tree.top.greatest (gives i old.tree stop)
+        may_go calm = by_end (nat_lt h last_id) refl
+          where
+            by_end : (b : Bool) → nat_lt h last_id ≡ b → (h ≡ last_id) ⊎ MayMove stop (h + 1) need2 old.tree.top.greatest (gives i old.tree stop)
+            by_end false e = let far = no_less h last_id e in let small = at_last in inl (omega (arith, far, small))
+            by_end true e = inr (by_point (nat_lt h stop) refl (nat_lt stop last_id) refl)
+              where
+                by_point : (a : Bool) → nat_lt h stop ≡ a → (b : Bool) → nat_lt stop last_id ≡ b → MayMove stop (h + 1) need2 old.tree.top.greatest (gives i old.tree stop)
+                by_point false f b g = from_stop (no_less h stop f) (less h last_id e)
+                by_point true f true g = before_stop calm (less h stop f) (less stop last_id g)
+                by_point true f false g = let far = no_less stop last_id g in inr (inl (omega (arith, far)))
+
+      accounts_on : Accounts i find query h need2 tree2
+      accounts_on = record {
+        calm = λ plain. calm_on (plain_is find plain) (stands.accounts.calm plain) asked;
+        stops = λ plain lists flat. keeps stop (ups lists stop docs) (stands.accounts.stops plain lists flat) (may_go (plain_is find plain) (stands.accounts.calm plain));
+      }
+
     pub gone_on : (mid new : Search) (saw2 : List Rank) → Looked mid saw2
         → IsSamePage old mid → mid.tree ≡ old.tree → mid.need ≡ old.need
         → IsSortedBy (λ (x y : Hit). is_before mid.heap.order x.rank y.rank) mid.heap.hits
         → PassesOver i h mid.tree new.tree new.need
         → Built new.tree i query find.options.scheme
         → new.need ≡ new.tree.need
-        → (new.need ≡ mid.need) ⊎ (new.need ≡ max mid.need (need_for mid.options mid.seen mid.heap mid.tree.top.greatest))
+        → ((new.need ≡ mid.need) × (h ≡ last_id)) ⊎ (new.need ≡ max mid.need (need_for mid.options mid.seen mid.heap mid.tree.top.greatest))
+        → KeepsStops i h new.need mid.tree new.tree
         → new.seen ≡ mid.seen → new.read ≡ mid.read → new.heap ≡ mid.heap → new.collapser ≡ mid.collapser → IsSamePage mid new
         → Stands new i find query
-    gone_on mid new saw2 looked same tree need sorted over built needed asked seen read heap collapser after =
+    gone_on mid new saw2 looked same tree need sorted over built needed asked keeps seen read heap collapser after =
         let right_old : IsNeed find docs saw2 h old.need = need_on find docs stands.saw saw2 stands.walk.last h old.need (omega (arith, at.higher)) looked.full looked.keeps stands.walk.right in
         let right_new : IsNeed find docs saw2 h (need_for find.options mid.seen mid.heap mid.tree.top.greatest) = need_right find docs h saw2 mid.heap mid.collapser looked.pages sorted mid.seen mid.tree.top.greatest in
         let options_mid = same.options ∙ stands.options in
-        let asked2 : (new.need ≡ old.need) ⊎ (new.need ≡ max old.need (need_for find.options mid.seen mid.heap mid.tree.top.greatest)) = asked_by options_mid asked in
+        let asked3 : ((new.need ≡ old.need) × (h ≡ last_id)) ⊎ (new.need ≡ max old.need (need_for find.options mid.seen mid.heap mid.tree.top.greatest)) = asked_by options_mid asked in
+        let asked2 : (new.need ≡ old.need) ⊎ (new.need ≡ max old.need (need_for find.options mid.seen mid.heap mid.tree.top.greatest)) = need_alone asked3 in
         let walk2 = walked query find docs give old.need stands.saw stands.walk h w at (gives i new.tree) new.need
         (subst (λ (t : Tree). AllByRecursion (λ (one : ℕ × Document). CoversAt (cond (nat_le (h + 1) one.0) (gives i t one.0) None) (gives i new.tree one.0) new.need) docs) tree over)
         saw2 looked.is (rises_by asked2) looked.keeps
@@ -358,11 +473,19 @@ module _ (i : Indexed) (old : Search) (find : Find) (query : Query.Tree) (stands
           walk = walk2.0;
           pages = pages_at walk2.0 walk2.1;
           read = omega (arith, read, looked.read);
+          accounts =
+              subst (λ n. Accounts i find query n new.need new.tree) (sym walk2.1)
+              (accounts_on saw2 mid.heap mid.collapser looked.pages sorted mid.seen looked.seen mid.tree.top.greatest (ap (λ (t : Tree). t.top.greatest) tree) new.need new.tree asked3
+              (subst (λ (t : Tree). KeepsStops i h new.need t new.tree) tree keeps) walk2.0 walk2.1);
         }
       where
-        asked_by : mid.options ≡ find.options → (new.need ≡ mid.need) ⊎ (new.need ≡ max mid.need (need_for mid.options mid.seen mid.heap mid.tree.top.greatest))
-            → (new.need ≡ old.need) ⊎ (new.need ≡ max old.need (need_for find.options mid.seen mid.heap mid.tree.top.greatest))
-        asked_by options (inl e) = inl (e ∙ need)
+        need_alone : ((new.need ≡ old.need) × (h ≡ last_id)) ⊎ (new.need ≡ max old.need (need_for find.options mid.seen mid.heap mid.tree.top.greatest)) → (new.need ≡ old.need) ⊎ (new.need ≡ max old.need (need_for find.options mid.seen mid.heap mid.tree.top.greatest))
+        need_alone (inl both) = inl both.0
+        need_alone (inr e) = inr e
+
+        asked_by : mid.options ≡ find.options → ((new.need ≡ mid.need) × (h ≡ last_id)) ⊎ (new.need ≡ max mid.need (need_for mid.options mid.seen mid.heap mid.tree.top.greatest))
+            → ((new.need ≡ old.need) × (h ≡ last_id)) ⊎ (new.need ≡ max old.need (need_for find.options mid.seen mid.heap mid.tree.top.greatest))
+        asked_by options (inl e) = inl (e.0 ∙ need, e.1)
         asked_by options (inr e) = inr (e ∙ (λ j. max (need j) (need_for (options j) mid.seen mid.heap mid.tree.top.greatest)))
 
         rises_by : (new.need ≡ old.need) ⊎ (new.need ≡ max old.need (need_for find.options mid.seen mid.heap mid.tree.top.greatest)) → old.need ≤ new.need
@@ -425,6 +548,52 @@ fewer_left give give2 need h (d ∷ docs) e over = step (give d.0) (give2 d.0) e
         let same : d.0 ≡ h = ap (λ o. unwrap_or o 0) f in
         absurd (subst (λ b. CoversAt (cond b (Some v) None) (Some w) need) (not_later d.0 same) c)
 
+-- fewer up to an id
+module _ (id : ℕ) where
+  abbrev up_to_id : List (ℕ × ℕ) → List (ℕ × ℕ)
+  up_to_id ps = filter (λ (p : ℕ × ℕ). nat_le p.0 id) ps
+
+  one_more : (b : Bool) (p : ℕ × ℕ) (ps : List (ℕ × ℕ)) → length (cond b (p ∷ ps) ps) ≡ cond b 1 0 + length ps
+  one_more true p ps = omega arith
+  one_more false p ps = omega arith
+
+  fewer_to_step : (give give2 : ℕ → Option ℕ) (need h : ℕ) (docs : Docs) → AllByRecursion (λ (d : ℕ × Document). CoversAt (cond (nat_le (h + 1) d.0) (give d.0) None) (give2 d.0) need) docs
+      → length (up_to_id (weighed give2 docs)) ≤ length (up_to_id (weighed give docs))
+  fewer_to_step give give2 need h [] over = omega arith
+  fewer_to_step give give2 need h (d ∷ docs) over = step (nat_le (h + 1) d.0) (give d.0) (give2 d.0) over.0 (fewer_to_step give give2 need h docs over.1)
+    where
+      step : (b : Bool) (o p : Option ℕ) → CoversAt (cond b o None) p need → length (up_to_id (weighed give2 docs)) ≤ length (up_to_id (weighed give docs))
+          → length (up_to_id (cons_option (option_map (λ w. (d.0, w)) p) (weighed give2 docs))) ≤ length (up_to_id (cons_option (option_map (λ w. (d.0, w)) o) (weighed give docs)))
+      step b None None c le = le
+      step b (Some v) None c le = omega (arith, le, one_more (nat_le d.0 id) (d.0, v) (up_to_id (weighed give docs)))
+      step true None (Some w) c le = absurd c
+      step false None (Some w) c le = absurd c
+      step b (Some v) (Some w) c le = omega (arith, le, one_more (nat_le d.0 id) (d.0, v) (up_to_id (weighed give docs)), one_more (nat_le d.0 id) (d.0, w) (up_to_id (weighed give2 docs)))
+
+  fewer_to : (give give2 : ℕ → Option ℕ) (need h : ℕ) (docs : Docs) → h ≤ id → first_id (weighed give docs) ≡ Some h → AllByRecursion (λ (d : ℕ × Document). CoversAt (cond (nat_le (h + 1) d.0) (give d.0) None) (give2 d.0) need) docs
+      → length (up_to_id (weighed give2 docs)) < length (up_to_id (weighed give docs))
+  fewer_to give give2 need h [] early e over = absurd (true≢false (sym (ap is_some e)))
+  fewer_to give give2 need h (d ∷ docs) early e over = step (give d.0) (give2 d.0) e over.0 (fewer_to_step give give2 need h docs over.1) (λ f. fewer_to give give2 need h docs early f over.1)
+    where
+      not_later : (b : ℕ) → b ≡ h → nat_le (h + 1) b ≡ false
+      not_later b same = not_most (h + 1) b (omega (arith, same))
+
+      up_is : (b : ℕ) → b ≡ h → nat_le b id ≡ true
+      up_is b same = most_is b id (omega (arith, same, early))
+
+      step : (o p : Option ℕ) → first_id (cons_option (option_map (λ w. (d.0, w)) o) (weighed give docs)) ≡ Some h → CoversAt (cond (nat_le (h + 1) d.0) o None) p need → length (up_to_id (weighed give2 docs)) ≤ length (up_to_id (weighed give docs))
+          → (first_id (weighed give docs) ≡ Some h → length (up_to_id (weighed give2 docs)) < length (up_to_id (weighed give docs)))
+          → length (up_to_id (cons_option (option_map (λ w. (d.0, w)) p) (weighed give2 docs))) < length (up_to_id (cons_option (option_map (λ w. (d.0, w)) o) (weighed give docs)))
+      step None None f c le rest = rest f
+      step None (Some w) f c le rest = absurd (subst (λ (o : Option ℕ). CoversAt o (Some w) need) (none_either (nat_le (h + 1) d.0)) c)
+      step (Some v) None f c le rest =
+          let same : d.0 ≡ h = ap (λ o. unwrap_or o 0) f in
+          let more : length (up_to_id ((d.0, v) ∷ weighed give docs)) ≡ suc (length (up_to_id (weighed give docs))) = ap (λ b. length (cond b ((d.0, v) ∷ up_to_id (weighed give docs)) (up_to_id (weighed give docs)))) (up_is d.0 same) in
+          omega (arith, le, more)
+      step (Some v) (Some w) f c le rest =
+          let same : d.0 ≡ h = ap (λ o. unwrap_or o 0) f in
+          absurd (subst (λ b. CoversAt (cond b (Some v) None) (Some w) need) (not_later d.0 same) c)
+
 -- ---- a turn
 
 pub high_of : (i : Indexed) (s : Search) (ceiling : ℕ) → is_settled s.options s.seen s.heap ceiling ≡ false → s.options.cutoff ≤ ceiling
@@ -440,7 +609,8 @@ pub record Passes (i : Indexed) (h : ℕ) (mid new : Search) : Type 0 where
   pub over : PassesOver i h mid.tree new.tree new.need
   pub built : (query : Query.Tree) (scheme : Scheme) → Built mid.tree i query scheme → Built new.tree i query scheme
   pub need : new.need ≡ new.tree.need
-  pub asked : (new.need ≡ mid.need) ⊎ (new.need ≡ max mid.need (need_for mid.options mid.seen mid.heap mid.tree.top.greatest))
+  pub asked : ((new.need ≡ mid.need) × (h ≡ last_id)) ⊎ (new.need ≡ max mid.need (need_for mid.options mid.seen mid.heap mid.tree.top.greatest))
+  pub stops : KeepsStops i h new.need mid.tree new.tree
   pub rest : (new.seen ≡ mid.seen) × (new.read ≡ mid.read) × (new.heap ≡ mid.heap) × (new.collapser ≡ mid.collapser)
   pub same : IsSamePage mid new
 
@@ -457,13 +627,65 @@ module _ (i : Indexed) (old : Search) (h w : ℕ) (head : Some h ≡ first_id (l
       let looked = looked_at i old find query stands h w (sym head) weight higher mid (omega (arith, enough, cut)) sees in
       gone_on i old find query stands h w (sym head) weight higher mid new looked.0 looked.1 same.page same.tree same.need passes.sorted passes.over
       (passes.built query find.options.scheme (subst (λ t. Built t i query find.options.scheme) (sym same.tree) stands.built))
-      passes.need passes.asked passes.rest.0 passes.rest.1 passes.rest.2 passes.rest.3 passes.same
+      passes.need passes.asked passes.stops passes.rest.0 passes.rest.1 passes.rest.2 passes.rest.3 passes.same
 
   pub turned_light : (new : Search) → w < old.options.cutoff → Passes i h old new → Stands new i find query
   turned_light new light passes =
       let cut : old.options.cutoff ≡ find.options.cutoff = ap (λ (o : Options). o.cutoff) stands.options in
       gone_on i old find query stands h w (sym head) weight higher old new stands.saw (passed_by i old find query stands h w (sym head) weight higher (omega (arith, light, cut))) (same_page old) refl refl passes.sorted passes.over
-      (passes.built query find.options.scheme stands.built) passes.need passes.asked passes.rest.0 passes.rest.1 passes.rest.2 passes.rest.3 passes.same
+      (passes.built query find.options.scheme stands.built) passes.need passes.asked passes.stops passes.rest.0 passes.rest.1 passes.rest.2 passes.rest.3 passes.same
+
+-- a search that goes on is at no document behind the stop point
+pub head_early : (i : Indexed) (old : Search) (find : Find) (query : Query.Tree) (stands : Stands old i find query) (h w : ℕ) → Some h ≡ first_id (left i old.tree) → w ≡ Nodes.first_weight (left i old.tree)
+    → IsSortedBy (λ (x y : Hit). is_before old.heap.order x.rank y.rank) old.heap.hits → is_settled old.options old.seen old.heap old.tree.top.greatest ≡ false → is_plain find ≡ true
+    → h ≤ stop_point query find i.live.documents
+head_early i old find query stands h w head weight sorted goes plain = by_place (nat_lt stands.walk.last stop) refl (nat_lt stop last_id) refl
+  where
+    stop : ℕ
+    stop = stop_point query find i.live.documents
+
+    is : (find.order.by ≡ OrderBy.Relevance) × (find.collapse ≡ None)
+    is = plain_is find plain
+
+    asks : (find.order.by ≡ OrderBy.Relevance) → (find.collapse ≡ None) → stands.walk.last < last_id → stop ≤ stands.walk.last → is_settled find.options old.seen old.heap old.tree.top.greatest ≡ true
+    asks by flat within after =
+        done_after query find old.heap old.seen (ceil query find.options.scheme 1 i.live.documents) old.tree.top.greatest stands.built.ceiling
+        (subst (λ n. (ceil query find.options.scheme 1 i.live.documents < need_for find.options n old.heap old.tree.top.greatest) ⊎ (old.tree.top.greatest < need_for find.options n old.heap old.tree.top.greatest)) (sym stands.seen)
+        (asks_more query find i.live.documents by flat stands.built.tree.documents.rise (gives i old.tree) old.need stands.saw stands.walk (ceil query find.options.scheme 1 i.live.documents) old.heap old.collapser stands.pages sorted old.tree.top.greatest after within))
+
+    at_head_is : AtHead (gives i old.tree) stands.walk.last h w stands.walk.rest
+    at_head_is = at i old find query stands h w (sym head) weight
+
+    first_given : (o : Option Document) → document_at stop i.live.documents ≡ o → IsCalm query find i.live.documents stop stands.walk.last old.need → stands.walk.last < stop → stop < last_id → h ≤ stop
+    first_given None e calm less within = absurd (subst (λ (o : Option Document). IsSomeAnd (option_and_then (λ d. score query find.options.scheme 1 d) o) (λ v. old.need ≤ v)) e (calm less within))
+    first_given (Some document) e calm less within =
+        let t = given_there query find i.live.documents is.0 is.1 stands.built.tree.documents.rise (gives i old.tree) old.need stands.saw stands.walk stop calm less within in
+        first_lowest (gives i old.tree) 0 stop h t.0 document i.live.documents stands.built.tree.documents.rise e t.1 (sym head)
+
+    by_place : (a : Bool) → nat_lt stands.walk.last stop ≡ a → (b : Bool) → nat_lt stop last_id ≡ b → h ≤ stop
+    by_place a e false f =
+        let far = no_less stop last_id f in
+        let low = at_last i old find query stands h w (sym head) weight in
+        omega (arith, far, low)
+    by_place true e true f = first_given (document_at stop i.live.documents) refl (stands.accounts.calm plain) (less stands.walk.last stop e) (less stop last_id f)
+    by_place false e true f =
+        let after = no_less stands.walk.last stop e in
+        let low = at_last i old find query stands h w (sym head) weight in
+        let higher = at_head_is.higher in
+        absurd (true≢false (sym (asks is.0 is.1 (omega (arith, low, higher)) after) ∙ ap (λ o. is_settled o old.seen old.heap old.tree.top.greatest) (sym stands.options) ∙ goes))
+
+pub turned_early : (i : Indexed) (point h need : ℕ) (old new : Tree) → h ≤ point → Some h ≡ first_id (left i old) → PassesOver i h old new need
+    → length (filter (λ (p : ℕ × ℕ). nat_le p.0 point) (left i new)) < length (filter (λ (p : ℕ × ℕ). nat_le p.0 point) (left i old))
+turned_early i point h need old new early head over = fewer_to point (gives i old) (gives i new) need h i.live.documents early (sym head) over
+
+-- without collapsing there is no collapser
+pub none_collapses : (i : Indexed) (old : Search) → IsOn old i → old.collapse ≡ None → old.collapser ≡ None
+none_collapses i old on none = by_both on.0.collapse (key_of on.0.collapse i.live.documents) old.collapser (sym on.2.collapse ∙ none) on.2.pages.collapse
+  where
+    by_both : (o : Option Collapse) (key : Rank → List ℕ) (c : Option Collapsed) → o ≡ None → CollapsesBy o on.0.order key on.2.pages.newest c → c ≡ None
+    by_both None key None e h = refl
+    by_both None key (Some c) e h = absurd h
+    by_both (Some o) key c e h = absurd (cc)
 
 pub turned_fewer : (i : Indexed) (h need : ℕ) (old new : Tree) → Some h ≡ first_id (left i old) → PassesOver i h old new need → length (left i new) < length (left i old)
 turned_fewer i h need old new head over = fewer_left (gives i old) (gives i new) need h i.live.documents (sym head) over

@@ -1,5 +1,5 @@
 -- What a search has seen, and what it still has to see.
-use Rattle.std.specs.Prelude.{◌≡◌, ◌≤◌, ◌<◌, ℕ, ◌+◌, ◌||◌, ◌&&◌, ◌⊎◌, max, nat_le, nat_lt, Bool, true, List, [], length, is_none, None, if◌then◌else◌}
+use Rattle.std.specs.Prelude.{◌≡◌, ◌≤◌, ◌<◌, ℕ, ◌+◌, ◌||◌, ◌&&◌, ◌⊎◌, max, nat_le, nat_lt, Bool, true, List, [], length, filter, is_none, None, Some, if◌then◌else◌}
 use Rattle.std.specs.List.{AllByRecursion}
 use Rattle.sk_base.specs.declared.find.Find.{Find}
 use Rattle.sk_base.specs.declared.rank.Rank.{Rank}
@@ -10,21 +10,29 @@ use Rattle.sk_query.specs.Fits.{is_sound}
 use Rattle.sk_model.specs.Allowance.{key_readings, value_readings}
 use Rattle.sk_model.specs.Bounds.{ceil, static_count}
 use Rattle.sk_model.specs.Covers.{CoversAt}
-use Rattle.sk_model.specs.Edits.{document_at}
+use Rattle.sk_model.specs.Edits.{document_at, last_id}
 use Rattle.sk_model.specs.Matches.{key_for}
+use Rattle.sk_model.specs.Settled.{stop_point}
+use Rattle.sk_model.specs.Sharp.{is_plain, flat_lists, ups}
 use Rattle.sk_index.specs.Indexed.{Indexed}
 use Rattle.sk_nodes.specs.Built.{gives, left, Built}
 use Rattle.sk_seen.specs.Walks.{Walk}
+use Rattle.sk_nodes.specs.Stops.{Stops, MayMove}
 use Rattle.sk_nodes.specs.declared.tree.Tree.{Tree}
 use Rattle.sk_heap.specs.declared.hit.Hit.{Hit}
 use Rattle.sk_seen.specs.Pages.{Offers, Pages}
 use Rattle.sk_seen.specs.Needs.{is_settled, need_for}
+use Rattle.sk_seen.specs.Calm.{IsCalm}
 use Rattle.sk_match.specs.Hits.{value_at}
 use Rattle.sk_match.specs.declared.turns.Search.{Search}
 
 -- What a search still has to see: ids and weights, by rising id.
 abbrev pub ahead : Indexed → Search → List (ℕ × ℕ)
 ahead index search = left index search.tree
+
+-- Those of them up to an id.
+abbrev pub ahead_to : ℕ → Indexed → Search → List (ℕ × ℕ)
+ahead_to id index search = filter (λ p. nat_le p.0 id) (ahead index search)
 
 -- A search is done where nothing is ahead, or what is ahead cannot change its page.
 abbrev pub is_done : Indexed → Search → Bool
@@ -33,6 +41,12 @@ is_done index search = is_none (first_id (ahead index search)) || is_settled sea
 -- The readings of a search so far: in lists, and of keys and values.
 abbrev pub spent_by : Search → ℕ
 spent_by search = search.tree.spent + search.read
+
+-- What a search of this find and query may read: before the point at which a page by relevance is settled it asks its tree for little, and of terms alone its tree stops there.
+pub record Accounts (index : Indexed) (find : Find) (query : Query.Tree) (last need : ℕ) (tree : Tree) : Type 0 where
+  pub calm : is_plain find ≡ true → IsCalm query find index.live.documents (stop_point query find index.live.documents) last need
+  pub stops : is_plain find ≡ true → (lists : List (List ℕ)) → flat_lists query index.live.documents ≡ Some lists
+      → Stops index tree (stop_point query find index.live.documents) (ups lists (stop_point query find index.live.documents) index.live.documents)
 
 -- A search is one of this find and query on this index: its tree is the query's; it saw some of the matches, and is sure of what it passed over; it holds the page of them.
 pub record Stands (search : Search) (index : Indexed) (find : Find) (query : Query.Tree) : Type 0 where
@@ -50,6 +64,7 @@ pub record Stands (search : Search) (index : Indexed) (find : Find) (query : Que
   pub walk : Walk query find index.live.documents (gives index search.tree) search.need saw
   pub pages : Pages find index.live.documents walk.last saw search.heap search.collapser
   pub read : search.read ≤ key_readings find.collapse (length saw) + value_readings find.order.by (length saw)
+  pub accounts : Accounts index find query walk.last search.need search.tree
 
 -- Nothing was passed over, and nothing is left that weighs as much as the cutoff, where nothing weighs more than the ceiling.
 abbrev pub is_whole : Indexed → Search → ℕ → Bool
@@ -84,6 +99,10 @@ pub record Sees (docs : Docs) (id weight : ℕ) (old new : Search) : Type 0 wher
 abbrev pub PassesOver : Indexed → ℕ → Tree → Tree → ℕ → Type 0
 PassesOver index id old new need =
     AllByRecursion (λ one. CoversAt (if nat_le (id + 1) one.0 then gives index old one.0 else None) (gives index new one.0) need) index.live.documents
+
+-- A tree that went past a document goes on to stop at a point: where it may go so far under the need, and at the last id.
+abbrev pub KeepsStops : Indexed → ℕ → ℕ → Tree → Tree → Type 0
+KeepsStops index id need old new = (point most : ℕ) → Stops index old point most → (id ≡ last_id) ⊎ MayMove point (id + 1) need old.top.greatest (gives index old point) → Stops index new point most
 
 -- A search asked its tree for the need of its page, with what it saw, and for no less than before; or nothing is ahead.
 abbrev pub Asks : Indexed → Search → Search → Type 0

@@ -1,5 +1,6 @@
 //! A match that is offered to a page.
-ghost use Rattle.std.specs.Prelude.{◌≡◌, ◌≢◌, ◌≤◌, ◌<◌, ◌+◌, ◌^◌, ℕ, List, length, All, IfOk, OnOk, IfSome};
+ghost use Rattle.std.specs.Prelude.{◌≡◌, ◌≢◌, ◌≤◌, ◌<◌, ◌+◌, ◌^◌, ℕ, List, length, All, IfOk, IsOk, OnOk, IfSome, None};
+ghost use Rattle.sk_base.specs.declared.rank.OrderBy.TheVariants as OrderBy;
 ghost use Rattle.sk_base.specs.declared.rank.Rank.{Rank};
 ghost use Rattle.sk_model.specs.Allowance.{key_readings, value_readings};
 ghost use Rattle.sk_model.specs.Edits.{document_at};
@@ -27,6 +28,7 @@ pub(crate) fn value_of<L: Ledger>(
 ) -> Result<Bytes, AllocError>
     ensures value { IfOk result (λ value. value ≡ value_at by (document_at id index.now.live.documents)) }
     ensures cost { steps.new ≡ steps.old + value_readings by 1 }
+    ensures free { by ≡ OrderBy.Relevance → IsOk result }
 {
     let key = match by {
         OrderBy::Relevance => return Ok(Bytes::empty(alloc)),
@@ -47,6 +49,7 @@ pub(crate) fn key_of<L: Ledger>(
 ) -> Result<Bytes, AllocError>
     ensures key { IfOk result (λ key. key ≡ key_for collapse (document_at id index.now.live.documents)) }
     ensures cost { steps.new ≡ steps.old + key_readings collapse 1 }
+    ensures free { collapse ≡ None → IsOk result }
 {
     match collapse {
         Some(collapse) => Bytes::new(alloc, index.value(collapse.slot, id, steps)),
@@ -65,7 +68,8 @@ pub(crate) fn offer(
     requires light { hit.rank.weight < 2 ^ 63 }
     requires few { IfSome collapser.old (λ c. c.seen + 1 < 2 ^ 32) }
     requires apart { IfSome collapser.old (λ c. (k : List ℕ) → 0 < length k → All (λ r. r.id ≢ hit.rank.id) (group_of k c.groups).kept) }
-    ensures { OnOk result (Offers heap.old heap.new collapser.old collapser.new hit) }
+    ensures offers { OnOk result (Offers heap.old heap.new collapser.old collapser.new hit) }
+    ensures free { collapser.old ≡ None → IsOk result }
 {
     let verdict = match collapser {
         None => Verdict::Keep,

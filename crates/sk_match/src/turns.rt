@@ -1,21 +1,27 @@
 //! A search: its matches one by one, and its report.
-ghost use Rattle.std.specs.Prelude.{◌≡◌, ◌≢◌, ◌≤◌, ◌<◌, ◌+◌, ◌-◌, ◌^◌, ◌⊎◌, ℕ, List, [], min, max, true, length, All, IfOk, OnOk, IfSome, if◌then◌else◌};
+ghost use Rattle.std.specs.Prelude.{◌≡◌, ◌≢◌, ◌≤◌, ◌<◌, ◌+◌, ◌-◌, ◌^◌, ◌⊎◌, ℕ, List, [], min, max, true, length, All, IfOk, IsOk, OnOk, IfSome, None, if◌then◌else◌};
 ghost use Rattle.sk_base.specs.declared.find.Find.{Find};
 ghost use Rattle.sk_base.specs.declared.find.Scheme.{Scheme};
+ghost use Rattle.sk_base.specs.declared.rank.OrderBy.TheVariants as OrderBy;
 ghost use Rattle.sk_query.specs.Trees as QueryTree;
 ghost use Rattle.sk_query.specs.Trees.{query_view};
 ghost use Rattle.sk_query.specs.Fits.{fits_tree};
 ghost use Rattle.sk_base.specs.Records.{FitsFind};
 ghost use Rattle.sk_model.specs.Allowance.{key_readings, value_readings};
+ghost use Rattle.sk_model.specs.Edits.{last_id};
 ghost use Rattle.sk_model.specs.Reports.{ReportsFor};
 ghost use Rattle.sk_index.specs.Indexed.{Indexed};
-ghost use Rattle.sk_nodes.specs.Built.{left, IsTree, Built};
+ghost use Rattle.sk_model.specs.Counts.{wanted};
+ghost use Rattle.sk_model.specs.Matches.{found_by};
+ghost use Rattle.sk_model.specs.Settled.{stop_point};
+ghost use Rattle.sk_model.specs.Sharp.{is_plain};
+ghost use Rattle.sk_nodes.specs.Built.{left, scored, IsTree, Built};
 ghost use Rattle.sk_collapse.specs.Collapsed.{group_of};
 ghost use Rattle.sk_base.specs.declared.rank.Rank as RankView;
 ghost use Rattle.sk_seen.specs.Pages.{CollapsesBy};
 ghost use Rattle.sk_seen.specs.Needs.{is_settled, need_for, wanted_by};
 ghost use Rattle.sk_match.specs.Hits.{kept_of};
-ghost use Rattle.sk_match.specs.Searches.{IsOn, Stands, Asks, Sees, IsSameBut, IsSamePage, PassesOver, ahead, is_done, is_whole, spent_by};
+ghost use Rattle.sk_match.specs.Searches.{IsOn, Stands, Asks, Sees, IsSameBut, IsSamePage, KeepsStops, PassesOver, ahead, ahead_to, is_done, is_whole, spent_by};
 ghost use Rattle.sk_match.specs.declared.turns.Turn.TheVariants as Turn;
 
 use crate::offer::{key_of, offer, value_of};
@@ -74,6 +80,9 @@ impl Search {
         requires fits { fits_tree (query_view query.now) ≡ true }
         requires find { FitsFind find.now }
         ensures stands { IfOk result (λ search. Stands search index.now find.now (query_view query.now)) }
+
+        // Ahead are all documents that score, and none of them was seen.
+        ensures first { IfOk result (λ search. (ahead index.now search ≡ scored (query_view query.now) find.now.options.scheme 1 index.now.live.documents) × (search.seen ≡ 0)) }
         ensures cost { IfOk result (λ search. steps.new ≡ steps.old + spent_by search) }
         ensures later { steps.old ≤ steps.new }
     {
@@ -116,15 +125,27 @@ impl Search {
         ensures same { IfOk result (λ turn. turn ≡ Turn.Done → (self.new ≡ self.old) × (steps.new ≡ steps.old)) }
         ensures fewer { IfOk result (λ turn. turn ≡ Turn.More → length (ahead index.now self.new) < length (ahead index.now self.old)) }
 
+        // Where the page goes by relevance and nothing is collapsed, it sees none behind the stop point.
+        ensures early { IfOk result (λ turn. turn ≡ Turn.More → (find : Find) (query : QueryTree.Tree) → Stands self.old index.now find query → is_plain find ≡ true
+            → length (ahead_to (stop_point query find index.now.live.documents) index.now self.new) < length (ahead_to (stop_point query find index.now.live.documents) index.now self.old)) }
+
+        // It sees no more than one, and is not done before it saw as many as are wanted, or all.
+        ensures counted { IfOk result (λ turn. self.new.seen ≤ self.old.seen + 1) }
+        ensures enough { IfOk result (λ turn. turn ≡ Turn.Done → (find : Find) (query : QueryTree.Tree) → Stands self.old index.now find query → min (wanted find) (length (found_by query find index.now.live.documents)) ≤ self.old.seen) }
+
+        // Without keys and values it takes no memory.
+        ensures free { self.old.collapse ≡ None → self.old.order.by ≡ OrderBy.Relevance → IsOk result }
+
         // The tree was asked for what the page needs with what was seen, and for no less than before.
         ensures asked { IfOk result (λ turn. turn ≡ Turn.More → Asks index.now self.old self.new) }
         ensures cost { IfOk result (λ turn. steps.new + spent_by self.old ≡ steps.old + spent_by self.new) }
         ensures later { steps.old ≤ steps.new }
     {
+        let _ordered = self.heap.len();
+        let ceiling = self.tree.ceiling();
         let Some(id) = self.tree.head() else {
             return Ok(Turn::Done);
         };
-        let ceiling = self.tree.ceiling();
         if self.is_settled(ceiling) {
             return Ok(Turn::Done);
         }
@@ -175,6 +196,7 @@ impl Search {
         requires differs { All (λ h. h.rank.id ≢ id) self.old.heap.hits }
         requires known { IfSome self.old.collapser (λ c. c.seen + 1 < 2 ^ 32) }
         requires apart { IfSome self.old.collapser (λ c. (k : List ℕ) → 0 < length k → All (λ r. r.id ≢ id) (group_of k c.groups).kept) }
+        ensures free { self.old.collapse ≡ None → self.old.collapser ≡ None → self.old.order.by ≡ OrderBy.Relevance → IsOk result }
         ensures sees { OnOk result (Sees index.now.live.documents id weight self.old self.new) }
         ensures rest { OnOk result (IsSameBut self.old self.new) }
         ensures cost { OnOk result (steps.new + self.old.read ≡ steps.old + self.new.read) }
@@ -196,7 +218,8 @@ impl Search {
         ensures over { PassesOver index.now id self.old.tree self.new.tree self.new.need }
         ensures built { (query : QueryTree.Tree) (scheme : Scheme) → Built self.old.tree index.now query scheme → Built self.new.tree index.now query scheme }
         ensures need { self.new.need ≡ self.new.tree.need }
-        ensures asked { ((self.new.need ≡ self.old.need) × (left index.now self.new.tree ≡ [])) ⊎ (self.new.need ≡ max self.old.need (need_for self.old.options self.old.seen self.old.heap self.old.tree.top.greatest)) }
+        ensures stops { KeepsStops index.now id self.new.need self.old.tree self.new.tree }
+        ensures asked { ((self.new.need ≡ self.old.need) × (id ≡ last_id) × (left index.now self.new.tree ≡ [])) ⊎ (self.new.need ≡ max self.old.need (need_for self.old.options self.old.seen self.old.heap self.old.tree.top.greatest)) }
         ensures rest { (self.new.seen ≡ self.old.seen) × (self.new.read ≡ self.old.read) × (self.new.heap ≡ self.old.heap) × (self.new.collapser ≡ self.old.collapser) }
         ensures same { IsSamePage self.old self.new }
         ensures cost { steps.new + self.old.tree.spent ≡ steps.old + self.new.tree.spent }

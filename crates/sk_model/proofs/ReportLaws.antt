@@ -1,5 +1,5 @@
 -- There is a report that a find may have.
-use Rattle.std.proofs.Common.{◌≡◌, ◌+◌, ◌/◌, ℕ, true, List, [], ◌∷◌, length, map, refl, arith}
+use Rattle.std.proofs.Common.{◌≡◌, ◌≤◌, ◌+◌, ◌/◌, ℕ, Bool, true, false, cond, List, [], ◌∷◌, length, map, Option, Some, None, option_map, IfSome, refl, arith}
 use Rattle.std.specs.List.{AllZip}
 use Rattle.sk_base.specs.declared.find.Find.{Find}
 use Rattle.sk_base.specs.declared.rank.Rank.{Rank}
@@ -12,8 +12,19 @@ use Rattle.sk_model.specs.Edits.{document_at}
 use Rattle.sk_model.specs.Matches.{found_by, key_of}
 use Rattle.sk_model.specs.Bounds.{ceil}
 use Rattle.sk_model.specs.Counts.{kept_by, dropped_by}
+use Rattle.sk_model.specs.Settled.{stop_point}
+use Rattle.sk_model.specs.Sharp.{is_plain, flat_lists, ups, stop_number}
 use Rattle.sk_model.specs.Reports.{payload_of, page_of, IsHit, ReportsFor}
 use Rattle.sk_model.proofs.CountLaws.{found_counts, true_collapse}
+
+-- the hits are within the stop number
+pub stop_least : (query : Tree) (find : Find) (docs : Docs) (hits : ℕ) → IfSome (stop_number query find docs hits) (λ n. hits ≤ n)
+stop_least query find docs hits = by_plain (is_plain find) (flat_lists query docs)
+  where
+    by_plain : (b : Bool) (o : Option (List (List ℕ))) → IfSome (cond b (option_map (λ lists. ups lists (stop_point query find docs) docs + hits) o) None) (λ n. hits ≤ n)
+    by_plain true (Some lists) = omega arith
+    by_plain true None = cc
+    by_plain false o = cc
 
 module _ (query : Tree) (find : Find) (docs : Docs) where
   abbrev hit : Rank → Ranked
@@ -43,6 +54,7 @@ module _ (query : Tree) (find : Find) (docs : Docs) where
     greatest = refl;
     least_steps = omega arith;
     most_steps = omega arith;
+    stop_steps = stop_least query find docs (length exact.hits);
   }
 
 pub report_there : (query : Tree) (find : Find) (above : ℕ) (docs : Docs) → is_sound above query ≡ true → (report : Report) × ReportsFor query find docs report

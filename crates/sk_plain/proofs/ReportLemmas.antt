@@ -29,6 +29,7 @@ exact_reports query find above docs e =
       greatest = refl;
       least_steps = so.least_steps;
       most_steps = so.most_steps;
+      stop_steps = so.stop_steps;
     }
 
 step_few : (o : Option Rank) (xs : List Rank) (n : ℕ) → length xs ≤ n → length (cons_option o xs) ≤ n + 1

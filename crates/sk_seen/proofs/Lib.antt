@@ -6,3 +6,4 @@ pub mod PageLaws
 pub mod NeedLaws
 pub mod HeavyLaws
 pub mod StopLaws
+pub mod SharpLaws

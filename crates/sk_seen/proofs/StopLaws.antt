@@ -1,6 +1,6 @@
 -- A search by relevance, without collapsing, near a point at which its page is settled: before it the tree is asked for no more than the document there scores, and from it on for more than the weight that settles it.
-use Rattle.std.proofs.Common.{◌≡◌, ◌≢◌, ◌≤◌, ◌<◌, ◌+◌, ◌-◌, ◌⊎◌, ℕ, Bool, true, false, cond, ◌&&◌, ◌||◌, ◌==◌, nat_le, nat_lt, max, min, List, [], ◌∷◌, ◌++◌, length, take, Option, None, Some, refl, sym, ap, ◌∙◌, subst, arith, inl, inr, true≢false, length-take}
-use Rattle.std.specs.List.{AllByRecursion}
+use Rattle.std.proofs.Common.{◌≡◌, ◌≢◌, ◌≤◌, ◌<◌, ◌+◌, ◌-◌, ◌⊎◌, ℕ, Bool, true, false, cond, ◌&&◌, ◌||◌, ◌==◌, nat_le, nat_lt, max, min, List, [], ◌∷◌, ◌++◌, length, take, Option, None, Some, option_map, refl, sym, ap, ◌∙◌, subst, arith, inl, inr, true≢false, length-take}
+use Rattle.std.specs.List.{AllByRecursion, cons_option}
 use Rattle.std.specs.Option.{option_and_then, IsSomeAnd}
 use Rattle.std.specs.List.Sorted.{IsSortedBy}
 use Rattle.std.proofs.lemmas.Bool.Decides.{nat_tests}
@@ -11,8 +11,8 @@ use Rattle.sk_base.specs.declared.rank.OrderBy.{OrderBy}
 use Rattle.sk_base.specs.declared.rank.Rank.{Rank}
 use Rattle.sk_base.specs.Before.{is_before}
 use Rattle.sk_base.specs.Numbers.{Docs}
-use Rattle.sk_sorted.specs.Entries.{RiseAbove}
-use Rattle.sk_sorted.proofs.EntryLaws.{found-here, found-other}
+use Rattle.sk_sorted.specs.Entries.{RiseAbove, first_id}
+use Rattle.sk_sorted.proofs.EntryLaws.{found-here, found-other, found-below}
 use Rattle.sk_query.specs.Trees.{Tree}
 use Rattle.sk_model.specs.Counts.{wanted, kept_by}
 use Rattle.sk_model.specs.Covers.{CoversAt}
@@ -29,10 +29,10 @@ use Rattle.sk_model.specs.Scores.{score}
 use Rattle.sk_seen.specs.Shown.{is_behind, Shown}
 use Rattle.sk_seen.specs.Walks.{page_end, held_by, IsFull, Walk}
 use Rattle.sk_seen.specs.Pages.{Pages}
-use Rattle.sk_seen.specs.Needs.{need_at, need_for}
+use Rattle.sk_seen.specs.Needs.{is_above, is_settled, need_at, need_for}
 use Rattle.sk_seen.specs.Calm.{scored_at, IsCalm}
 use Rattle.sk_seen.proofs.ShownLaws.{shown_beside}
-use Rattle.sk_seen.proofs.WalkLaws.{scores, ranked, taken, found_append, found_step}
+use Rattle.sk_seen.proofs.WalkLaws.{weighed, scores, ranked, taken, found_append, found_step}
 use Rattle.sk_seen.proofs.PageLaws.{held_is}
 use Rattle.sk_seen.proofs.HeavyLaws.{heavy, heavy_more, AllHeavy, filled, full_of_heavy}
 
@@ -528,3 +528,80 @@ module _ (query : Tree) (find : Find) (docs : Docs) (point : ℕ) where
 
   pub calm_later : (last later need : ℕ) → last ≤ later → IsCalm query find docs point last need → IsCalm query find docs point later need
   calm_later last later need up h before within = h (omega (arith, up, before)) within
+
+  pub calm_less : (last less more : ℕ) → less ≤ more → IsCalm query find docs point last more → IsCalm query find docs point last less
+  calm_less last less more up h before within = lower (scored_at query find docs point) (h before within)
+    where
+      lower : (o : Option ℕ) → IsSomeAnd o (λ w. more ≤ w) → IsSomeAnd o (λ w. less ≤ w)
+      lower None h = h
+      lower (Some w) h = omega (arith, h, up)
+
+-- ---- a search that goes on stands before the point
+
+-- from the point on a search is done
+pub done_after : (query : Tree) (find : Find) (held : Held) (seen weight ceiling : ℕ) → ceiling ≤ weight
+    → (weight < need_for find.options seen held ceiling) ⊎ (ceiling < need_for find.options seen held ceiling) → is_settled find.options seen held ceiling ≡ true
+done_after query find held seen weight ceiling low high = by_cutoff (nat_lt ceiling find.options.cutoff) refl
+  where
+    above : (n : ℕ) → need_for find.options seen held ceiling ≡ n → ceiling < n
+    above n e = either high
+      where
+        either : (weight < need_for find.options seen held ceiling) ⊎ (ceiling < need_for find.options seen held ceiling) → ceiling < n
+        either (inl l) = omega (arith, l, low, e)
+        either (inr l) = omega (arith, l, e)
+
+    le_is : (a b : ℕ) → nat_lt a b ≡ false → nat_le b a ≡ true
+    le_is a b e = grind (arith, nat_tests)
+
+    lt_is : (a b : ℕ) → a < b → nat_lt a b ≡ true
+    lt_is a b l = grind (arith, nat_tests)
+
+    by_need : (o : Option ℕ) → need_of held ≡ o → find.options.cutoff ≤ ceiling → nat_lt seen (wanted find) ≡ false → is_above o ceiling ≡ true
+    by_need None e up f = refl
+    by_need (Some n) e up f =
+        let most = above (max n find.options.cutoff) (ap (λ b. cond b find.options.cutoff (need_at (need_of held) find.options.cutoff ceiling)) f ∙ ap (λ p. need_at p find.options.cutoff ceiling) e) in
+        lt_is ceiling n (omega (arith, most, up))
+
+    by_seen : (b : Bool) → nat_lt seen (wanted find) ≡ b → find.options.cutoff ≤ ceiling → (nat_le (wanted find) seen && is_above (need_of held) ceiling) ≡ true
+    by_seen true e up =
+        let most = above find.options.cutoff (ap (λ b. cond b find.options.cutoff (need_at (need_of held) find.options.cutoff ceiling)) e) in
+        absurd (omega (arith, most, up))
+    by_seen false e up = ap (λ b. b && is_above (need_of held) ceiling) (le_is seen (wanted find) e) ∙ by_need (need_of held) refl up e
+
+    by_cutoff : (b : Bool) → nat_lt ceiling find.options.cutoff ≡ b → (nat_lt ceiling find.options.cutoff || (nat_le (wanted find) seen && is_above (need_of held) ceiling)) ≡ true
+    by_cutoff true e = ap (λ b. b || (nat_le (wanted find) seen && is_above (need_of held) ceiling)) e
+    by_cutoff false e = ap (λ b. b || (nat_le (wanted find) seen && is_above (need_of held) ceiling)) e ∙ by_seen (nat_lt seen (wanted find)) refl (no_less ceiling find.options.cutoff e)
+
+-- the first that is given stands no later than any
+pub first_lowest : (give : ℕ → Option ℕ) (low id h w : ℕ) (document : Document) (docs : Docs) → RiseAbove low docs → document_at id docs ≡ Some document → give id ≡ Some w → first_id (weighed give docs) ≡ Some h → h ≤ id
+first_lowest give low id h w document [] up there is first = absurd (cc)
+first_lowest give low id h w document (d ∷ docs) up there is first = by_given (give d.0) refl first (first_lowest give d.0 id h w document docs up.1)
+  where
+    same_id : (a b : ℕ) → (a == b) ≡ true → a ≡ b
+    same_id a b e = grind (arith, nat_tests)
+
+    other_id : (a b : ℕ) → (a == b) ≡ false → a ≢ b
+    other_id a b e = grind (arith, nat_tests)
+
+    some_is : (a b : ℕ) → Some a ≡ Some b → a ≡ b
+    some_is a b e = cc
+
+    none_is : (o : Option ℕ) → o ≡ None → o ≡ Some w → ⊥
+    none_is o e f = cc
+
+    none_at : (o : Option Document) → o ≡ None → o ≡ Some document → ⊥
+    none_at o e f = cc
+
+    at_or_after : (b : Bool) → (d.0 == id) ≡ b → (c : Bool) → nat_le d.0 id ≡ c → d.0 ≤ id
+    at_or_after b e true f = is_up d.0 id f
+    at_or_after true e false f = let same = same_id d.0 id e in omega (arith, same)
+    at_or_after false e false f = absurd (none_at (document_at id docs) (found-below d.0 id docs (let l = not_up d.0 id f in omega (arith, l)) up.1) (sym (found-other id d docs (other_id d.0 id e)) ∙ there))
+
+    tail : (b : Bool) → (d.0 == id) ≡ b → give d.0 ≡ None → document_at id docs ≡ Some document
+    tail true e none = absurd (none_is (give id) (ap give (sym (same_id d.0 id e)) ∙ none) is)
+    tail false e none = sym (found-other id d docs (other_id d.0 id e)) ∙ there
+
+    by_given : (o : Option ℕ) → give d.0 ≡ o → first_id (cons_option (option_map (λ v. (d.0, v)) o) (weighed give docs)) ≡ Some h
+        → (document_at id docs ≡ Some document → give id ≡ Some w → first_id (weighed give docs) ≡ Some h → h ≤ id) → h ≤ id
+    by_given None e f rest = rest (tail (d.0 == id) refl e) is f
+    by_given (Some v) e f rest = let same = some_is d.0 h f in let l = at_or_after (d.0 == id) refl (nat_le d.0 id) refl in omega (arith, same, l)

@@ -1,6 +1,6 @@
 -- What a search tells that saw some of the matches.
 -- Source: Own.
-use Rattle.std.specs.Prelude.{◌≡◌, ◌≤◌, ◌⊎◌, ℕ, ◌+◌, ◌-◌, ◌/◌, List, length, drop}
+use Rattle.std.specs.Prelude.{◌≡◌, ◌≤◌, ◌⊎◌, ℕ, ◌+◌, ◌-◌, ◌/◌, true, List, length, drop, Some}
 use Rattle.std.specs.List.{AllZip}
 use Rattle.sk_base.specs.declared.find.Find.{Find}
 use Rattle.sk_base.specs.declared.rank.Rank.{Rank}
@@ -14,6 +14,8 @@ use Rattle.sk_model.specs.Counts.{wanted, kept_by, dropped_by, duplicates}
 use Rattle.sk_model.specs.Edits.{document_at}
 use Rattle.sk_model.specs.Matches.{found_by, key_of}
 use Rattle.sk_model.specs.Reports.{payload_of}
+use Rattle.sk_model.specs.Settled.{stop_point}
+use Rattle.sk_model.specs.Sharp.{is_plain, flat_lists, ups}
 use Rattle.sk_seen.specs.Walks.{held_by}
 
 -- A hit is a match of the page; of those that were seen so many were collapsed into it.
@@ -29,6 +31,11 @@ IsUpper query find docs seen upper =
     ((found_by query find docs ≡ seen) × (upper ≡ length (kept_by find docs seen)))
     ⊎ ((wanted find ≤ length seen) × (find.options.cutoff ≤ ceil query find.options.scheme 1 docs) × (upper ≡ static_count query docs - duplicates find docs seen))
 
+-- So many readings of lists are within each of the bounds that apply.
+pub record IsSpent (query : Tree) (find : Find) (docs : Docs) (spent : ℕ) : Type 0 where
+  pub lists : spent ≤ leaf_readings query docs
+  pub stop : is_plain find ≡ true → (lists : List (List ℕ)) → flat_lists query docs ≡ Some lists → spent ≤ ups lists (stop_point query find docs) docs
+
 -- The report of a search that saw these matches: the page of them, what they say of the number of all, and the readings: of lists, of keys and values, and of payloads.
 pub record Tells (query : Tree) (find : Find) (docs : Docs) (seen : List Rank) (report : Report) : Type 0 where
   pub hits : AllZip (TellsHit find docs seen) (drop find.options.first (held_by find docs seen)) report.hits
@@ -37,4 +44,6 @@ pub record Tells (query : Tree) (find : Find) (docs : Docs) (seen : List Rank) (
   pub estimate : report.estimate ≡ (report.lower + report.upper) / 2
   pub greatest : report.greatest ≡ ceil query find.options.scheme 1 docs
   pub least_steps : length report.hits ≤ report.steps
-  pub most_steps : report.steps ≤ leaf_readings query docs + (key_readings find.collapse (length seen) + value_readings find.order.by (length seen) + length report.hits)
+  pub spent : ℕ
+  pub within : IsSpent query find docs spent
+  pub most_steps : report.steps ≤ spent + (key_readings find.collapse (length seen) + value_readings find.order.by (length seen) + length report.hits)

@@ -1,3 +1,4 @@
+use Rattle.std.proofs.Common.{inl, inr}
 use Rattle.sk_match.proofs.PassLemmas.{passed_by_seek, passed_by_close}
 use Rattle.sk_match.proofs.turns.Search.pass.Goals as goal
 
@@ -7,3 +8,10 @@ returns-then-id-eq4294967295-clause-over g c =
 
 pub returns-clause-over : goal.returns-clause-over
 returns-clause-over g c = passed_by_seek c.args.index.now c.args.id c.max-need.result c.args.self.now.tree c.seek.new.self c.seek.ensures.covers
+
+pub returns-then-id-eq4294967295-clause-stops : goal.returns-then-id-eq4294967295-clause-stops
+returns-then-id-eq4294967295-clause-stops g c point most stops may = c.close.ensures.stops c.args.index.now point most stops
+
+pub returns-clause-stops : goal.returns-clause-stops
+returns-clause-stops g c point most stops (inl last) = absurd (c.if-id-eq4294967295.false last)
+returns-clause-stops g c point most stops (inr may) = c.seek.ensures.stops point most stops may

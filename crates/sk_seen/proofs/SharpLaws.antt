@@ -1,0 +1,47 @@
+-- The steps of a search are within the sharper bounds, where what it read of lists is.
+use Rattle.std.proofs.Common.{◌≡◌, ◌≤◌, ◌+◌, ℕ, Bool, true, false, cond, ◌&&◌, List, length, is_none, Option, None, Some, option_map, IfSome, refl, sym, ap, ◌∙◌, subst, arith, true≢false}
+use Rattle.sk_base.specs.declared.find.Collapse.{Collapse}
+use Rattle.sk_base.specs.declared.find.Find.{Find}
+use Rattle.sk_base.specs.declared.rank.Order.{Order}
+use Rattle.sk_base.specs.declared.rank.OrderBy.{OrderBy}
+use Rattle.sk_base.specs.declared.rank.OrderBy.TheVariants as OrderBy
+use Rattle.sk_base.specs.Numbers.{Docs}
+use Rattle.sk_query.specs.Trees.{Tree}
+use Rattle.sk_model.specs.Allowance.{key_readings, value_readings}
+use Rattle.sk_model.specs.Settled.{stop_point}
+use Rattle.sk_model.specs.Sharp.{is_plain, flat_lists, ups, stop_number}
+use Rattle.sk_seen.specs.Told.{IsSpent}
+
+-- a plain find goes by relevance and does not collapse
+pub plain_is : (find : Find) → is_plain find ≡ true → (find.order.by ≡ OrderBy.Relevance) × (find.collapse ≡ None)
+plain_is find e = (by_order find.order.by refl, by_collapse find.collapse refl)
+  where
+    by_order : (by : OrderBy) → find.order.by ≡ by → find.order.by ≡ OrderBy.Relevance
+    by_order OrderBy.Relevance f = f
+    by_order (OrderBy.Value key) f = absurd (true≢false (sym (subst (λ by. is_plain (record find { order = record find.order { by = by } }) ≡ true) f e)))
+    by_order (OrderBy.ValueThenRelevance key) f = absurd (true≢false (sym (subst (λ by. is_plain (record find { order = record find.order { by = by } }) ≡ true) f e)))
+    by_order (OrderBy.RelevanceThenValue key) f = absurd (true≢false (sym (subst (λ by. is_plain (record find { order = record find.order { by = by } }) ≡ true) f e)))
+
+    by_collapse : (c : Option Collapse) → find.collapse ≡ c → find.collapse ≡ None
+    by_collapse None f = f
+    by_collapse (Some k) f =
+        absurd (true≢false (sym (subst (λ by. is_plain (record find { order = record find.order { by = by }; collapse = Some k }) ≡ true) (by_order find.order.by refl) (subst (λ c. is_plain (record find { collapse = c }) ≡ true) f e))))
+
+-- and reads neither values nor keys
+pub plain_free : (find : Find) (n : ℕ) → is_plain find ≡ true → key_readings find.collapse n + value_readings find.order.by n ≡ 0
+plain_free find n e =
+    let is = plain_is find e in
+    let keys : key_readings find.collapse n ≡ 0 = ap (λ c. key_readings c n) is.1 in
+    let values : value_readings find.order.by n ≡ 0 = ap (λ by. value_readings by n) is.0 in
+    omega (arith, keys, values)
+
+pub within_stop : (query : Tree) (find : Find) (docs : Docs) (spent seen hits steps : ℕ) → IsSpent query find docs spent → steps ≤ spent + (key_readings find.collapse seen + value_readings find.order.by seen + hits)
+    → IfSome (stop_number query find docs hits) (λ n. steps ≤ n)
+within_stop query find docs spent seen hits steps within most = by_plain (is_plain find) refl (flat_lists query docs) refl
+  where
+    by_plain : (b : Bool) → is_plain find ≡ b → (o : Option (List (List ℕ))) → flat_lists query docs ≡ o → IfSome (cond b (option_map (λ lists. ups lists (stop_point query find docs) docs + hits) o) None) (λ n. steps ≤ n)
+    by_plain true e (Some lists) f =
+        let few = within.stop e lists f in
+        omega (arith, few, most, plain_free find seen e)
+    by_plain true e None f = cc
+    by_plain false e o f = cc
