@@ -1,5 +1,5 @@
 -- A search that is opened, that sees a document, and that ends.
-use Rattle.std.proofs.Common.{◌≡◌, ◌≢◌, ◌≤◌, ◌<◌, ◌+◌, ◌⊎◌, ◌^◌, ℕ, suc, Bool, true, false, not, cond, ◌&&◌, ◌||◌, ◌==◌, nat_le, nat_lt, max, List, [], ◌∷◌, ◌++◌, length, drop, filter, All, Option, None, Some, option_map, is_some, unwrap_or, refl, sym, ap, ◌∙◌, subst, arith, inl, inr, true≢false, IfSome, append-nil}
+use Rattle.std.proofs.Common.{◌≡◌, ◌≢◌, ◌≤◌, ◌<◌, ◌+◌, ◌⊎◌, ◌^◌, ℕ, suc, Bool, true, false, not, cond, ◌&&◌, ◌||◌, ◌==◌, nat_le, nat_lt, max, List, [], ◌∷◌, ◌++◌, length, drop, filter, All, Option, None, Some, option_map, is_some, is_none, unwrap_or, refl, sym, ap, ◌∙◌, subst, arith, inl, inr, true≢false, IfSome, append-nil}
 use Rattle.std.specs.List.{AllByRecursion, cons_option}
 use Rattle.std.specs.Option.{option_and_then, IsSomeAnd}
 use Rattle.std.specs.List.Sorted.{IsSortedBy}
@@ -39,17 +39,20 @@ use Rattle.sk_nodes.specs.Flat.{IsAtLeast}
 use Rattle.sk_nodes.specs.Stops.{Stops, MayMove}
 use Rattle.sk_nodes.specs.declared.tree.Tree.{Tree}
 use Rattle.sk_heap.specs.declared.hit.Hit.{Hit}
-use Rattle.sk_heap.specs.Held.{Held, need_of}
+use Rattle.sk_heap.specs.Held.{Held, offered, need_of}
+use Rattle.sk_heap.proofs.HeapLaws.{full_by, need_keeps_out, falls_out}
+use Rattle.sk_collapse.specs.declared.verdict.Verdict.{Verdict}
+use Rattle.sk_collapse.specs.declared.verdict.Verdict.TheVariants as Verdict
 use Rattle.sk_collapse.specs.Collapsed.{Collapsed, group_of}
 use Rattle.sk_collapse.proofs.CollapseLaws.{knows_differ}
 use Rattle.sk_seen.specs.Shown.{is_behind}
 use Rattle.sk_seen.specs.Walks.{page_end, held_by, IsFull, IsPassed, IsNeed, Walk}
-use Rattle.sk_seen.specs.Pages.{CollapsesBy, Pages}
+use Rattle.sk_seen.specs.Pages.{CollapsesBy, Offers, Pages}
 use Rattle.sk_seen.specs.Needs.{wanted_by, is_above, is_settled, need_for}
 use Rattle.sk_seen.proofs.ShownLaws.{shown_beside}
 use Rattle.sk_seen.proofs.WalkLaws as Walks
 use Rattle.sk_seen.proofs.WalkLaws.{AtHead, weighed, taken, ranked, scores, the_head, walked, started}
-use Rattle.sk_seen.proofs.PageLaws.{page_start, page_offered, page_later, fresh, fresh_hits}
+use Rattle.sk_seen.proofs.PageLaws.{page_start, page_offered, page_later, fresh}
 use Rattle.sk_seen.proofs.NeedLaws.{need_max, need_on, need_right, need_few}
 use Rattle.sk_seen.specs.Calm.{IsCalm}
 use Rattle.sk_seen.proofs.StopLaws.{calm_need, asks_more, given_there, done_after, first_lowest, calm_max, calm_later, calm_less}
@@ -193,6 +196,22 @@ all_less : (last h : ℕ) (ds : Docs) → last < h → AllByRecursion (λ (d : �
 all_less last h [] up all = tt
 all_less last h (d ∷ ds) up all = (omega (arith, up, all.0), all_less last h ds up all.1)
 
+hits_less : (last h : ℕ) (hits : List Hit) → last < h → AllByRecursion (λ (x : Hit). x.rank.id ≤ last) hits → AllByRecursion (λ (x : Hit). x.rank.id < h) hits
+hits_less last h [] up all = tt
+hits_less last h (x ∷ hits) up all = (omega (arith, up, all.0), hits_less last h hits up all.1)
+
+-- a hit that is kept out leaves the page as it is
+pub kept_out : (held : Held) (c : Option Collapsed) (hit : Hit) → is_none c ≡ true → length held.hits ≤ held.most → IsSortedBy (λ (x y : Hit). is_before held.order x.rank y.rank) held.hits → IsSomeAnd (need_of held) (λ n. hit.rank.weight < n)
+    → All (λ (h : Hit). h.rank.id < hit.rank.id) held.hits → Offers held held c c hit
+kept_out held (Some c) hit none few sorted light under = absurd (true≢false (sym none))
+kept_out held None hit none few sorted light under = record { verdict = Verdict.Keep; heap = same (need_of held) refl light; sees = refl }
+  where
+    same : (o : Option ℕ) → need_of held ≡ o → IsSomeAnd o (λ n. hit.rank.weight < n) → held ≡ offered hit held
+    same None e h = absurd h
+    same (Some n) e h =
+        let full = full_by held n e (omega (arith, h)) in
+        sym (falls_out held hit (omega (arith, full, few)) (need_keeps_out held n hit.rank sorted e h under))
+
 assoc : {X : Type 0} (xs ys zs : List X) → (xs ++ ys) ++ zs ≡ xs ++ (ys ++ zs)
 assoc [] ys zs = refl
 assoc (x ∷ xs) ys zs = ap (λ ws. x ∷ ws) (assoc xs ys zs)
@@ -288,8 +307,8 @@ module _ (i : Indexed) (old : Search) (find : Find) (query : Query.Tree) (stands
   full_room : old.heap.room ≡ old.heap.most
   full_room = stands.pages.room ∙ sym stands.pages.most
 
-  differ_hits : All (λ (x : Hit). x.rank.id ≢ h) old.heap.hits
-  differ_hits = fresh_hits find docs stands.walk.last stands.saw old.heap old.collapser stands.pages (record { weight = 0; value = []; id = h }) at.higher
+  under_hits : All (λ (x : Hit). x.rank.id < h) old.heap.hits
+  under_hits = All-from_recursion (λ (x : Hit). x.rank.id < h) old.heap.hits (hits_less stands.walk.last h old.heap.hits at.higher stands.pages.under)
 
   known_few : IfSome old.collapser (λ c. c.seen + 1 < 2 ^ 32)
   known_few = few_by find.collapse (key_of find.collapse docs) old.collapser stands.pages.collapse
@@ -696,7 +715,7 @@ pub record MaySee (old : Search) (h w : ℕ) : Type 0 where
   pub read : old.read + 2 < 2 ^ 64
   pub light : w < 2 ^ 63
   pub room : old.heap.room ≡ old.heap.most
-  pub differs : All (λ (x : Hit). x.rank.id ≢ h) old.heap.hits
+  pub under : All (λ (x : Hit). x.rank.id < h) old.heap.hits
   pub known : IfSome old.collapser (λ c. c.seen + 1 < 2 ^ 32)
   pub apart : IfSome old.collapser (λ c. (k : List ℕ) → 0 < length k → All (λ (r : Rank). r.id ≢ h) (group_of k c.groups).kept)
 
@@ -707,7 +726,7 @@ may_see i old find query stands h w ceiling head weight is most = record {
   read = read_few i old find query stands h w (sym head) weight;
   light = light i old find query stands h w (sym head) weight (subst (λ n. (id : ℕ) → unwrap_or (gives i old.tree id) 0 ≤ n) is most);
   room = full_room i old find query stands h w (sym head) weight;
-  differs = differ_hits i old find query stands h w (sym head) weight;
+  under = under_hits i old find query stands h w (sym head) weight;
   known = known_few i old find query stands h w (sym head) weight;
   apart = known_apart i old find query stands h w (sym head) weight;
 }

@@ -1,16 +1,16 @@
 //! A match that is offered to a page.
-ghost use Rattle.std.specs.Prelude.{◌≡◌, ◌≢◌, ◌≤◌, ◌<◌, ◌+◌, ◌^◌, ℕ, List, length, All, IfOk, IsOk, OnOk, IfSome, None};
-ghost use Rattle.sk_base.specs.declared.rank.OrderBy.TheVariants as OrderBy;
+ghost use Rattle.std.specs.Prelude.{◌≡◌, ◌≢◌, ◌≤◌, ◌<◌, ◌+◌, ◌^◌, ℕ, true, List, [], length, All, IfOk, IsOk, OnOk, IfSome, None};
 ghost use Rattle.sk_base.specs.declared.rank.Rank.{Rank};
 ghost use Rattle.sk_model.specs.Allowance.{key_readings, value_readings};
 ghost use Rattle.sk_model.specs.Edits.{document_at};
 ghost use Rattle.sk_model.specs.Matches.{key_for};
 ghost use Rattle.sk_collapse.specs.Collapsed.{group_of};
-ghost use Rattle.sk_heap.specs.Held.{offered};
+ghost use Rattle.std.specs.Option.{IsSomeAnd};
+ghost use Rattle.sk_heap.specs.Held.{need_of, offered};
 ghost use Rattle.sk_seen.specs.Pages.{Offers};
 ghost use Rattle.sk_match.specs.Hits.{value_at};
 
-use sk_base::{Bytes, Collapse, DocId, OrderBy};
+use sk_base::{Bytes, Collapse, DocId, OrderBy, Rank, Weight};
 use sk_collapse::{Collapser, Verdict};
 use sk_heap::{Hit, ResultHeap};
 use sk_index::Index;
@@ -19,46 +19,92 @@ use std::alloc::{AllocError, Global};
 use std::sync::ledger::Ledger;
 
 /// The value that an order reads of a document, which is one reading where it reads one.
-pub(crate) fn value_of<L: Ledger>(
-    alloc: Global,
-    index: &Index,
+pub(crate) fn value_of<'a, L: Ledger>(
+    index: &'a Index,
     by: OrderBy,
     id: DocId,
     steps: &mut Steps<L>,
-) -> Result<Bytes, AllocError>
-    ensures value { IfOk result (λ value. value ≡ value_at by (document_at id index.now.live.documents)) }
+) -> &'a [u8]
+    ensures value { result.now ≡ value_at by (document_at id index.now.live.documents) }
     ensures cost { steps.new ≡ steps.old + value_readings by 1 }
-    ensures free { by ≡ OrderBy.Relevance → IsOk result }
 {
     let key = match by {
-        OrderBy::Relevance => return Ok(Bytes::empty(alloc)),
+        OrderBy::Relevance => return &[],
         OrderBy::Value(key) => key,
         OrderBy::ValueThenRelevance(key) => key,
         OrderBy::RelevanceThenValue(key) => key,
     };
-    Bytes::new(alloc, index.value(key.slot, id, steps))
+    index.value(key.slot, id, steps)
 }
 
 /// The key that a document is collapsed on, which is one reading where something is collapsed.
-pub(crate) fn key_of<L: Ledger>(
-    alloc: Global,
-    index: &Index,
+pub(crate) fn key_of<'a, L: Ledger>(
+    index: &'a Index,
     collapse: Option<Collapse>,
     id: DocId,
     steps: &mut Steps<L>,
-) -> Result<Bytes, AllocError>
-    ensures key { IfOk result (λ key. key ≡ key_for collapse (document_at id index.now.live.documents)) }
+) -> &'a [u8]
+    ensures key { result.now ≡ key_for collapse (document_at id index.now.live.documents) }
     ensures cost { steps.new ≡ steps.old + key_readings collapse 1 }
-    ensures free { collapse ≡ None → IsOk result }
 {
     match collapse {
-        Some(collapse) => Bytes::new(alloc, index.value(collapse.slot, id, steps)),
-        None => Ok(Bytes::empty(alloc)),
+        Some(collapse) => index.value(collapse.slot, id, steps),
+        None => &[],
     }
 }
 
-/// Shows a match to the collapser, if there is one, and does with it what that says.
-pub(crate) fn offer(
+// Bytes for an entry. No bytes take no memory.
+fn bytes_of(alloc: Global, bytes: &[u8]) -> Result<Bytes, AllocError>
+    ensures bytes { IfOk result (λ copy. copy ≡ bytes.now) }
+    ensures free { bytes.now ≡ [] → IsOk result }
+{
+    if bytes.is_empty() {
+        return Ok(Bytes::empty(alloc));
+    }
+    Bytes::new(alloc, bytes)
+}
+
+/// Offers a match to a page. No entry is made for one that comes after all that are held, where nothing is collapsed.
+pub(crate) fn show(
+    alloc: Global,
+    heap: &mut ResultHeap,
+    collapser: &mut Option<Collapser>,
+    id: DocId,
+    weight: Weight,
+    value: &[u8],
+    key: &[u8],
+) -> Result<(), AllocError>
+    requires room { heap.old.room ≡ heap.old.most }
+    requires under { All (λ h. h.rank.id < id) heap.old.hits }
+    requires light { weight < 2 ^ 63 }
+    requires few { IfSome collapser.old (λ c. c.seen + 1 < 2 ^ 32) }
+    requires apart { IfSome collapser.old (λ c. (k : List ℕ) → 0 < length k → All (λ r. r.id ≢ id) (group_of k c.groups).kept) }
+    ensures offers { OnOk result (Offers heap.old heap.new collapser.old collapser.new (record { rank = record { weight = weight; value = value.now; id = id }; key = key.now })) }
+    ensures free { collapser.old ≡ None → value.now ≡ [] → key.now ≡ [] → IsOk result }
+{
+    let _ordered = heap.len();
+    if collapser.is_none() && is_kept_out(heap, weight) {
+        return Ok(());
+    }
+    let value = bytes_of(alloc, value)?;
+    let key = bytes_of(alloc, key)?;
+    let rank = Rank { weight, value, id };
+    offer(heap, collapser, Hit { rank, key })?;
+    Ok(())
+}
+
+// Whether what weighs so much, and has a greater id than all that are held, comes after them.
+fn is_kept_out(heap: &ResultHeap, weight: Weight) -> bool
+    ensures { result ≡ true → IsSomeAnd (need_of heap.now) (λ need. weight < need) }
+{
+    match heap.need() {
+        Some(need) => weight < need,
+        None => false,
+    }
+}
+
+// Shows a match to the collapser, if there is one, and does with it what that says.
+fn offer(
     heap: &mut ResultHeap,
     collapser: &mut Option<Collapser>,
     hit: Hit,

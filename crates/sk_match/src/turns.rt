@@ -24,11 +24,11 @@ ghost use Rattle.sk_match.specs.Hits.{kept_of};
 ghost use Rattle.sk_match.specs.Searches.{IsOn, Stands, Asks, Sees, IsSameBut, IsSamePage, KeepsStops, PassesOver, ahead, ahead_to, is_done, is_whole, spent_by};
 ghost use Rattle.sk_match.specs.declared.turns.Turn.TheVariants as Turn;
 
-use crate::offer::{key_of, offer, value_of};
+use crate::offer::{key_of, show, value_of};
 use crate::page::hits_of;
-use sk_base::{Collapse, DocId, Find, Options, Order, OrderBy, Rank, Report, Weight};
+use sk_base::{Collapse, DocId, Find, Options, Order, OrderBy, Report, Weight};
 use sk_collapse::Collapser;
-use sk_heap::{Hit, ResultHeap};
+use sk_heap::ResultHeap;
 use sk_index::Index;
 use sk_nodes::Tree;
 use sk_query::Query;
@@ -193,7 +193,7 @@ impl Search {
         requires read { self.old.read + 2 < 2 ^ 64 }
         requires light { weight < 2 ^ 63 }
         requires room { self.old.heap.room ≡ self.old.heap.most }
-        requires differs { All (λ h. h.rank.id ≢ id) self.old.heap.hits }
+        requires under { All (λ h. h.rank.id < id) self.old.heap.hits }
         requires known { IfSome self.old.collapser (λ c. c.seen + 1 < 2 ^ 32) }
         requires apart { IfSome self.old.collapser (λ c. (k : List ℕ) → 0 < length k → All (λ r. r.id ≢ id) (group_of k c.groups).kept) }
         ensures free { self.old.collapse ≡ None → self.old.collapser ≡ None → self.old.order.by ≡ OrderBy.Relevance → IsOk result }
@@ -202,10 +202,17 @@ impl Search {
         ensures cost { OnOk result (steps.new + self.old.read ≡ steps.old + self.new.read) }
         ensures later { steps.old ≤ steps.new }
     {
-        let value = value_of(self.alloc, index, self.order.by, id, steps)?;
-        let key = key_of(self.alloc, index, self.collapse, id, steps)?;
-        let rank = Rank { weight, value, id };
-        offer(&mut self.heap, &mut self.collapser, Hit { rank, key })?;
+        let value = value_of(index, self.order.by, id, steps);
+        let key = key_of(index, self.collapse, id, steps);
+        show(
+            self.alloc,
+            &mut self.heap,
+            &mut self.collapser,
+            id,
+            weight,
+            value,
+            key,
+        )?;
         self.seen += 1;
         self.read += readings(self.order.by, self.collapse);
         Ok(())

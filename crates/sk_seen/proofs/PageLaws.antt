@@ -18,7 +18,7 @@ use Rattle.sk_model.specs.Counts.{kept_by}
 use Rattle.sk_model.proofs.OrderLaws.{before_order, both_so, Rises, rises_best_first, best_first_permutation, sorted_is}
 use Rattle.sk_heap.specs.declared.hit.Hit.{Hit}
 use Rattle.sk_heap.specs.Held.{Held, ranks_of, placed, last_weight, need_behind, need_of, offered, without}
-use Rattle.sk_heap.proofs.HeapLaws.{ranks_placed, need_keeps_out}
+use Rattle.sk_heap.proofs.HeapLaws.{full_by, ranks_placed, need_keeps_out}
 use Rattle.sk_collapse.specs.Collapsed.{Collapsed, kept_in}
 use Rattle.sk_collapse.specs.Verdicts.{Judges, without_rank}
 use Rattle.sk_collapse.specs.declared.verdict.Verdict.{Verdict}
@@ -408,22 +408,9 @@ module _ (find : Find) (docs : Docs) where
     all_behind r [] h = refl
     all_behind r (x ∷ hits) h = both_are (is_before held.order x.rank r) (is_behind held.order (ranks_of hits) r) h.0 (all_behind r hits h.1)
 
-    full_by : (n : ℕ) → need_of held ≡ Some n → 0 < n → held.most ≤ length held.hits
-    full_by n e some =
-        elim (held.most == 0) as (λ z. cond z None (cond (nat_lt (length held.hits) held.most) (Some 0) (Some (need_behind held.order.by held.order.falling (last_weight held.hits)))) ≡ Some n → held.most ≤ length held.hits) [
-          | true ↦ λ f. absurd (cc)
-          | false ↦ λ f. elim (nat_lt (length held.hits) held.most) as (λ b. nat_lt (length held.hits) held.most ≡ b → cond b (Some 0) (Some (need_behind held.order.by held.order.falling (last_weight held.hits))) ≡ Some n → held.most ≤ length held.hits) [
-            | true ↦ λ g f. let none : 0 ≡ n = cc in absurd (omega (arith, none, some))
-            | false ↦ λ g f. no_less (length held.hits) held.most g
-          ] refl f
-        ] e
-      where
-        no_less : (a b : ℕ) → nat_lt a b ≡ false → b ≤ a
-        no_less a b e = grind (arith, nat_tests)
-
     pub page_is_full : (n : ℕ) → need_of held ≡ Some n → 0 < n → IsFull find docs saw
     page_is_full n e some =
-        let most : held.most ≤ length held.hits = full_by n e some in
+        let most : held.most ≤ length held.hits = full_by held n e some in
         let ranks : length (ranks_of held.hits) ≡ length held.hits = length-map held.hits (λ (h : Hit). h.rank) in
         let same : length (ranks_of held.hits) ≡ length (held_by find docs saw) = ap length held_is in
         let short : length (held_by find docs saw) ≡ min (page_end find) (length (kept_by find docs saw)) = length-take (page_end find) (kept_by find docs saw) in

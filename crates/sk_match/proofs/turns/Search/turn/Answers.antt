@@ -34,8 +34,8 @@ see-requires-clause-light g c = (fits g c).light
 pub see-requires-clause-room : goal.see-requires-clause-room
 see-requires-clause-room g c = (fits g c).room
 
-pub see-requires-clause-differs : goal.see-requires-clause-differs
-see-requires-clause-differs g c = (fits g c).differs
+pub see-requires-clause-under : goal.see-requires-clause-under
+see-requires-clause-under g c = (fits g c).under
 
 pub see-requires-clause-known : goal.see-requires-clause-known
 see-requires-clause-known g c = (fits g c).known
