@@ -4,3 +4,5 @@ mod IdLemmas
 mod KeptLemmas
 mod ReportLemmas
 mod WildLemmas
+mod ListLemmas
+mod SharpLemmas

@@ -14,7 +14,8 @@ use Rattle.sk_model.specs.Reports.{ReportsFor}
 use Rattle.sk_model.proofs.KeptLaws.{kept_few}
 use Rattle.sk_model.proofs.CountLaws.{within}
 use Rattle.sk_model.proofs.ReportLaws.{exact_is}
-use Rattle.sk_plain.specs.Pages.{count_of, report_for}
+use Rattle.sk_model.proofs.SettledLaws.{sharp_allowed, sharp_hits}
+use Rattle.sk_plain.specs.Pages.{hits_of, count_of, report_for}
 
 half : (n : ℕ) → n ≡ (n + n) / 2
 half n = omega arith
@@ -27,8 +28,8 @@ exact_reports query find above docs e =
       counts = so.counts;
       estimate = half (count_of query find docs);
       greatest = refl;
-      least_steps = so.least_steps;
-      most_steps = so.most_steps;
+      least_steps = sharp_hits find docs (length (hits_of query find docs)) query;
+      most_steps = sharp_allowed query find docs (length (hits_of query find docs));
     }
 
 step_few : (o : Option Rank) (xs : List Rank) (n : ℕ) → length xs ≤ n → length (cons_option o xs) ≤ n + 1

@@ -1,3 +1,4 @@
 pub mod Sums
 pub mod Pages
 pub mod Wilds
+pub mod Words

@@ -11,6 +11,7 @@ ghost use Rattle.sk_plain.specs.Pages.{hit_of, report_for};
 use crate::counted::Counted;
 use crate::found::found_by;
 use crate::kept::{dropped_by, kept_by, key_of};
+use crate::sharp::sharp_of;
 use sk_base::{Doc, DocId, Find, Hits, Rank, Ranked, Report, Text};
 use sk_model::slice;
 use sk_query::Query;
@@ -18,7 +19,8 @@ use sk_weight::ceil;
 use std::alloc::{AllocError, Global};
 use std::collections::BTreeMap;
 
-/// The report of a find, whose query is given as it was read: both bounds are the true count, and each hit is one step.
+/// The report of a find, whose query is given as it was read: both bounds are the true count, and the steps the most
+/// that the rules allow.
 pub fn report_of(
     alloc: Global,
     docs: &BTreeMap<DocId, Doc>,
@@ -36,7 +38,7 @@ pub fn report_of(
     let asked = slice(kept.as_slice(), find.options.first, find.options.size);
     let hits = hits_of(alloc, docs, find, ranks.as_slice(), kept.as_slice(), asked)?;
     let count = kept.len() as u32;
-    let steps = hits.len() as u128;
+    let steps = sharp_of(alloc, docs, query, find, hits.len())?;
     Ok(Report {
         hits: Hits::from_vec(hits),
         lower: count,
