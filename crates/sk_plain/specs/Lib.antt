@@ -1,4 +1,3 @@
 pub mod Sums
 pub mod Pages
 pub mod Wilds
-pub mod Words
