@@ -25,7 +25,7 @@ use Rattle.sk_model.specs.Page.{best_first, kept, count_key, dropped}
 use Rattle.sk_model.specs.Settled.{stop_point}
 use Rattle.sk_model.specs.Sharp.{ups}
 use Rattle.sk_nodes.specs.Stops.{Stops}
-use Rattle.sk_model.specs.Reports.{ReportsFor}
+use Rattle.sk_report.specs.Reports.{ReportsFor}
 use Rattle.sk_model.proofs.CountLaws.{found_within}
 use Rattle.sk_model.proofs.KeptLaws.{kept_few}
 use Rattle.sk_model.proofs.OrderLaws.{both_so, length-best_first}

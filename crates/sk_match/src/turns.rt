@@ -9,7 +9,7 @@ ghost use Rattle.sk_query.specs.Fits.{fits_tree};
 ghost use Rattle.sk_base.specs.Records.{FitsFind};
 ghost use Rattle.sk_model.specs.Allowance.{key_readings, value_readings};
 ghost use Rattle.sk_model.specs.Edits.{last_id};
-ghost use Rattle.sk_model.specs.Reports.{ReportsFor};
+ghost use Rattle.sk_report.specs.Reports.{ReportsFor};
 ghost use Rattle.sk_index.specs.Indexed.{Indexed};
 ghost use Rattle.sk_model.specs.Counts.{wanted};
 ghost use Rattle.sk_model.specs.Matches.{found_by};

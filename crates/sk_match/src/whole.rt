@@ -2,7 +2,7 @@
 ghost use Rattle.std.specs.Prelude.{◌≡◌, ◌≤◌, ◌+◌, true, IfOk};
 ghost use Rattle.sk_query.specs.Trees.{query_view};
 ghost use Rattle.sk_query.specs.Fits.{fits_tree};
-ghost use Rattle.sk_model.specs.Reports.{ReportsFor};
+ghost use Rattle.sk_report.specs.Reports.{ReportsFor};
 ghost use Rattle.sk_base.specs.Records.{FitsFind};
 
 use crate::turns::{Search, Turn};

@@ -10,7 +10,6 @@ pub mod StaticLaws
 pub mod WeightLaws
 pub mod CountLaws
 pub mod NearLaws
-pub mod ReportLaws
 pub mod SettledLaws
 mod Examples
 mod ScoreExamples

@@ -1,18 +1,19 @@
 -- The point at which a page is settled is the least id that it is said to be, and the sharper bound the least of its numbers.
-use Rattle.std.proofs.Common.{◌≡◌, ◌<◌, ◌≤◌, ◌+◌, ◌-◌, ℕ, suc, Bool, true, false, cond, ◌&&◌, ◌||◌, ◌==◌, nat_le, nat_lt, true≢false, List, [], ◌∷◌, length, Option, Some, None, refl, sym, ap, ◌∙◌, subst, arith, slice_index_or, AllPairs}
+use Rattle.std.proofs.Common.{◌≡◌, ◌<◌, ◌≤◌, ◌+◌, ◌-◌, ℕ, suc, Bool, true, false, cond, ◌&&◌, ◌||◌, ◌==◌, nat_le, nat_lt, true≢false, List, [], ◌∷◌, length, Option, Some, None, option_map, refl, sym, ap, ◌∙◌, subst, arith, slice_index_or, AllPairs}
 use Rattle.std.proofs.lemmas.Bool.Decides.{nat_tests}
 use Rattle.std.proofs.lemmas.List.Sums.{sum_by-cons}
 use Rattle.sk_base.specs.declared.find.Find.{Find}
 use Rattle.sk_base.specs.declared.rank.Rank.{Rank}
 use Rattle.sk_base.specs.Numbers.{Docs}
-use Rattle.sk_query.specs.Trees.{Tree}
-use Rattle.sk_model.specs.Allowance.{allowance}
+use Rattle.sk_query.specs.declared.form.Form.{Form}
+use Rattle.sk_query.specs.Trees.{Tree, nothing, all, term, wildcard, parts, near, phrase, synonym, scale, range}
+use Rattle.sk_model.specs.Allowance.{extra, allowance}
 use Rattle.sk_model.specs.Counts.{wanted}
 use Rattle.sk_model.specs.Edits.{last_id}
 use Rattle.sk_model.specs.Matches.{found_by}
-use Rattle.sk_model.specs.Settled.{less_heavy, settled_from, settled, settling_weight, seen_up_to, heavy_up_to}
+use Rattle.sk_model.specs.Settled.{less_heavy, settled_from, settled, settling_weight, stop_point, seen_up_to, heavy_up_to}
 use Rattle.sk_model.proofs.OrderLaws.{both_so}
-use Rattle.sk_model.specs.Sharp.{stop_number, rare_number, decay_number, at_most, sharp}
+use Rattle.sk_model.specs.Sharp.{terms_in, flat_lists, ups, is_plain, stop_number, of_two, rare_lists, rare_readings, rare_number, decay_of, decay_number, at_most, sharp}
 
 -- ---- rising ids
 
@@ -235,3 +236,68 @@ module _ (query : Tree) (find : Find) (docs : Docs) (hits : ℕ) where
   pub sharp_decay : (n : ℕ) → decay_number query find docs hits ≡ Some n → sharp query find docs hits ≤ n
   sharp_decay n e =
       within_other (at_most (at_most of_list of_stop) of_rare) n of_decay e
+
+-- ---- no number is below the hits
+
+abbrev AtLeast : ℕ → Option ℕ → Type 0
+AtLeast h None = Unit {0}
+AtLeast h (Some m) = h ≤ m
+
+least_above : (h n : ℕ) (o : Option ℕ) → h ≤ n → AtLeast h o → h ≤ at_most n o
+least_above h n None a b = a
+least_above h n (Some m) a b = omega (arith, a, b)
+
+mapped : {X : Type 0} (h : ℕ) (f : X → ℕ) (o : Option X) → ((x : X) → h ≤ f x) → AtLeast h (option_map f o)
+mapped h f None so = tt
+mapped h f (Some x) so = so x
+
+where_applies : (h : ℕ) (test : Bool) (o : Option ℕ) → AtLeast h o → AtLeast h (cond test o None)
+where_applies h true o so = so
+where_applies h false o so = tt
+
+module _ (find : Find) (docs : Docs) (hits : ℕ) where
+  stop_hits : (query : Tree) → AtLeast hits (stop_number query find docs hits)
+  stop_hits query =
+      where_applies hits (is_plain find) (option_map (λ lists. ups lists (stop_point query find docs) docs + hits) (flat_lists query docs))
+      (mapped hits (λ (lists : List (List ℕ)). ups lists (stop_point query find docs) docs + hits) (flat_lists query docs) (λ lists. omega arith))
+
+  rare_hits : (query : Tree) (matching : ℕ) → AtLeast hits (rare_number query find docs matching hits)
+  rare_hits query matching =
+      mapped hits (λ (p : List (List ℕ) × ℕ). rare_readings p.0 p.1 docs + extra find matching hits) (rare_lists query docs) (λ p. omega arith)
+
+  decay_of_hits : (query : Tree) (lists : Option (List (List ℕ))) → AtLeast hits (decay_of query find docs hits lists)
+  decay_of_hits query None = tt
+  decay_of_hits query (Some []) = tt
+  decay_of_hits query (Some (a ∷ [])) = tt
+  decay_of_hits query (Some (a ∷ b ∷ [])) = omega arith
+  decay_of_hits query (Some (a ∷ b ∷ c ∷ more)) = tt
+
+  decay_hits : (query : Tree) → AtLeast hits (decay_number query find docs hits)
+  decay_hits nothing = tt
+  decay_hits all = tt
+  decay_hits (term t) = tt
+  decay_hits (wildcard prefix) = tt
+  decay_hits (parts Form.And ts) = tt
+  decay_hits (parts Form.Or ts) =
+      where_applies hits (is_plain find) (decay_of (parts Form.Or ts) find docs hits (of_two (terms_in ts))) (decay_of_hits (parts Form.Or ts) (of_two (terms_in ts)))
+  decay_hits (parts Form.Xor ts) = tt
+  decay_hits (parts Form.Max ts) = tt
+  decay_hits (parts Form.AndNot ts) = tt
+  decay_hits (parts Form.AndMaybe ts) = tt
+  decay_hits (parts Form.Filter ts) = tt
+  decay_hits (near window ts) = tt
+  decay_hits (phrase window ts) = tt
+  decay_hits (synonym ts) = tt
+  decay_hits (scale f t) = tt
+  decay_hits (range slot lo hi) = tt
+
+  -- the hits are steps in each number
+  pub sharp_hits : (query : Tree) → hits ≤ sharp query find docs hits
+  sharp_hits query =
+      least_above hits (at_most (at_most (of_list query find docs hits) (of_stop query find docs hits)) (of_rare query find docs hits)) (of_decay query find docs hits)
+      (
+      least_above hits (at_most (of_list query find docs hits) (of_stop query find docs hits)) (of_rare query find docs hits)
+      (least_above hits (of_list query find docs hits) (of_stop query find docs hits) (omega arith) (stop_hits query))
+      (rare_hits query (length (found_by query find docs)))
+      )
+      (decay_hits query)

@@ -1,5 +1,5 @@
--- When a report is one that a find may have.
--- Source: Xapian's API documentation (`MSet`). The steps are own.
+-- The page that a find asks for, and what a hit of it tells.
+-- Source: Xapian's API documentation (`MSet`).
 use Rattle.std.specs.Prelude.{◌≡◌, ◌≤◌, ◌+◌, ◌/◌, ℕ, List, [], length, Option, Some, None, IfSome}
 use Rattle.std.specs.List.{AllZip}
 use Rattle.sk_base.specs.declared.find.Find.{Find}
@@ -32,13 +32,3 @@ pub record IsHit (query : Tree) (find : Find) (docs : Docs) (rank : Rank) (hit :
   pub weight : hit.weight ≡ rank.weight
   pub payload : hit.payload ≡ payload_of (document_at rank.id docs)
   pub collapsed : CollapseCount find docs (found_by query find docs) (key_of find.collapse docs rank) hit.collapsed
-
--- The hits are the asked page of all matching live documents, in order; the counts enclose the true one; the steps are within the allowance, and within the stop number where that applies.
-pub record ReportsFor (query : Tree) (find : Find) (docs : Docs) (report : Report) : Type 0 where
-  pub hits : AllZip (IsHit query find docs) (page_of query find docs) report.hits
-  pub counts : Counts find docs (found_by query find docs) (ceil query find.options.scheme 1 docs) (static_count query docs) report.lower report.upper
-  pub estimate : report.estimate ≡ (report.lower + report.upper) / 2
-  pub greatest : report.greatest ≡ ceil query find.options.scheme 1 docs
-  pub least_steps : length report.hits ≤ report.steps
-  pub most_steps : report.steps ≤ allowance query find docs (length (found_by query find docs)) (length report.hits)
-  pub stop_steps : IfSome (stop_number query find docs (length report.hits)) (λ n. report.steps ≤ n)

@@ -10,7 +10,6 @@ mod documents;
 mod order;
 mod page;
 mod positions;
-mod reports;
 mod settled;
 
 pub use bounds::{matches_within_static, score_within_ceil, static_within_live, weights_fit};
@@ -23,5 +22,4 @@ pub use documents::{slots_of_schema, terms_of_mentions};
 pub use order::{one_order, place_never_worse, sort_best_first};
 pub use page::{kept_by_keys, kept_of_front, kept_of_key, slice};
 pub use positions::near_is_a_window;
-pub use reports::reports_are_there;
 pub use settled::{settled_is_least, sharp_is_least};

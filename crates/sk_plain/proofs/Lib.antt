@@ -1,6 +1,6 @@
 mod SumLemmas
 mod FoundLemmas
 mod IdLemmas
-mod KeptLemmas
-mod ReportLemmas
+pub mod KeptLemmas
+pub mod ReportLemmas
 mod WildLemmas

@@ -11,6 +11,7 @@ use Rattle.sk_model.specs.Matches.{found_by, key_of}
 use Rattle.sk_model.specs.Bounds.{ceil}
 use Rattle.sk_model.specs.Counts.{kept_by, dropped_by}
 use Rattle.sk_model.specs.Reports.{payload_of, page_of}
+use Rattle.sk_model.specs.Sharp.{sharp}
 
 -- A match of these as a hit: its id and weight, its document's payload, and how many of them were collapsed into it.
 abbrev pub hit_of : Find → Docs → List Rank → Rank → Ranked
@@ -29,7 +30,7 @@ hits_of query find docs = map (hit_of find docs (found_by query find docs)) (pag
 abbrev pub count_of : Tree → Find → Docs → ℕ
 count_of query find docs = length (kept_by find docs (found_by query find docs))
 
--- The report of a find, exactly: the hits of its page, the true count as both bounds, what no document can weigh more than, and a step for each hit.
+-- The report of a find, exactly: the hits of its page, the true count as both bounds, what no document can weigh more than, and the most steps that the rules allow.
 abbrev pub report_for : Tree → Find → Docs → Report
 report_for query find docs = record {
   hits = hits_of query find docs;
@@ -37,5 +38,5 @@ report_for query find docs = record {
   estimate = count_of query find docs;
   upper = count_of query find docs;
   greatest = ceil query find.options.scheme 1 docs;
-  steps = length (hits_of query find docs);
+  steps = sharp query find docs (length (hits_of query find docs));
 }

@@ -95,7 +95,7 @@ fn add_greatests(
 }
 
 /// Whether none of the documents has the term.
-fn is_last(term: &[u8], behind: &Iter<'_, DocId, Doc>) -> bool
+pub fn is_last(term: &[u8], behind: &Iter<'_, DocId, Doc>) -> bool
     ensures { result ≡ not (some_has term.now behind.now) }
 {
     let Ok(behind) = behind.clone() else {

@@ -15,10 +15,10 @@ ghost use Rattle.sk_reference.specs.Shelved.{holds, fields_of};
 
 use crate::shelf::Shelf;
 use sk_asked::query_of;
-use sk_base::{Command, Doc, DocId, Edit, Find, Ranked, Schema};
-use sk_plain::report_of;
+use sk_base::{Command, Doc, DocId, Edit, Find, Schema};
 use sk_query::Query;
 use sk_run::{FindAnswer, Response, Store, refused, response_to, shown};
+use sk_sharp::report_of;
 use sk_steps::Steps;
 use std::alloc::{AllocError, Global};
 use std::collections::BTreeMap;
@@ -105,7 +105,7 @@ fn answer<L: Ledger>(
     }
 }
 
-/// The report of the find. Each hit is one step.
+/// The report of the find. Its steps are the most that the rules allow.
 fn found_for<L: Ledger>(
     alloc: Global,
     docs: &BTreeMap<DocId, Doc>,
@@ -121,15 +121,15 @@ fn found_for<L: Ledger>(
     ensures later { steps.old ≤ steps.new }
 {
     let report = report_of(alloc, docs, query, find)?;
-    count(report.hits.as_slice(), steps);
+    count(report.steps, steps);
     Ok(Response::Own(FindAnswer::Found(find.options.first, report)))
 }
 
-/// Counts one step for each hit.
-fn count<L: Ledger>(hits: &[Ranked], steps: &mut Steps<L>)
-    ensures { steps.new ≡ steps.old + length hits.now }
+/// Counts so many steps.
+fn count<L: Ledger>(all: u128, steps: &mut Steps<L>)
+    ensures { steps.new ≡ steps.old + all }
 {
-    'hits: for _ in hits {
+    'all: for _ in 0..all {
         steps.tick();
     }
 }

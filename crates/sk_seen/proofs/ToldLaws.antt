@@ -22,7 +22,8 @@ use Rattle.sk_model.specs.Matches.{found_by, key_for, key_of}
 use Rattle.sk_model.specs.Page.{best_first, kept, count_key, dropped}
 use Rattle.sk_model.specs.Laws.{kept_number}
 use Rattle.sk_model.proofs.OrderLaws.{best_first_permutation}
-use Rattle.sk_model.specs.Reports.{page_of, IsHit, ReportsFor}
+use Rattle.sk_model.specs.Reports.{page_of, IsHit}
+use Rattle.sk_report.specs.Reports.{ReportsFor}
 use Rattle.sk_model.proofs.CountLaws.{found_within}
 use Rattle.sk_model.proofs.KeptLaws.{kept_alike, kept_front, kept_others, dropped_front, kept_few, kept_each}
 use Rattle.sk_seen.specs.Walks.{page_end, held_by, IsFull, Ended}

@@ -1,8 +1,7 @@
-use Rattle.std.proofs.Common.{rules, ◌≡◌, ◌≢◌, ◌∙◌, sym, subst, ap, nat_le, filter, AllPairs}
+use Rattle.std.proofs.Common.{rules, ◌≡◌, ◌≢◌, ◌∙◌, sym, subst, ap, nat_le, AllPairs}
 use Rattle.std.proofs.lemmas.Fn.{filter_same}
 use Rattle.std.proofs.lemmas.List.Kept.{AllPairs-filter}
 use Rattle.sk_base.specs.declared.rank.Rank.{Rank}
-use Rattle.sk_query.specs.Trees.{query_view}
 use Rattle.sk_model.specs.Matches.{at_least}
 use Rattle.sk_plain.proofs.found.found_by.Goals as goal
 

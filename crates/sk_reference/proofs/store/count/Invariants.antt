@@ -1,6 +1,6 @@
 use Rattle.std.proofs.Common.{◌≡◌, ◌+◌}
 use Rattle.sk_reference.proofs.store.count.Given as goal
 
--- one step for each hit so far
-abbrev pub invariant-hits : goal.invariant-hits
-invariant-hits g l = l.steps ≡ l.fn.steps + l.index
+-- one step for each so far
+abbrev pub invariant-all : goal.invariant-all
+invariant-all g l = l.steps ≡ l.fn.steps + l.counter

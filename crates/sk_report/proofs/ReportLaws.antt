@@ -14,7 +14,8 @@ use Rattle.sk_model.specs.Bounds.{ceil}
 use Rattle.sk_model.specs.Counts.{kept_by, dropped_by}
 use Rattle.sk_model.specs.Settled.{stop_point}
 use Rattle.sk_model.specs.Sharp.{is_plain, flat_lists, ups, stop_number}
-use Rattle.sk_model.specs.Reports.{payload_of, page_of, IsHit, ReportsFor}
+use Rattle.sk_model.specs.Reports.{payload_of, page_of, IsHit}
+use Rattle.sk_report.specs.Reports.{ReportsFor}
 use Rattle.sk_model.proofs.CountLaws.{found_counts, true_collapse}
 
 -- the hits are within the stop number

@@ -1,7 +1,7 @@
 use Rattle.std.proofs.Common.{arith, rules}
 use Rattle.sk_query.specs.Trees.{query_view}
 use Rattle.sk_plain.proofs.ReportLemmas.{few_found, few_kept}
-use Rattle.sk_plain.proofs.page.report_of.Goals as goal
+use Rattle.sk_sharp.proofs.reports.report_of.Goals as goal
 
 pub hits_of-requires-clause-few : goal.hits_of-requires-clause-few
 hits_of-requires-clause-few c =

@@ -5,7 +5,7 @@ ghost use Rattle.sk_base.specs.declared.report.Report.{Report};
 ghost use Rattle.sk_base.specs.Numbers.{Docs};
 ghost use Rattle.sk_query.specs.Trees.{Tree};
 ghost use Rattle.sk_query.specs.Fits.{is_sound};
-ghost use Rattle.sk_model.specs.Reports.{ReportsFor};
+ghost use Rattle.sk_report.specs.Reports.{ReportsFor};
 
 /// A law: whatever a sound query finds, there is a report that it may have. So the conditions on a report never
 /// contradict each other.

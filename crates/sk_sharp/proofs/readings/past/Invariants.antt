@@ -1,0 +1,8 @@
+use Rattle.std.proofs.Common.{◌≡◌, ◌≤◌, ◌+◌, length}
+use Rattle.sk_model.specs.Sharp.{past}
+use Rattle.sk_sharp.proofs.readings.past.Given as goal
+
+-- those that were counted, and those of the documents that are left, are all
+abbrev pub invariant-docs : goal.invariant-docs
+invariant-docs l =
+    (l.count + past l.term l.id l.one-iterator ≡ past l.term l.id l.docs.entries) × (l.count + length l.one-iterator ≤ length l.docs.entries)
