@@ -1,10 +1,12 @@
 -- What nodes give, and what a change and a move leave of it.
-use Rattle.std.proofs.Common.{min, ◌≡◌, ◌≤◌, ◌<◌, ◌+◌, ◌^◌, ℕ, Bool, true, false, Option, None, Some, unwrap_or, if◌then◌else◌, inl, inr, refl, sym, subst, ap, ◌∙◌, arith, rules, le_refl, Box, Global}
+use Rattle.std.proofs.Common.{min, ◌==◌, ◌≡◌, ◌≤◌, ◌<◌, ◌+◌, ◌^◌, ℕ, Bool, true, false, Option, None, Some, unwrap_or, if◌then◌else◌, inl, inr, refl, sym, subst, ap, ◌∙◌, arith, rules, le_refl, Box, Global}
 use Rattle.std.proofs.lemmas.Bool.{cases_lt}
 use Rattle.sk_query.specs.declared.form.Form.{Form}
 use Rattle.sk_model.specs.Covers.{CoversAt, Covers, first_need, second_need}
 use Rattle.sk_model.proofs.CoverLaws.{covers_itself, covers_then}
 use Rattle.sk_index.specs.Indexed.{Indexed}
+use Rattle.sk_decay.specs.declared.change.Change.{Change}
+use Rattle.sk_decay.specs.Changes.{change_of}
 use Rattle.sk_decay.specs.Sides.{paired, greatest_under, is_led, second_target, IsSide}
 use Rattle.sk_decay.specs.Heads.{IsHead, NoneBelow}
 use Rattle.sk_decay.proofs.SideLaws.{paired-covers, paired-bound, paired-led, paired-none}
@@ -14,6 +16,7 @@ use Rattle.sk_nodes.specs.declared.node.Node.TheVariants as Node
 use Rattle.sk_nodes.specs.Leaves.{AtMost}
 use Rattle.sk_nodes.specs.declared.proximity.Proximity.{Proximity}
 use Rattle.sk_nodes.specs.Shapes.{Shape, ended, pair, tested, shape_of, size_of}
+use Rattle.sk_nodes.specs.Decayed.{changed_pair, decayed}
 use Rattle.sk_nodes.specs.Left.{rest, from_on, unread_of}
 use Rattle.sk_nodes.specs.Sound.{IsTop, IsPair, Sound, Decays}
 use Rattle.sk_nodes.proofs.LeafLaws.{from_on-at, from_on-below, from_cases, covers_none}
@@ -355,6 +358,11 @@ sides_more i form target need from further ta0 a0 tb0 b0 ta a tb b ua c ub d far
 
 pub decays_along : (i : Indexed) (need : ℕ) (old new s t : Shape) → old ≡ s → new ≡ t → Decays i need s t → Decays i need old new
 decays_along i need old new s t e f h = subst (λ (o : Shape). Decays i need o new) (sym e) (subst (λ (n : Shape). Decays i need s n) (sym f) h)
+
+-- two sides are changed as the table says
+pub stands_along : (need : ℕ) (old new : Shape) (change : Change) (form : Form) (ta : Top) (a : Shape) (tb : Top) (b : Shape) → old ≡ pair form ta a tb b
+    → change ≡ change_of form ta.greatest tb.greatest (ta.head == 2 ^ 32) (tb.head == 2 ^ 32) need → new ≡ changed_pair change form ta a tb b → new ≡ decayed need old
+stands_along need old new change form ta a tb b e f g = g ∙ ap (λ c. changed_pair c form ta a tb b) f ∙ ap (decayed need) (sym e)
 
 -- a weight that none is above bounds a top
 pub capped_top : (i : Indexed) (t : Top) (s : Shape) (g : ℕ) → IsTop i t s → AtMost g (rest i s) → IsTop i (record t { greatest = min t.greatest g }) s

@@ -18,7 +18,7 @@ use Rattle.sk_nodes.proofs.moves.+seek.Goals as goal
 pub reach-returns-clause-covers : goal.reach-returns-clause-covers
 reach-returns-clause-covers g t c =
     let i = c.args.index.now in
-    covers_more c.args.target c.args.need (rest i (shape_of c.args.node.now)) (rest i (shape_of c.settle.new.node)) (rest i (shape_of c.seek.new.node)) c.settle.ensures.covers c.seek.ensures.covers
+    covers_more c.args.target c.args.need (rest i (shape_of c.args.node.now)) (rest i (shape_of c.settle.new.node)) (rest i (shape_of c.seek.new.node)) c.settle.ensures.decays.covers c.seek.ensures.covers
 
 pub reach-returns-clause-top : goal.reach-returns-clause-top
 reach-returns-clause-top g t c =
