@@ -1,6 +1,8 @@
 -- What nodes give, and what a change and a move leave of it.
-use Rattle.std.proofs.Common.{min, ◌==◌, ◌≡◌, ◌≤◌, ◌<◌, ◌+◌, ◌^◌, ℕ, Bool, true, false, Option, None, Some, unwrap_or, if◌then◌else◌, inl, inr, refl, sym, subst, ap, ◌∙◌, arith, rules, le_refl, Box, Global}
+use Rattle.std.proofs.Common.{min, ◌==◌, ◌≡◌, ◌≤◌, ◌<◌, ◌+◌, ◌^◌, ℕ, Bool, true, false, Option, None, Some, unwrap_or, if◌then◌else◌, inl, inr, refl, sym, subst, ap, ◌∙◌, arith, rules, le_refl, List, length, Box, Vec, Global}
+use Rattle.std.specs.Vec.{with_items}
 use Rattle.std.proofs.lemmas.Bool.{cases_lt}
+use Rattle.std.proofs.lemmas.List.{with_items_is}
 use Rattle.sk_query.specs.declared.form.Form.{Form}
 use Rattle.sk_model.specs.Covers.{CoversAt, Covers, first_need, second_need}
 use Rattle.sk_model.proofs.CoverLaws.{covers_itself, covers_then}
@@ -15,7 +17,7 @@ use Rattle.sk_nodes.specs.declared.node.Node.{Node, the_lemmas}
 use Rattle.sk_nodes.specs.declared.node.Node.TheVariants as Node
 use Rattle.sk_nodes.specs.Leaves.{AtMost}
 use Rattle.sk_nodes.specs.declared.proximity.Proximity.{Proximity}
-use Rattle.sk_nodes.specs.Shapes.{Shape, ended, pair, tested, shape_of, size_of}
+use Rattle.sk_nodes.specs.Shapes.{Shape, ended, pair, odd, tested, shape_of, size_of, sides_on}
 use Rattle.sk_nodes.specs.Decayed.{changed_pair, decayed}
 use Rattle.sk_nodes.specs.Left.{rest, from_on, unread_of}
 use Rattle.sk_nodes.specs.Sound.{IsTop, IsPair, Sound, Decays}
@@ -28,6 +30,9 @@ shape_of-Nothing = search (rules, the_lemmas)
 
 pub shape_of-Pair : (form : Form) (ta tb : Top) (a b : Box Node Global) → shape_of (Node.Pair form ta a tb b) ≡ pair form ta (shape_of a.value) tb (shape_of b.value)
 shape_of-Pair form ta tb a b = search (rules, the_lemmas)
+
+pub shape_of-Odd : (tops : Vec Top Global) (nodes : Vec Node Global) → shape_of (Node.Odd tops nodes) ≡ odd (sides_on tops.items nodes.items)
+shape_of-Odd tops nodes = search (rules, the_lemmas)
 
 pub shape_of-Tested : (p : Proximity) (t : Top) (b : Box Node Global) → shape_of (Node.Tested p t b) ≡ tested p t (shape_of b.value)
 shape_of-Tested p t b = search (rules, the_lemmas)
@@ -287,6 +292,14 @@ parts_shape node form ta tb a b f va vb x y e ef ea eb ex ey = pair_shape node f
 -- a test of a node
 pub tested_shape : (node : Node) (p : Proximity) (t : Top) (b : Box Node Global) (q : Proximity) (u : Top) (x : Node) → node ≡ Node.Tested p t b → q ≡ p → u ≡ t → x ≡ b.value → shape_of node ≡ tested q u (shape_of x)
 tested_shape node p t b q u x e f g h = ap shape_of e ∙ shape_of-Tested p t b ∙ (λ i. tested (sym f i) (sym g i) (shape_of (sym h i)))
+
+-- many sides
+pub odd_shape : (node : Node) (tops : Vec Top Global) (nodes : Vec Node Global) (ts : List Top) (ns : List Node) → node ≡ Node.Odd tops nodes → ts ≡ tops.items → ns ≡ nodes.items → shape_of node ≡ odd (sides_on ts ns)
+odd_shape node tops nodes ts ns e f g = ap shape_of e ∙ shape_of-Odd tops nodes ∙ (λ i. odd (sides_on (sym f i) (sym g i)))
+
+-- the same, where new sides were written over them
+pub odd_written : (v : Vec Top Global) (w : Vec Node Global) (ts : List Top) (ns : List Node) → length ts ≡ v.len → length ns ≡ w.len → shape_of (Node.Odd (with_items v ts) (with_items w ns)) ≡ odd (sides_on ts ns)
+odd_written v w ts ns e f = shape_of-Odd (with_items v ts) (with_items w ns) ∙ (λ i. odd (sides_on (with_items_is v ts e i) (with_items_is w ns f i)))
 
 -- a side alone, and the sides under another form
 pub decays_first : (i : Indexed) (need : ℕ) (form : Form) (ta : Top) (a : Shape) (tb : Top) (b : Shape) (a_ended b_ended : Bool) → (a_ended ≡ true → ta.head ≡ 2 ^ 32) → (b_ended ≡ true → tb.head ≡ 2 ^ 32)
