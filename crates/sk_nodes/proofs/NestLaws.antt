@@ -1,5 +1,5 @@
 -- How nests over terms are opened.
-use Rattle.std.proofs.Common.{◌≡◌, ◌≤◌, ◌<◌, ◌+◌, ◌-◌, ◌⊎◌, ◌++◌, ◌&&◌, ◌||◌, ◌×◌, ℕ, min, nat_le, nat_lt, cond, if◌then◌else◌, Bool, true, false, not, List, [], ◌∷◌, length, map, sum_by, count_by, filter, bytes_eq, is_some, Option, None, Some, inl, inr, refl, sym, subst, ap, ◌∙◌, arith, le_refl}
+use Rattle.std.proofs.Common.{◌≡◌, ◌≤◌, ◌<◌, ◌+◌, ◌-◌, ◌⊎◌, ◌++◌, ◌&&◌, ◌||◌, ℕ, min, nat_le, nat_lt, cond, if◌then◌else◌, Bool, true, false, not, List, [], ◌∷◌, length, map, sum_by, slice_index_or, count_by, bytes_eq, is_some, Option, None, Some, inl, inr, refl, sym, subst, ap, ◌∙◌, arith}
 use Rattle.std.specs.Option.{option_map}
 use Rattle.std.specs.List.{list_any, cons_option, AllByRecursion}
 use Rattle.std.specs.Cmp.Lexicographic.{bytes_decides}
@@ -14,21 +14,19 @@ use Rattle.sk_lists.specs.Seeks.{count_to}
 use Rattle.sk_query.specs.declared.form.Form.{Form}
 use Rattle.sk_query.specs.Trees as Trees
 use Rattle.sk_model.specs.Sharp.{up, ups, terms_in, flat_lists}
-use Rattle.sk_model.specs.Covers.{first_need, second_need}
 use Rattle.sk_dict.specs.Terms.{term_at, number_of}
-use Rattle.sk_chunks.specs.Postings.{Postings}
-use Rattle.sk_lists.specs.Seeks.{count_below}
 use Rattle.sk_model.specs.Documents.{Document}
-use Rattle.sk_model.proofs.HeldLaws.{is_in, without, taken, member}
+use Rattle.sk_model.proofs.HeldLaws.{is_in, member}
 use Rattle.sk_query.specs.Fits.{are_different}
 use Rattle.sk_index.specs.Indexed.{Indexed, postings, AreAllWith}
-use Rattle.sk_nodes.proofs.SynonymLaws.{wild_apart}
+use Rattle.sk_nodes.proofs.SynonymLaws.{wild_apart, only_one}
 use Rattle.sk_nodes.specs.declared.top.Top.{Top}
 use Rattle.sk_nodes.specs.Leaves.{list_in}
 use Rattle.sk_nodes.specs.Shapes.{Shape, ended, leaf, span, pair, odd, tested}
 use Rattle.sk_nodes.specs.Left.{rest}
 use Rattle.sk_nodes.specs.Proximity.{numbered}
-use Rattle.sk_nodes.specs.Opened.{is_nest}
+use Rattle.sk_base.specs.declared.find.Scheme.{Scheme}
+use Rattle.sk_nodes.specs.Opened.{is_nest, joint_form, others_of}
 use Rattle.sk_nodes.specs.Flat.{room_to, IsFlat, IsPlain, IsNest, IsJoint, Stays, entered, PairsNest, OpensNest, OpensFlat, SplitsTerms}
 use Rattle.sk_nodes.proofs.ListLaws.{length-postings}
 use Rattle.sk_nodes.proofs.OpenLaws.{joined, is_xor}
@@ -198,7 +196,7 @@ record InOrder (lists : List (List ℕ)) (front back : Option (List (List ℕ)))
 
 in_order : (ts us : Trees.Trees) (lists : List (List ℕ)) → terms_in (joined ts us) ≡ Some lists → InOrder lists (terms_in ts) (terms_in us)
 in_order Trees.no_trees us lists e = record { first = []; second = lists; front_is = refl; back_is = e; whole = refl }
-in_order (Trees.tree (Trees.term t) ts) us lists e = by (terms_in (joined ts us)) refl e
+in_order (Trees.tree (Trees.term t) ts) us lists e = by (terms_in (joined ts us)) refl e (in_order ts us)
   where
     more : (xs : List (List ℕ)) → lists ≡ t ∷ xs → InOrder xs (terms_in ts) (terms_in us) → InOrder lists (option_map (λ more. t ∷ more) (terms_in ts)) (terms_in us)
     more xs e split = record {
@@ -212,9 +210,10 @@ in_order (Trees.tree (Trees.term t) ts) us lists e = by (terms_in (joined ts us)
     some : (xs : List (List ℕ)) → ◌≡◌ {A = Option (List (List ℕ))} (Some (t ∷ xs)) (Some lists) → lists ≡ t ∷ xs
     some xs e = cc
 
-    by : (o : Option (List (List ℕ))) → terms_in (joined ts us) ≡ o → option_map (λ more. t ∷ more) o ≡ Some lists → InOrder lists (option_map (λ more. t ∷ more) (terms_in ts)) (terms_in us)
-    by None e f = cc
-    by (Some xs) e f = more xs (some xs f) (in_order ts us xs e)
+    by : (o : Option (List (List ℕ))) → terms_in (joined ts us) ≡ o → option_map (λ more. t ∷ more) o ≡ Some lists → ((xs : List (List ℕ)) → terms_in (joined ts us) ≡ Some xs → InOrder xs (terms_in ts) (terms_in us))
+        → InOrder lists (option_map (λ more. t ∷ more) (terms_in ts)) (terms_in us)
+    by None e f rest = cc
+    by (Some xs) e f rest = more xs (some xs f) (rest xs e)
 in_order (Trees.tree _ ts) us lists e = cc
 
 pub split_terms : (whole ts us : Trees.Trees) (lists : List (List ℕ)) → whole ≡ joined ts us → terms_in whole ≡ Some lists → SplitsTerms lists (terms_in ts) (terms_in us)
@@ -283,6 +282,20 @@ or_so : (a b c : Bool) → (a || b) ≡ true → (b ≡ true → c ≡ true) →
 or_so true b c e h = refl
 or_so false b c e h = h e
 
+-- without the first that is this one
+abbrev without : List ℕ → List (List ℕ) → List (List ℕ)
+without t [] = []
+without t (u ∷ us) = cond (bytes_eq u t) us (u ∷ without t us)
+
+taken_step : (f : List ℕ → ℕ) (t u : List ℕ) (us less : List (List ℕ)) (same : Bool) → bytes_eq u t ≡ same → (same || is_in t us) ≡ true → (is_in t us ≡ true → sum_by f us ≡ f t + sum_by f less)
+    → sum_by f (u ∷ us) ≡ f t + sum_by f (cond same us (u ∷ less))
+taken_step f t u us less true e some h = sum_by-cons f u us ∙ ap (λ v. f v + sum_by f us) ((bytes_decides u t).0 e)
+taken_step f t u us less false e some h = omega (arith, sum_by-cons f u us, sum_by-cons f u less, h some)
+
+taken : (f : List ℕ → ℕ) (t : List ℕ) (us : List (List ℕ)) → is_in t us ≡ true → sum_by f us ≡ f t + sum_by f (without t us)
+taken f t [] some = absurd (true≢false (sym some))
+taken f t (u ∷ us) some = taken_step f t u us (without t us) (bytes_eq u t) refl some (taken f t us)
+
 still_step : (t j u : List ℕ) (us less : List (List ℕ)) (same : Bool) → bytes_eq u t ≡ same → bytes_eq t j ≡ false → (bytes_eq u j || is_in j us) ≡ true → (is_in j us ≡ true → is_in j less ≡ true)
     → is_in j (cond same us (u ∷ less)) ≡ true
 still_step t j u us less true e apart some h = sym (ap (λ v. bytes_eq v j || is_in j us) ((bytes_decides u t).0 e) ∙ ap (λ b. b || is_in j us) apart) ∙ some
@@ -315,21 +328,21 @@ sum_among f (t ∷ ts) us apart among =
     let here = both_true (not (list_any (λ other. bytes_eq t other) ts)) (are_different ts) apart in
     elim (cases_lt 0 (f t)) as (λ _. sum_by f (t ∷ ts) ≤ sum_by f us) [
       | inl some ↦
-        let more = sum_among f ts (without t us) here.1 (still_among f t ts us here.0 among.1) in
-        omega (arith, sum_by-cons f t ts, taken f t us (among.0 some), more)
+          let more = sum_among f ts (without t us) here.1 (still_among f t ts us here.0 among.1) in
+          omega (arith, sum_by-cons f t ts, taken f t us (among.0 some), more)
       | inr none ↦
-        let more = sum_among f ts us here.1 among.1 in
-        omega (arith, sum_by-cons f t ts, none, more)
+          let more = sum_among f ts us here.1 among.1 in
+          omega (arith, sum_by-cons f t ts, none, more)
     ]
 
 -- a term that no document has
 none_counts : (t : List ℕ) (docs : Docs) → some_has t docs ≡ false → postings t docs ≡ []
 none_counts t [] h = refl
-none_counts t (one ∷ more) h = by (has_term t one.1.terms) refl
+none_counts t (one ∷ more) h = by (has_term t one.1.terms) refl (none_counts t more)
   where
-    by : (b : Bool) → has_term t one.1.terms ≡ b → cons_option (if b then Some (one.0, wdf_of t one.1.terms) else None) (postings t more) ≡ []
-    by true e = absurd (true≢false (sym (ap (λ c. c || some_has t more) e) ∙ h))
-    by false e = none_counts t more (sym (ap (λ c. c || some_has t more) e) ∙ h)
+    by : (b : Bool) → has_term t one.1.terms ≡ b → (some_has t more ≡ false → postings t more ≡ []) → cons_option (if b then Some (one.0, wdf_of t one.1.terms) else None) (postings t more) ≡ []
+    by true e rest = absurd (true≢false (sym (ap (λ c. c || some_has t more) e) ∙ h))
+    by false e rest = rest (sym (ap (λ c. c || some_has t more) e) ∙ h)
 
 none_entered : (t : List ℕ) (id : ℕ) (docs : Docs) → some_has t docs ≡ false → min 1 (length_of t docs) + up t id docs ≡ 0
 none_entered t id docs h =
@@ -352,7 +365,7 @@ module _ (i : Indexed) (prefix : List ℕ) (ns : List ℕ) (are : AreAllWith pre
   pub entered-wild : entered (map (term_at i.terms) ns) id i.live.documents ≤ entered (terms_with prefix i.live.documents) id i.live.documents
   entered-wild =
       let sum = sum_among (λ t. min 1 (length_of t i.live.documents) + up t id i.live.documents) (map (term_at i.terms) ns) (terms_with prefix i.live.documents) (wild_apart (term_at i.terms) ns are.rising)
-          (wild_among ns (recursion_from_All (λ n. begins_with (term_at i.terms n) prefix ≡ true) ns are.begins)) in
+      (wild_among ns (recursion_from_All (λ n. begins_with (term_at i.terms n) prefix ≡ true) ns are.begins)) in
       omega (arith, sum, entered-sum (map (term_at i.terms) ns) id i.live.documents, entered-sum (terms_with prefix i.live.documents) id i.live.documents)
 
 -- what was opened for other terms
@@ -362,3 +375,53 @@ other_opens i form s lists others before after joint less opens = nest_opens i f
   nest = opens.nest;
   account = λ point. let p = opens.account point in let q = less point in omega (arith, p, q);
 })
+
+-- ---- by their names
+
+pub named_nest : (i : Indexed) (form : Form) (s : Shape) (t u : List ℕ) (before after : ℕ) → t ≡ u → OpensNest i form s (t ∷ []) before after → OpensNest i form s (u ∷ []) before after
+named_nest i form s t u before after e opens = subst (λ (t : List ℕ). OpensNest i form s (t ∷ []) before after) e opens
+
+pub one_nest : (i : Indexed) (form : Form) (s : Shape) (ns : List ℕ) (n before after : ℕ) → length ns ≡ 1 → n ≡ slice_index_or ns 0 n → OpensNest i form s (term_at i.terms n ∷ []) before after
+    → OpensNest i form s (map (term_at i.terms) ns) before after
+one_nest i form s ns n before after e f opens = subst (λ (ms : List ℕ). OpensNest i form s (map (term_at i.terms) ms) before after) (sym (only_one ns n e f)) opens
+
+pub joint_joint : (scheme : Scheme) → IsJoint (joint_form scheme)
+joint_joint Scheme.Bool = inr refl
+joint_joint Scheme.Coord = inr refl
+joint_joint Scheme.Nnn = inl refl
+
+pub joint_others : (form : Form) → IsJoint form → others_of form ≡ form
+joint_others form (inl e) = ap others_of e ∙ sym e
+joint_others form (inr e) = ap others_of e ∙ sym e
+
+-- the two halves of terms that count as one
+pub halves_nest : (i : Indexed) (form : Form) (scheme : Scheme) (a b s : Shape) (lists first second : List (List ℕ)) (s0 s1 s2 s3 : ℕ) → form ≡ joint_form scheme
+    → OpensNest i (joint_form scheme) a first s0 s1 → OpensNest i (joint_form scheme) b second s1 s2 → (IsJoint form → IsNest form a → IsNest form b → PairsNest i form a b s s2 s3)
+    → lists ≡ first ++ second → OpensNest i (joint_form scheme) s lists s0 s3
+halves_nest i form scheme a b s lists first second s0 s1 s2 s3 is one two both whole =
+    joined_nest i (joint_form scheme) a b s lists first second s0 s1 s2 s3 one two
+    (subst (λ (f : Form). IsJoint f → IsNest f a → IsNest f b → PairsNest i f a b s s2 s3) is both (joint_joint scheme) one.nest two.nest) (inl whole)
+
+pub numbered_entered : (i : Indexed) (ts us : List (List ℕ)) (point : ℕ) → ts ≡ numbered i us → entered ts point i.live.documents ≤ entered us point i.live.documents
+numbered_entered i ts us point e = subst (λ (vs : List (List ℕ)). entered vs point i.live.documents ≤ entered us point i.live.documents) (sym e) (entered-numbered i us point i.live.documents)
+
+pub wild_entered : (i : Indexed) (prefix ns ms : List ℕ) → AreAllWith prefix i.terms i.live.documents ns → (point : ℕ) → ms ≡ ns
+    → entered (map (term_at i.terms) ms) point i.live.documents ≤ entered (terms_with prefix i.live.documents) point i.live.documents
+wild_entered i prefix ns ms are point e =
+    subst (λ (ks : List ℕ). entered (map (term_at i.terms) ks) point i.live.documents ≤ entered (terms_with prefix i.live.documents) point i.live.documents) (sym e) (entered-wild i prefix ns are point)
+
+-- ---- a query of one term
+
+pub term_opens : (i : Indexed) (form : Form) (s : Shape) (query : Trees.Tree) (t u : List ℕ) (before after : ℕ) → query ≡ Trees.term t → query ≡ Trees.term u → OpensNest i form s (t ∷ []) before after → OpensNest i form s (u ∷ []) before after
+term_opens i form s query t u before after e f opens = named_nest i form s t u before after (same (sym e ∙ f)) opens
+  where
+    same : Trees.term t ≡ Trees.term u → t ≡ u
+    same e = cc
+
+pub term_flat : (i : Indexed) (s : Shape) (query : Trees.Tree) (t : List ℕ) (lists : List (List ℕ)) (before after : ℕ) → query ≡ Trees.term t → flat_lists query i.live.documents ≡ Some lists → OpensNest i Form.Or s (t ∷ []) before after
+    → OpensFlat i s lists before after
+term_flat i s query t lists before after e f opens =
+    subst (λ (ts : List (List ℕ)). OpensFlat i s ts before after) (same (sym (ap (λ q. flat_lists q i.live.documents) e) ∙ f)) (nest_opens i Form.Or s (t ∷ []) before after (inl refl) opens)
+  where
+    same : ◌≡◌ {A = Option (List (List ℕ))} (Some (t ∷ [])) (Some lists) → t ∷ [] ≡ lists
+    same e = cc

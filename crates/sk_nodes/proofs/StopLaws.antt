@@ -7,7 +7,7 @@ use Rattle.sk_index.specs.Indexed.{Indexed}
 use Rattle.sk_decay.specs.declared.change.Change.{Change}
 use Rattle.sk_decay.specs.declared.meeting.Meeting.{Meeting}
 use Rattle.sk_decay.specs.Changes.{change_of, LeadsByNeed}
-use Rattle.sk_decay.specs.Heads.{IsHead, NoneBelow, GoesOnOnly}
+use Rattle.sk_decay.specs.Heads.{NoneBelow, GoesOnOnly}
 use Rattle.sk_decay.specs.Sides.{paired, is_led, second_target}
 use Rattle.sk_lists.specs.Seeks.{count_to}
 use Rattle.sk_nodes.specs.declared.top.Top.{Top}
@@ -18,7 +18,6 @@ use Rattle.sk_nodes.specs.Left.{rest, from_on}
 use Rattle.sk_nodes.specs.Sound.{IsTop}
 use Rattle.sk_nodes.specs.Decayed.{changed_pair, decayed}
 use Rattle.sk_nodes.proofs.LeafLaws.{from_on-at}
-use Rattle.sk_nodes.proofs.NodeLaws.{pair_covers}
 use Rattle.sk_nodes.specs.Stops.{MayMove}
 use Rattle.sk_nodes.specs.Flat.{room_to, IsFlatForm, IsFlat, IsPlain, IsAtLeast, MayGo, Stays}
 
@@ -202,10 +201,13 @@ pub flat-mono : (s : Shape) (m n : ℕ) → m ≤ n → IsFlat m s → IsFlat n 
 flat-mono ended m n le flat = tt
 flat-mono (leaf l) m n le flat = tt
 flat-mono (span r) m n le flat = flat
-flat-mono (pair form ta a tb b) m n le flat =
-    (form_mono form m n le flat.0,
-    (flat-mono a (first_need form m tb.greatest) (first_need form n tb.greatest) (first_need-mono form m n tb.greatest tb.greatest le (le_refl tb.greatest)) flat.1.0,
-    flat-mono b (second_need form m ta.greatest) (second_need form n ta.greatest) (second_need-mono form m n ta.greatest ta.greatest le (le_refl ta.greatest)) flat.1.1))
+flat-mono (pair form ta a tb b) m n le flat = (
+  form_mono form m n le flat.0,
+  (
+    flat-mono a (first_need form m tb.greatest) (first_need form n tb.greatest) (first_need-mono form m n tb.greatest tb.greatest le (le_refl tb.greatest)) flat.1.0,
+    flat-mono b (second_need form m ta.greatest) (second_need form n ta.greatest) (second_need-mono form m n ta.greatest ta.greatest le (le_refl ta.greatest)) flat.1.1,
+  ),
+)
 flat-mono (odd ss) m n le flat = flat
 flat-mono (tested p t s) m n le flat = flat
 
@@ -453,9 +455,13 @@ module _ (i : Indexed) (form : Form) (from need before between after : ℕ) (ta 
   paid_first point flat may = stays.flat_paid (first_need form need tb.greatest) point (le_refl (first_need form need tb.greatest)) flat.1.0 (goes_first point flat may)
 
   flat_first : IsFlat need (pair form ta a tb b) → IsFlat need (pair form ua c tb b)
-  flat_first flat =
-      (flat.0, (stays.flat (first_need form need tb.greatest) (le_refl (first_need form need tb.greatest)) flat.1.0,
-      flat-mono b (second_need form need ta.greatest) (second_need form need ua.greatest) (second_need-mono form need need ta.greatest ua.greatest (le_refl need) first_falls) flat.1.1))
+  flat_first flat = (
+    flat.0,
+    (
+      stays.flat (first_need form need tb.greatest) (le_refl (first_need form need tb.greatest)) flat.1.0,
+      flat-mono b (second_need form need ta.greatest) (second_need form need ua.greatest) (second_need-mono form need need ta.greatest ua.greatest (le_refl need) first_falls) flat.1.1,
+    ),
+  )
 
   -- the first alone, where the form is led and it has ended
   pub round_ended : is_led form ≡ true → Stays i from need before between (pair form ta a tb b) (pair form ua c tb b)
@@ -487,9 +493,13 @@ module _ (i : Indexed) (form : Form) (from need before between after : ℕ) (ta 
         omega (arith, one, two)
 
     flat_both : IsFlat need (pair form ta a tb b) → IsFlat need (pair form ua c ub d)
-    flat_both flat =
-        (flat.0, (flat-mono c (first_need form need tb.greatest) (first_need form need ub.greatest) (first_need-mono form need need tb.greatest ub.greatest (le_refl need) second_falls) (flat_first flat).1.0,
-        stays_b.flat (second_need form need ua.greatest) (le_refl (second_need form need ua.greatest)) (flat_first flat).1.1))
+    flat_both flat = (
+      flat.0,
+      (
+        flat-mono c (first_need form need tb.greatest) (first_need form need ub.greatest) (first_need-mono form need need tb.greatest ub.greatest (le_refl need) second_falls) (flat_first flat).1.0,
+        stays_b.flat (second_need form need ua.greatest) (le_refl (second_need form need ua.greatest)) (flat_first flat).1.1,
+      ),
+    )
 
     plain_both : (point : ℕ) → IsPlain (pair form ta a tb b) → from ≤ point + 1 → after + (room_to i point c + room_to i point d) ≤ before + (room_to i point a + room_to i point b)
     plain_both point plain le =
@@ -563,3 +573,9 @@ stops_sought i old new last need target point most before after ceiling rising e
     let paid = stays.flat_paid last point rising flat may in (inl (stays.flat last rising flat), omega (arith, paid, account))
 stops_sought i old new last need target point most before after ceiling rising enough lt stays (inr plain) account (inr may) =
     let paid = stays.plain_paid point plain (may_target point target need (rest i old point) lt may) in (inr (stays.plain plain), omega (arith, paid, account))
+
+-- one that has ended
+pub stops_closed : (i : Indexed) (old new : Shape) (need point most spent : ℕ) → new ≡ ended → spent + room_to i point old ≤ most → (IsFlat need new ⊎ IsPlain new) × (spent + room_to i point new ≤ most)
+stops_closed i old new need point most spent is account =
+    let none : room_to i point new ≡ 0 = ap (room_to i point) is in
+    (inl (subst (λ (s : Shape). IsFlat need s) (sym is) tt), omega (arith, none, account))

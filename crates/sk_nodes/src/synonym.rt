@@ -1,5 +1,5 @@
 //! How the node of terms that count as one is opened: those of a synonym, and those that begin with a prefix.
-ghost use Rattle.std.specs.Prelude.{◌≡◌, ◌≤◌, ◌<◌, ◌+◌, ◌^◌, ℕ, true, map, min, All, IfOk, length, Option};
+ghost use Rattle.std.specs.Prelude.{◌≡◌, ◌≤◌, ◌<◌, ◌+◌, ◌^◌, ℕ, true, map, ◌++◌, min, All, IfOk, length, Option};
 ghost use Rattle.sk_base.specs.declared.find.Scheme.{Scheme};
 ghost use Rattle.sk_base.specs.Loads.{IsLight};
 ghost use Rattle.sk_base.specs.Numbers.{length_of, terms_with};
@@ -211,6 +211,7 @@ fn split_numbers<'a>(
     ensures front_shorter { length result.0.now < length numbers.now }
     ensures back_shorter { length result.1.now < length numbers.now }
     ensures scores { (o : Option Document) → score_of (QueryTree.synonym (map (term_at index.now.terms) numbers.now)) scheme _factor o ≡ paired (joint_form scheme) (score_of (QueryTree.synonym (map (term_at index.now.terms) result.0.now)) scheme _factor o) (score_of (QueryTree.synonym (map (term_at index.now.terms) result.1.now)) scheme _factor o) }
+    ensures terms { map (term_at index.now.terms) numbers.now ≡ map (term_at index.now.terms) result.0.now ++ map (term_at index.now.terms) result.1.now }
     ensures readings { lengths_of (map (term_at index.now.terms) numbers.now) index.now.live.documents ≡ lengths_of (map (term_at index.now.terms) result.0.now) index.now.live.documents + lengths_of (map (term_at index.now.terms) result.1.now) index.now.live.documents }
 {
     let count = numbers.len();

@@ -4,7 +4,6 @@ use Rattle.std.proofs.lemmas.List.{places}
 use Rattle.sk_model.specs.Covers.{Covers}
 use Rattle.sk_nodes.specs.declared.top.Top.{Top}
 use Rattle.sk_nodes.specs.declared.node.Node.{Node}
-use Rattle.sk_nodes.specs.declared.node.Node.TheVariants as Node
 use Rattle.sk_nodes.specs.Shapes.{Shape, Sides, ended, pair, odd, tested, shape_of, sides_on, sizes_in}
 use Rattle.sk_nodes.specs.Left.{rest, from_on, greatest_sum, unread_in}
 use Rattle.sk_nodes.specs.Sound.{IsTop, Sound, AreSound}
@@ -16,7 +15,7 @@ use Rattle.sk_nodes.specs.Proximity.{entries_from}
 use Rattle.sk_nodes.proofs.ProximityLaws.{test_begun, moved_all, moved_covers, passed_top, passed_sound, passed_covers, none_top, failed_ended_covers, failed_more}
 use Rattle.sk_nodes.specs.Flat.{Stays}
 use Rattle.sk_nodes.proofs.NodeLaws.{pair_covers, odd_shape, odd_written}
-use Rattle.sk_nodes.proofs.StopLaws.{stays_same, stays_gone, stays_decayed, stays_along, stays_begun, stays_then, stays_on, stays_other, round_stays, round_ended}
+use Rattle.sk_nodes.proofs.StopLaws.{stays_same, stays_decayed, stays_along, stays_begun, stays_then, stays_on, stays_other, round_stays, round_ended}
 use Rattle.sk_nodes.proofs.moves.+seek.Goals as goal
 
 pub reach-returns-clause-covers : goal.reach-returns-clause-covers
