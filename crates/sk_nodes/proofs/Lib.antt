@@ -10,3 +10,5 @@ pub mod OddLaws
 pub mod ProximityLaws
 pub mod StandingLaws
 pub mod WordLaws
+pub mod StopLaws
+pub mod NestLaws

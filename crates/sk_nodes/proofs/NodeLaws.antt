@@ -1,10 +1,14 @@
 -- What nodes give, and what a change and a move leave of it.
-use Rattle.std.proofs.Common.{min, ◌≡◌, ◌≤◌, ◌<◌, ◌+◌, ◌^◌, ℕ, Bool, true, false, Option, None, Some, unwrap_or, if◌then◌else◌, inl, inr, refl, sym, subst, ap, ◌∙◌, arith, rules, le_refl, Box, Global}
+use Rattle.std.proofs.Common.{min, ◌==◌, ◌≡◌, ◌≤◌, ◌<◌, ◌+◌, ◌^◌, ℕ, Bool, true, false, Option, None, Some, unwrap_or, if◌then◌else◌, inl, inr, refl, sym, subst, ap, ◌∙◌, arith, rules, le_refl, List, length, Box, Vec, Global}
+use Rattle.std.specs.Vec.{with_items}
 use Rattle.std.proofs.lemmas.Bool.{cases_lt}
+use Rattle.std.proofs.lemmas.List.{with_items_is}
 use Rattle.sk_query.specs.declared.form.Form.{Form}
 use Rattle.sk_model.specs.Covers.{CoversAt, Covers, first_need, second_need}
 use Rattle.sk_model.proofs.CoverLaws.{covers_itself, covers_then}
 use Rattle.sk_index.specs.Indexed.{Indexed}
+use Rattle.sk_decay.specs.declared.change.Change.{Change}
+use Rattle.sk_decay.specs.Changes.{change_of}
 use Rattle.sk_decay.specs.Sides.{paired, greatest_under, is_led, second_target, IsSide}
 use Rattle.sk_decay.specs.Heads.{IsHead, NoneBelow}
 use Rattle.sk_decay.proofs.SideLaws.{paired-covers, paired-bound, paired-led, paired-none}
@@ -13,7 +17,8 @@ use Rattle.sk_nodes.specs.declared.node.Node.{Node, the_lemmas}
 use Rattle.sk_nodes.specs.declared.node.Node.TheVariants as Node
 use Rattle.sk_nodes.specs.Leaves.{AtMost}
 use Rattle.sk_nodes.specs.declared.proximity.Proximity.{Proximity}
-use Rattle.sk_nodes.specs.Shapes.{Shape, ended, pair, tested, shape_of, size_of}
+use Rattle.sk_nodes.specs.Shapes.{Shape, ended, pair, odd, tested, shape_of, size_of, sides_on}
+use Rattle.sk_nodes.specs.Decayed.{changed_pair, decayed}
 use Rattle.sk_nodes.specs.Left.{rest, from_on, unread_of}
 use Rattle.sk_nodes.specs.Sound.{IsTop, IsPair, Sound, Decays}
 use Rattle.sk_nodes.proofs.LeafLaws.{from_on-at, from_on-below, from_cases, covers_none}
@@ -25,6 +30,9 @@ shape_of-Nothing = search (rules, the_lemmas)
 
 pub shape_of-Pair : (form : Form) (ta tb : Top) (a b : Box Node Global) → shape_of (Node.Pair form ta a tb b) ≡ pair form ta (shape_of a.value) tb (shape_of b.value)
 shape_of-Pair form ta tb a b = search (rules, the_lemmas)
+
+pub shape_of-Odd : (tops : Vec Top Global) (nodes : Vec Node Global) → shape_of (Node.Odd tops nodes) ≡ odd (sides_on tops.items nodes.items)
+shape_of-Odd tops nodes = search (rules, the_lemmas)
 
 pub shape_of-Tested : (p : Proximity) (t : Top) (b : Box Node Global) → shape_of (Node.Tested p t b) ≡ tested p t (shape_of b.value)
 shape_of-Tested p t b = search (rules, the_lemmas)
@@ -285,6 +293,14 @@ parts_shape node form ta tb a b f va vb x y e ef ea eb ex ey = pair_shape node f
 pub tested_shape : (node : Node) (p : Proximity) (t : Top) (b : Box Node Global) (q : Proximity) (u : Top) (x : Node) → node ≡ Node.Tested p t b → q ≡ p → u ≡ t → x ≡ b.value → shape_of node ≡ tested q u (shape_of x)
 tested_shape node p t b q u x e f g h = ap shape_of e ∙ shape_of-Tested p t b ∙ (λ i. tested (sym f i) (sym g i) (shape_of (sym h i)))
 
+-- many sides
+pub odd_shape : (node : Node) (tops : Vec Top Global) (nodes : Vec Node Global) (ts : List Top) (ns : List Node) → node ≡ Node.Odd tops nodes → ts ≡ tops.items → ns ≡ nodes.items → shape_of node ≡ odd (sides_on ts ns)
+odd_shape node tops nodes ts ns e f g = ap shape_of e ∙ shape_of-Odd tops nodes ∙ (λ i. odd (sides_on (sym f i) (sym g i)))
+
+-- the same, where new sides were written over them
+pub odd_written : (v : Vec Top Global) (w : Vec Node Global) (ts : List Top) (ns : List Node) → length ts ≡ v.len → length ns ≡ w.len → shape_of (Node.Odd (with_items v ts) (with_items w ns)) ≡ odd (sides_on ts ns)
+odd_written v w ts ns e f = shape_of-Odd (with_items v ts) (with_items w ns) ∙ (λ i. odd (sides_on (with_items_is v ts e i) (with_items_is w ns f i)))
+
 -- a side alone, and the sides under another form
 pub decays_first : (i : Indexed) (need : ℕ) (form : Form) (ta : Top) (a : Shape) (tb : Top) (b : Shape) (a_ended b_ended : Bool) → (a_ended ≡ true → ta.head ≡ 2 ^ 32) → (b_ended ≡ true → tb.head ≡ 2 ^ 32)
     → Sound i (pair form ta a tb b) → ((v w : Option ℕ) → IsSide ta.greatest a_ended v → IsSide tb.greatest b_ended w → CoversAt (paired form v w) v need)
@@ -355,6 +371,11 @@ sides_more i form target need from further ta0 a0 tb0 b0 ta a tb b ua c ub d far
 
 pub decays_along : (i : Indexed) (need : ℕ) (old new s t : Shape) → old ≡ s → new ≡ t → Decays i need s t → Decays i need old new
 decays_along i need old new s t e f h = subst (λ (o : Shape). Decays i need o new) (sym e) (subst (λ (n : Shape). Decays i need s n) (sym f) h)
+
+-- two sides are changed as the table says
+pub stands_along : (need : ℕ) (old new : Shape) (change : Change) (form : Form) (ta : Top) (a : Shape) (tb : Top) (b : Shape) → old ≡ pair form ta a tb b
+    → change ≡ change_of form ta.greatest tb.greatest (ta.head == 2 ^ 32) (tb.head == 2 ^ 32) need → new ≡ changed_pair change form ta a tb b → new ≡ decayed need old
+stands_along need old new change form ta a tb b e f g = g ∙ ap (λ c. changed_pair c form ta a tb b) f ∙ ap (decayed need) (sym e)
 
 -- a weight that none is above bounds a top
 pub capped_top : (i : Indexed) (t : Top) (s : Shape) (g : ℕ) → IsTop i t s → AtMost g (rest i s) → IsTop i (record t { greatest = min t.greatest g }) s

@@ -1,5 +1,5 @@
 -- The sides of an xor: what they give together, and how far they have come.
-use Rattle.std.proofs.Common.{◌≡◌, ◌≤◌, ◌<◌, ◌+◌, ◌^◌, ℕ, zero, suc, min, Bool, true, false, not, if◌then◌else◌, List, [], ◌∷◌, ◌++◌, length, take, drop, Option, None, Some, unwrap_or, refl, sym, subst, ap, ◌∙◌, arith, le_refl, inl, inr}
+use Rattle.std.proofs.Common.{◌≡◌, ◌≤◌, ◌<◌, ◌+◌, ◌^◌, ℕ, zero, suc, Bool, true, false, not, if◌then◌else◌, List, [], ◌∷◌, ◌++◌, length, take, drop, Option, None, Some, unwrap_or, refl, sym, subst, ap, ◌∙◌, arith, le_refl, inl, inr}
 use Rattle.std.specs.List.{IsFirstAndRest}
 use Rattle.std.proofs.lemmas.Bool.{cases_lt}
 use Rattle.std.proofs.lemmas.Bool.Decides.{nat_tests}
@@ -15,7 +15,7 @@ use Rattle.sk_nodes.specs.declared.node.Node.{Node}
 use Rattle.sk_nodes.specs.declared.odd.Tally.{Tally}
 use Rattle.sk_nodes.specs.Shapes.{Shape, odd, Sides, no_sides, side, shape_of, sides_on, sizes_in}
 use Rattle.sk_nodes.specs.Left.{rest, rests, from_on, greatest_sum, unread_in}
-use Rattle.sk_nodes.specs.Sound.{IsTop, IsOdd, Sound, AreSound}
+use Rattle.sk_nodes.specs.Sound.{IsTop, IsOdd, AreSound}
 use Rattle.sk_nodes.specs.Opened.{OpensSides}
 use Rattle.sk_model.specs.Documents.{Document}
 use Rattle.sk_model.specs.Edits.{document_at}

@@ -14,7 +14,7 @@ use Rattle.sk_model.specs.Documents.{Document}
 use Rattle.sk_model.specs.Combining.{both, either, sum_of_all, sum_of_any, where_so, with_more, combined}
 use Rattle.sk_model.specs.Scores.{score, scores}
 use Rattle.sk_model.specs.Bounds.{sum_in, greatest_in, first_in, ceil_of, ceil, ceils}
-use Rattle.sk_model.specs.Allowance.{leaf_readings, leaves_readings}
+use Rattle.sk_model.specs.Allowance.{leaves_readings}
 use Rattle.sk_model.proofs.CombiningLaws.{both-end, either-end, greater-end, sum_of_all-append, sum_of_any-append, greatest_score-append, not_others}
 use Rattle.sk_model.proofs.CoverLaws.{two_xor}
 use Rattle.sk_model.proofs.WeightLaws.{ceil_small}

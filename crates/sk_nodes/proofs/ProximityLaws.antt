@@ -4,7 +4,7 @@ use mathlib.Core.Bool.{true≢false}
 use Rattle.std.specs.List.{AllByRecursion}
 use Rattle.std.proofs.lemmas.Bool.{cases_lt}
 use Rattle.std.proofs.lemmas.List.Elements.{All-from_recursion}
-use Rattle.sk_sorted.specs.Entries.{RiseAbove, AreSorted, from, found, has}
+use Rattle.sk_sorted.specs.Entries.{RiseAbove, from, found, has}
 use Rattle.sk_sorted.proofs.EntryLaws.{from-below, from-at, found-other, found-below}
 use Rattle.sk_chunks.specs.Postings.{Postings}
 use Rattle.sk_model.specs.Combining.{where_so}
@@ -19,7 +19,7 @@ use Rattle.sk_nodes.specs.Shapes.{Shape, ended, tested, size_of}
 use Rattle.sk_nodes.specs.Left.{rest, from_on}
 use Rattle.sk_nodes.specs.Proximity.{stand, positions_at, holds, entries_from, AreInOrder, IsInAll, AreThere, CanTest, IsSameTest}
 use Rattle.sk_nodes.specs.Sound.{IsTop, IsTested, Sound}
-use Rattle.sk_nodes.proofs.LeafLaws.{from_on-at, from_on-below, from_on-none, covers_none}
+use Rattle.sk_nodes.proofs.LeafLaws.{from_on-at, from_on-none, covers_none}
 use Rattle.sk_nodes.proofs.NodeLaws.{IsHead-none, goes_on_covers, ended_top}
 
 -- ---- what passes a test

@@ -8,22 +8,21 @@ use Rattle.sk_base.specs.declared.find.Scheme.{Scheme}
 use Rattle.sk_base.specs.declared.doc_entry.DocTerm.{DocTerm}
 use Rattle.sk_base.specs.Documents.{has_term, wdf_of, positions_of}
 use Rattle.sk_base.specs.Numbers.{Docs, length_of, some_has}
-use Rattle.sk_sorted.specs.Entries.{AreSorted, from, found, has}
+use Rattle.sk_sorted.specs.Entries.{AreSorted, from, has}
 use Rattle.sk_sorted.proofs.EntryLaws.{from-at, found-here, found-other}
 use Rattle.sk_dict.specs.Terms.{term_at, number_of}
 use Rattle.sk_chunks.specs.Postings.{Postings}
 use Rattle.sk_query.specs.declared.form.Form.{Form}
-use Rattle.sk_query.specs.Trees as Query
-use Rattle.sk_query.specs.Fits.{is_given, are_given, is_window, is_sound, are_sound, leaves_in}
+use Rattle.sk_query.specs.Fits.{is_given, are_given, is_window, are_sound, leaves_in}
 use Rattle.sk_model.specs.Documents.{Document}
 use Rattle.sk_model.specs.Edits.{document_at}
 use Rattle.sk_model.specs.Weights.{weigh_by}
-use Rattle.sk_model.specs.Combining.{both, sum_of_all, where_so, combined}
-use Rattle.sk_model.specs.Scores.{score, scores, term_score, terms_weight, weight_if, places_of}
-use Rattle.sk_model.specs.Bounds.{sum_in, term_ceil, terms_ceil, lengths_of, ceil, ceils}
-use Rattle.sk_model.specs.Allowance.{leaf_readings, leaves_readings}
+use Rattle.sk_model.specs.Combining.{both, sum_of_all, where_so}
+use Rattle.sk_model.specs.Scores.{score, scores, terms_weight, weight_if, places_of}
+use Rattle.sk_model.specs.Bounds.{sum_in, terms_ceil, lengths_of, ceils}
+use Rattle.sk_model.specs.Allowance.{leaves_readings}
 use Rattle.sk_model.proofs.HeldLaws.{Have, near_have, phrase_have}
-use Rattle.sk_index.specs.Indexed.{Indexed, postings, term_positions, AreNumbered}
+use Rattle.sk_index.specs.Indexed.{Indexed, term_positions, AreNumbered}
 use Rattle.sk_nodes.specs.declared.top.Top.{Top}
 use Rattle.sk_nodes.specs.declared.proximity.Standing.{Standing}
 use Rattle.sk_nodes.specs.declared.proximity.Proximity.{Proximity}
@@ -32,7 +31,7 @@ use Rattle.sk_nodes.specs.Shapes.{Shape}
 use Rattle.sk_nodes.specs.Left.{rest}
 use Rattle.sk_nodes.specs.Sound.{IsTop, Sound, IsTested}
 use Rattle.sk_nodes.specs.Opened.{count_in, score_of, joint_score_of, parts_size, term_trees, AreParts, Opens}
-use Rattle.sk_nodes.specs.Proximity.{standing_query, stand, positions_at, holds, entries_from, numbered, AreThere, AreInOrder, IsInAll, CanTest}
+use Rattle.sk_nodes.specs.Proximity.{standing_query, stand, holds, entries_from, numbered, AreThere, AreInOrder, IsInAll}
 use Rattle.sk_nodes.proofs.ListLaws.{wdf_at, found-postings, length-postings}
 
 -- ---- terms as parts

@@ -1,5 +1,5 @@
 -- Terms that count as one, two by two.
-use Rattle.std.proofs.Common.{◌≡◌, ◌≤◌, ◌<◌, ◌+◌, ◌-◌, ◌*◌, ◌^◌, ◌||◌, ◌&&◌, ℕ, suc, min, nat_lt, take, drop, slice_index_or, Bool, true, false, not, cond, List, [], ◌∷◌, ◌++◌, length, map, sum_by, bytes_eq, All, AllPairs, Option, None, Some, is_some, unwrap_or, refl, sym, subst, ap, ◌∙◌, arith, le_refl}
+use Rattle.std.proofs.Common.{◌≡◌, ◌≤◌, ◌<◌, ◌+◌, ◌-◌, ◌*◌, ◌^◌, ◌||◌, ◌&&◌, ℕ, suc, min, nat_lt, take, drop, slice_index_or, Bool, true, false, not, cond, List, [], ◌∷◌, ◌++◌, length, map, sum_by, bytes_eq, All, AllPairs, Option, None, Some, is_some, unwrap_or, refl, sym, subst, ap, ◌∙◌, arith}
 use mathlib.Core.Bool.{true≢false}
 use Rattle.std.specs.List.{list_any, AllByRecursion}
 use Rattle.std.specs.Cmp.Lexicographic.{bytes_decides}
@@ -12,7 +12,7 @@ use Rattle.sk_base.specs.declared.find.Scheme.{Scheme}
 use Rattle.sk_base.specs.declared.doc_entry.DocTerm.{DocTerm}
 use Rattle.sk_base.specs.Documents.{has_term, wdf_of}
 use Rattle.sk_base.specs.Loads.{load_of, IsLight}
-use Rattle.sk_base.specs.Numbers.{Docs, length_of, greatest_of, some_has, terms_with, wild_greatest_of}
+use Rattle.sk_base.specs.Numbers.{Docs, length_of, greatest_of, terms_with, wild_greatest_of}
 use Rattle.sk_sorted.proofs.EntryLaws.{AllByRecursion-found}
 use Rattle.sk_dict.specs.Terms.{term_at, number_of, Precedes}
 use Rattle.sk_query.specs.Trees as Trees
@@ -162,25 +162,25 @@ module _ (i : Indexed) (ns fs bs : List ℕ) (n : ℕ) (e : fs ≡ take n ns) (f
   whole : ns ≡ fs ++ bs
   whole = halves ns fs bs n e f
 
-  named : map (term_at i.terms) ns ≡ map (term_at i.terms) fs ++ map (term_at i.terms) bs
-  named = ap (map (term_at i.terms)) whole ∙ named-append (term_at i.terms) fs bs
+  pub halves_named : map (term_at i.terms) ns ≡ map (term_at i.terms) fs ++ map (term_at i.terms) bs
+  halves_named = ap (map (term_at i.terms)) whole ∙ named-append (term_at i.terms) fs bs
 
   pub halves_there : AreThere i ns → AreThere i fs × AreThere i bs
   halves_there there = there-append i fs bs (subst (λ (xs : List ℕ). AreThere i xs) whole there)
 
   pub halves_apart : are_different (map (term_at i.terms) ns) ≡ true → (are_different (map (term_at i.terms) fs) ≡ true) × (are_different (map (term_at i.terms) bs) ≡ true)
-  halves_apart apart = apart-append (map (term_at i.terms) fs) (map (term_at i.terms) bs) (ap are_different (sym named) ∙ apart)
+  halves_apart apart = apart-append (map (term_at i.terms) fs) (map (term_at i.terms) bs) (ap are_different (sym halves_named) ∙ apart)
 
   pub halves_scores : (scheme : Scheme) (factor : ℕ) (o : Option Document)
       → score_of (Trees.synonym (map (term_at i.terms) ns)) scheme factor o ≡ paired (joint_form scheme) (score_of (Trees.synonym (map (term_at i.terms) fs)) scheme factor o) (score_of (Trees.synonym (map (term_at i.terms) bs)) scheme factor o)
-  halves_scores scheme factor o = ap (λ ts. score_of (Trees.synonym ts) scheme factor o) named ∙ synonym-split scheme factor (map (term_at i.terms) fs) (map (term_at i.terms) bs) o
+  halves_scores scheme factor o = ap (λ ts. score_of (Trees.synonym ts) scheme factor o) halves_named ∙ synonym-split scheme factor (map (term_at i.terms) fs) (map (term_at i.terms) bs) o
 
   pub halves_readings : lengths_of (map (term_at i.terms) ns) i.live.documents ≡ lengths_of (map (term_at i.terms) fs) i.live.documents + lengths_of (map (term_at i.terms) bs) i.live.documents
-  halves_readings = ap (λ ts. lengths_of ts i.live.documents) named ∙ lengths_of-append (map (term_at i.terms) fs) (map (term_at i.terms) bs) i.live.documents
+  halves_readings = ap (λ ts. lengths_of ts i.live.documents) halves_named ∙ lengths_of-append (map (term_at i.terms) fs) (map (term_at i.terms) bs) i.live.documents
 
 -- ---- of one term, and of none
 
-only_one : (ns : List ℕ) (n : ℕ) → length ns ≡ 1 → n ≡ slice_index_or ns 0 n → ns ≡ n ∷ []
+pub only_one : (ns : List ℕ) (n : ℕ) → length ns ≡ 1 → n ≡ slice_index_or ns 0 n → ns ≡ n ∷ []
 only_one [] n e f = absurd (omega (arith, e))
 only_one (m ∷ []) n e f = ap (λ (x : ℕ). x ∷ []) (sym f)
 only_one (m ∷ k ∷ ns) n e f = absurd (omega (arith, e))

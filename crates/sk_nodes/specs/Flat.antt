@@ -1,8 +1,10 @@
 -- Nodes of terms alone that read no list behind a point by more than one entry.
-use Rattle.std.specs.Prelude.{◌≡◌, ◌≤◌, ◌<◌, ◌+◌, ◌-◌, ◌^◌, ◌⊎◌, ℕ, Option, None, Some}
+use Rattle.std.specs.Prelude.{◌≡◌, ◌≤◌, ◌<◌, ◌+◌, ◌-◌, ◌^◌, ◌⊎◌, ◌++◌, ℕ, min, List, [], ◌∷◌, Option, None, Some}
+use Rattle.sk_base.specs.Numbers.{Docs, length_of}
 use Rattle.sk_lists.specs.Seeks.{count_to}
 use Rattle.sk_query.specs.declared.form.Form.{Form}
 use Rattle.sk_model.specs.Covers.{first_need, second_need}
+use Rattle.sk_model.specs.Sharp.{up, ups}
 use Rattle.sk_index.specs.Indexed.{Indexed}
 use Rattle.sk_nodes.specs.Leaves.{entries_of}
 use Rattle.sk_nodes.specs.Shapes.{Shape, ended, leaf, span, pair, odd, tested}
@@ -61,3 +63,44 @@ pub record Stays (i : Indexed) (target need : ℕ) (before after : ℕ) (old new
   pub flat_paid : (last point : ℕ) → last ≤ need → IsFlat last old → MayGo point target need (rest i old point) → after + room_to i point new ≤ before + room_to i point old
   pub plain : IsPlain old → IsPlain new
   pub plain_paid : (point : ℕ) → IsPlain old → target ≤ point + 1 → after + room_to i point new ≤ before + room_to i point old
+
+-- Leaves, and nodes of two sides under this form alone, nested to any depth.
+abbrev pub IsNest : Form → Shape → Type 0
+IsNest form ended = Unit {0}
+IsNest form (leaf l) = Unit {0}
+IsNest form (span r) = ⊥
+IsNest form (pair other ta a tb b) = (other ≡ form) × (IsNest form a × IsNest form b)
+IsNest form (odd ss) = ⊥
+IsNest form (tested p t s) = ⊥
+
+-- The forms that leave out no document of either side.
+abbrev pub IsJoint : Form → Type 0
+IsJoint form = (form ≡ Form.Or) ⊎ (form ≡ Form.Max)
+
+-- A nest of two nests was opened, with this spent before and after.
+pub record PairsNest (i : Indexed) (form : Form) (a b s : Shape) (before after : ℕ) : Type 0 where
+  pub nest : IsNest form s
+  pub account : (point : ℕ) → after + room_to i point s ≤ before + (room_to i point a + room_to i point b)
+
+-- Of each list its postings up to an id, and one reading where it has any.
+abbrev pub entered : List (List ℕ) → ℕ → Docs → ℕ
+entered [] id docs = 0
+entered (t ∷ ts) id docs = (min 1 (length_of t docs) + up t id docs) + entered ts id docs
+
+-- A nest over these terms was opened, with this spent before and after.
+pub record OpensNest (i : Indexed) (form : Form) (s : Shape) (lists : List (List ℕ)) (before after : ℕ) : Type 0 where
+  pub nest : IsNest form s
+  pub account : (point : ℕ) → after + room_to i point s ≤ before + entered lists point i.live.documents
+
+-- A node of terms alone was opened: no more is spent and left up to a point than each list has up to it, and one entry more.
+pub record OpensFlat (i : Indexed) (s : Shape) (lists : List (List ℕ)) (before after : ℕ) : Type 0 where
+  pub shape : IsFlat 0 s ⊎ IsPlain s
+  pub account : (point : ℕ) → after + room_to i point s ≤ before + ups lists point i.live.documents
+
+-- The terms were split into two pieces, one before the other.
+pub record SplitsTerms (lists : List (List ℕ)) (front back : Option (List (List ℕ))) : Type 0 where
+  pub first : List (List ℕ)
+  pub second : List (List ℕ)
+  pub front_is : front ≡ Some first
+  pub back_is : back ≡ Some second
+  pub whole : (lists ≡ first ++ second) ⊎ (lists ≡ second ++ first)

@@ -5,9 +5,8 @@ use Rattle.sk_model.specs.Combining.{sum_of_any, number_matching, is_odd}
 use Rattle.sk_index.specs.Indexed.{Indexed}
 use Rattle.sk_decay.specs.declared.meeting.Meeting.{Meeting}
 use Rattle.sk_decay.specs.Heads.{IsHead, GoesOn}
-use Rattle.sk_nodes.specs.declared.top.Top.{Top}
 use Rattle.sk_nodes.specs.declared.odd.Tally.{Tally}
-use Rattle.sk_nodes.specs.Shapes.{Shape, Sides, no_sides, side, odd}
+use Rattle.sk_nodes.specs.Shapes.{Sides, no_sides, side, odd}
 use Rattle.sk_nodes.specs.Left.{rest, from_on}
 
 -- One side was sought from the target on, by what holds of the others.

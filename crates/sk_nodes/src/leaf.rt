@@ -1,7 +1,8 @@
 //! The entries of one list, with what they weigh.
-ghost use Rattle.std.specs.Prelude.{◌≡◌, ◌≤◌, ◌<◌, ◌+◌, ◌^◌, ℕ, length};
+ghost use Rattle.std.specs.Prelude.{◌≡◌, ◌≤◌, ◌<◌, ◌+◌, ◌^◌, ℕ, min, length};
 ghost use Rattle.sk_sorted.specs.Entries.{AreSorted};
 ghost use Rattle.sk_runs.specs.Runs.{flat};
+ghost use Rattle.sk_lists.specs.Seeks.{count_to};
 ghost use Rattle.sk_model.specs.Covers.{Covers};
 ghost use Rattle.sk_index.specs.Indexed.{Indexed, runs_in};
 ghost use Rattle.sk_nodes.specs.Leaves.{list_in, weighed, leaf_rest, leaf_unread, leaf_greatest, IsThere, entries_of, head_of, IsLeafOn, AreLight, IsLeafTop};
@@ -49,6 +50,7 @@ impl Leaf {
         ensures top { IsLeafTop index.now top.new result }
         ensures gives { (id : ℕ) → leaf_rest index.now result id ≡ weighed factor scheme (list_in index.now number) id }
         ensures ceiling { top.new.greatest ≤ leaf_greatest factor scheme (list_in index.now number) }
+        ensures begins { (point : ℕ) → spent.new + count_to point (entries_of index.now result) ≤ spent.old + (min 1 (length (list_in index.now number)) + count_to point (list_in index.now number)) }
         ensures paid { spent.new + leaf_unread index.now result ≤ spent.old + length (list_in index.now number) }
         ensures counted { steps.new + spent.old ≡ steps.old + spent.new }
         ensures later { spent.old ≤ spent.new }
@@ -88,6 +90,7 @@ impl Leaf {
         ensures covers { Covers (from_on target (leaf_rest index.now self.old)) (leaf_rest index.now self.new) need }
         ensures reached { target ≤ top.new.head }
         ensures falls { top.new.greatest ≤ self.old.greatest }
+        ensures moves { (point : ℕ) → target ≤ point + 1 → spent.new + count_to point (entries_of index.now self.new) ≤ spent.old + count_to point (entries_of index.now self.old) }
         ensures paid { spent.new + leaf_unread index.now self.new ≤ spent.old + leaf_unread index.now self.old }
         ensures counted { steps.new + spent.old ≡ steps.old + spent.new }
         ensures later { spent.old ≤ spent.new }

@@ -5,6 +5,7 @@ ghost use Rattle.sk_decay.specs.Sides.{paired, greatest_under};
 ghost use Rattle.sk_nodes.specs.Shapes.{pair, odd, tested, shape_of, size_of, sides_on, sizes_in};
 ghost use Rattle.sk_nodes.specs.Left.{rest, from_on, unread_of, unread_in, greatest_sum};
 ghost use Rattle.sk_nodes.specs.Sound.{IsTop, IsPair, IsOdd, IsTested, Sound, AreSound};
+ghost use Rattle.sk_nodes.specs.Flat.{Stays};
 ghost use Rattle.sk_nodes.specs.Odd.{AreSought, AreFrom};
 ghost use Rattle.sk_nodes.specs.Proximity.{entries_from};
 
@@ -43,6 +44,7 @@ pub(crate) fn reach<L: Ledger>(
     ensures paid { spent.new + unread_of index.now (shape_of node.new) ≤ spent.old + unread_of index.now (shape_of node.old) }
     ensures counted { steps.new + spent.old ≡ steps.old + spent.new }
     ensures later { spent.old ≤ spent.new }
+    ensures stays { Stays index.now target need spent.old spent.new (shape_of node.old) (shape_of node.new) }
 {
     if target <= top.head {
         return;
@@ -81,6 +83,7 @@ fn seek<L: Ledger>(
     ensures paid { spent.new + unread_of index.now (shape_of node.new) ≤ spent.old + unread_of index.now (shape_of node.old) }
     ensures counted { steps.new + spent.old ≡ steps.old + spent.new }
     ensures later { spent.old ≤ spent.new }
+    ensures stays { Stays index.now target need spent.old spent.new (shape_of node.old) (shape_of node.new) }
 {
     match node {
         Node::Leaf(leaf) => leaf.seek(top, index, target, need, spent, steps),
@@ -110,6 +113,7 @@ fn seek_inner<L: Ledger>(
     ensures paid { spent.new + unread_of index.now (shape_of node.new) ≤ spent.old + unread_of index.now (shape_of node.old) }
     ensures counted { steps.new + spent.old ≡ steps.old + spent.new }
     ensures later { spent.old ≤ spent.new }
+    ensures stays { Stays index.now target need spent.old spent.new (shape_of node.old) (shape_of node.new) }
 {
     match node {
         Node::Nothing => *top = Top::ended(),
@@ -153,6 +157,7 @@ pub(crate) fn seek_pair<L: Ledger>(
     ensures paid { spent.new + (unread_of index.now (shape_of a.new) + unread_of index.now (shape_of b.new)) ≤ spent.old + (unread_of index.now (shape_of a.old) + unread_of index.now (shape_of b.old)) }
     ensures counted { steps.new + spent.old ≡ steps.old + spent.new }
     ensures later { spent.old ≤ spent.new }
+    ensures stays { Stays index.now target need spent.old spent.new (pair form ta.old (shape_of a.old) tb.old (shape_of b.old)) (pair form ta.new (shape_of a.new) tb.new (shape_of b.new)) }
 {
     let mut from = target;
     'sides: loop {

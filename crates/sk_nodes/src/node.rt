@@ -1,6 +1,7 @@
 //! The nodes of a tree, and what may stand for one under a need.
-ghost use Rattle.std.specs.Prelude.{◌≡◌};
+ghost use Rattle.std.specs.Prelude.{◌≡◌, true};
 ghost use Rattle.sk_nodes.specs.Shapes.{shape_of};
+ghost use Rattle.sk_nodes.specs.Decayed.{decayed};
 ghost use Rattle.sk_nodes.specs.Sound.{Sound, Decays};
 
 use crate::leaf::Leaf;
@@ -28,7 +29,8 @@ pub(crate) enum Node {
 #[inline(always)]
 pub(crate) fn settle(node: &mut Node, index: &Index, need: u64)
     requires { Sound index.now (shape_of node.old) }
-    ensures { Decays index.now need (shape_of node.old) (shape_of node.new) }
+    ensures decays { Decays index.now need (shape_of node.old) (shape_of node.new) }
+    ensures stands { shape_of node.new ≡ decayed need (shape_of node.old) }
 {
     if is_settled(node, need) {
         return;
@@ -38,7 +40,9 @@ pub(crate) fn settle(node: &mut Node, index: &Index, need: u64)
 
 // Neither side has ended, or weighs too little by itself.
 #[inline(always)]
-fn is_settled(node: &Node, need: u64) -> bool {
+fn is_settled(node: &Node, need: u64) -> bool
+    ensures { result ≡ true → decayed need (shape_of node.now) ≡ shape_of node.now }
+{
     match node {
         Node::Nothing => true,
         Node::Leaf(_) => true,
@@ -54,7 +58,8 @@ fn is_settled(node: &Node, need: u64) -> bool {
 #[inline(never)]
 fn decay(node: &mut Node, _index: &Index, need: u64)
     requires { Sound _index.now (shape_of node.old) }
-    ensures { Decays _index.now need (shape_of node.old) (shape_of node.new) }
+    ensures decays { Decays _index.now need (shape_of node.old) (shape_of node.new) }
+    ensures stands { shape_of node.new ≡ decayed need (shape_of node.old) }
 {
     match node {
         Node::Nothing => {}

@@ -1,5 +1,5 @@
 //! How the node of a query is opened.
-ghost use Rattle.std.specs.Prelude.{◌≡◌, ◌≤◌, ◌<◌, ◌+◌, ◌^◌, ◌&&◌, ℕ, true, ◌++◌, All, IfOk, IfSome, IfNone, length, Option};
+ghost use Rattle.std.specs.Prelude.{◌≡◌, ◌≤◌, ◌<◌, ◌+◌, ◌^◌, ◌&&◌, ℕ, min, true, false, List, [], ◌∷◌, ◌++◌, All, IfOk, IfSome, IfNone, length, Option, Some};
 ghost use Rattle.sk_base.specs.declared.find.Scheme.{Scheme};
 ghost use Rattle.sk_base.specs.Loads.{IsLight};
 ghost use Rattle.sk_base.specs.Numbers.{Docs, length_of};
@@ -13,11 +13,14 @@ ghost use Rattle.sk_model.specs.Documents.{Document};
 ghost use Rattle.sk_model.specs.Combining.{combined, where_so};
 ghost use Rattle.sk_model.specs.Bounds.{sum_in, ceil, ceils, ceil_of, term_ceil, terms_ceil, lengths_of};
 ghost use Rattle.sk_model.specs.Allowance.{leaf_readings, leaves_readings};
+ghost use Rattle.sk_model.specs.Sharp.{terms_in, flat_lists};
+ghost use Rattle.sk_lists.specs.Seeks.{count_to};
 ghost use Rattle.sk_decay.specs.Sides.{paired, greatest_under};
 ghost use Rattle.sk_nodes.specs.Leaves.{IsThere, list_in, weighed, leaf_greatest};
 ghost use Rattle.sk_nodes.specs.Shapes.{odd, no_sides, side, shape_of, sides_on};
 ghost use Rattle.sk_nodes.specs.Left.{rest, rests, unread_of, unread_in, greatest_sum};
 ghost use Rattle.sk_nodes.specs.Sound.{IsTop, IsOdd, IsTested, Sound, AreSound};
+ghost use Rattle.sk_nodes.specs.Flat.{room_to, IsNest, IsJoint, PairsNest, OpensNest, OpensFlat, SplitsTerms};
 ghost use Rattle.sk_nodes.specs.Odd.{followed_by};
 ghost use Rattle.sk_nodes.specs.Proximity.{standing_query, holds, entries_from};
 ghost use Rattle.sk_nodes.specs.Opened.{count_in, score_of, part_scores, is_nest, OpensSides, joint_score_of, others_of, query_size, parts_size, AreParts, Opens};
@@ -67,6 +70,8 @@ pub(crate) fn open_node<L: Ledger>(
     ensures later { spent.old ≤ spent.new }
     ensures room { IfOk result (λ p. spent.new ≤ most.new) }
     ensures small { most.new < 2 ^ 128 }
+    ensures alone { IfOk result (λ p. (t : List ℕ) (form : Form) → query_view query.now ≡ QueryTree.term t → OpensNest index.now form (shape_of p.1) (t ∷ []) spent.old spent.new) }
+    ensures flat { IfOk result (λ p. (lists : List (List ℕ)) → flat_lists (query_view query.now) index.now.live.documents ≡ Some lists → OpensFlat index.now (shape_of p.1) lists spent.old spent.new) }
 {
     if let Some((form, parts)) = parts_of(query, factor) {
         return open_parts(
@@ -259,6 +264,7 @@ fn open_parts<L: Ledger>(
     ensures later { spent.old ≤ spent.new }
     ensures room { IfOk result (λ p. spent.new ≤ most.new) }
     ensures small { most.new < 2 ^ 128 }
+    ensures nest { IfOk result (λ p. (lists : List (List ℕ)) → IsJoint form → terms_in (queries_view parts.now) ≡ Some lists → OpensNest index.now form (shape_of p.1) lists spent.old spent.new) }
 {
     if let Some(part) = only_part(form, parts, factor) {
         return open_node(alloc, index, part, scheme, factor, most, spent, steps);
@@ -363,6 +369,7 @@ fn odd_parts(form: Form, parts: &[Query], _factor: u64) -> Option<&[Query]>
     requires factor { _factor ≤ 65536 }
     requires parts { AreParts form _factor (queries_view parts.now) }
     ensures nest { IfNone result (is_nest form (count_in (queries_view parts.now)) ≡ true) }
+    ensures odd { IfSome result (λ sides. is_nest form (count_in (queries_view parts.now)) ≡ false) }
     ensures parts { IfSome result (λ sides. AreParts Form.Xor _factor (queries_view sides.now)) }
     ensures size { IfSome result (λ sides. parts_size (queries_view sides.now) ≡ parts_size (queries_view parts.now)) }
     ensures scores { IfSome result (λ sides. (scheme : Scheme) (o : Option Document) → joint_score_of form (queries_view parts.now) scheme _factor o ≡ combined Form.Xor (part_scores (queries_view sides.now) scheme _factor o)) }
@@ -409,6 +416,7 @@ fn parts_of(query: &Query, _factor: u64) -> Option<(Form, &[Query])>
     requires sound { is_sound _factor (query_view query.now) ≡ true }
     requires leaves { leaves_of (query_view query.now) ≤ 1024 }
     ensures parts { IfSome result (λ p. AreParts p.0 _factor (queries_view p.1.now)) }
+    ensures is { IfSome result (λ p. query_view query.now ≡ QueryTree.parts p.0 (queries_view p.1.now)) }
     ensures size { IfSome result (λ p. query_size (query_view query.now) ≡ 1 + parts_size (queries_view p.1.now)) }
     ensures scores { IfSome result (λ p. (scheme : Scheme) (o : Option Document) → score_of (query_view query.now) scheme _factor o ≡ joint_score_of p.0 (queries_view p.1.now) scheme _factor o) }
     ensures ceiling { IfSome result (λ p. (scheme : Scheme) (docs : Docs) → ceil (query_view query.now) scheme _factor docs ≡ ceil_of p.0 (ceils (queries_view p.1.now) scheme _factor docs)) }
@@ -458,6 +466,7 @@ fn split_parts<'a>(
     ensures ceiling { (scheme : Scheme) (docs : Docs) → greatest_under form (ceil_of form (ceils (queries_view result.0.now) scheme _factor docs)) (ceil_of (others_of form) (ceils (queries_view result.1.now) scheme _factor docs)) ≤ ceil_of form (ceils (queries_view parts.now) scheme _factor docs) }
     ensures fits { (scheme : Scheme) (docs : Docs) → All IsLight docs → ceil_of form (ceils (queries_view result.0.now) scheme _factor docs) + ceil_of (others_of form) (ceils (queries_view result.1.now) scheme _factor docs) < 2 ^ 63 }
     ensures readings { (docs : Docs) → leaves_readings (queries_view parts.now) docs ≡ leaves_readings (queries_view result.0.now) docs + leaves_readings (queries_view result.1.now) docs }
+    ensures terms { (lists : List (List ℕ)) → terms_in (queries_view parts.now) ≡ Some lists → SplitsTerms lists (terms_in (queries_view result.0.now)) (terms_in (queries_view result.1.now)) }
 {
     match form {
         Form::And => split_and(index, parts, _factor),
@@ -484,6 +493,7 @@ fn split_and<'a>(index: &Index, parts: &'a [Query], _factor: u64) -> (&'a [Query
     ensures ceiling { (scheme : Scheme) (docs : Docs) → greatest_under Form.And (ceil_of Form.And (ceils (queries_view result.0.now) scheme _factor docs)) (ceil_of (others_of Form.And) (ceils (queries_view result.1.now) scheme _factor docs)) ≤ ceil_of Form.And (ceils (queries_view parts.now) scheme _factor docs) }
     ensures fits { (scheme : Scheme) (docs : Docs) → All IsLight docs → ceil_of Form.And (ceils (queries_view result.0.now) scheme _factor docs) + ceil_of (others_of Form.And) (ceils (queries_view result.1.now) scheme _factor docs) < 2 ^ 63 }
     ensures readings { (docs : Docs) → leaves_readings (queries_view parts.now) docs ≡ leaves_readings (queries_view result.0.now) docs + leaves_readings (queries_view result.1.now) docs }
+    ensures terms { (lists : List (List ℕ)) → terms_in (queries_view parts.now) ≡ Some lists → SplitsTerms lists (terms_in (queries_view result.0.now)) (terms_in (queries_view result.1.now)) }
 {
     if is_longer(index, parts) {
         let (first, others) = parts.split_at(1);
@@ -514,6 +524,7 @@ fn split_in_order(form: Form, parts: &[Query], _factor: u64) -> (&[Query], &[Que
     ensures ceiling { (scheme : Scheme) (docs : Docs) → greatest_under form (ceil_of form (ceils (queries_view result.0.now) scheme _factor docs)) (ceil_of (others_of form) (ceils (queries_view result.1.now) scheme _factor docs)) ≤ ceil_of form (ceils (queries_view parts.now) scheme _factor docs) }
     ensures fits { (scheme : Scheme) (docs : Docs) → All IsLight docs → ceil_of form (ceils (queries_view result.0.now) scheme _factor docs) + ceil_of (others_of form) (ceils (queries_view result.1.now) scheme _factor docs) < 2 ^ 63 }
     ensures readings { (docs : Docs) → leaves_readings (queries_view parts.now) docs ≡ leaves_readings (queries_view result.0.now) docs + leaves_readings (queries_view result.1.now) docs }
+    ensures terms { (lists : List (List ℕ)) → terms_in (queries_view parts.now) ≡ Some lists → SplitsTerms lists (terms_in (queries_view result.0.now)) (terms_in (queries_view result.1.now)) }
 {
     let count = parts.len();
     parts.split_at(split_of(form, count))
@@ -594,6 +605,7 @@ fn open_term<L: Ledger>(
     ensures later { spent.old ≤ spent.new }
     ensures room { IfOk result (λ p. spent.new ≤ most.new) }
     ensures small { most.new < 2 ^ 128 }
+    ensures nest { IfOk result (λ p. (form : Form) → OpensNest index.now form (shape_of p.1) (word.now ∷ []) spent.old spent.new) }
 {
     match index.number_of(word.as_str().as_bytes()) {
         None => Ok((Top::ended(), Node::Nothing)),
@@ -626,6 +638,7 @@ pub(crate) fn open_numbered<L: Ledger>(
     ensures later { spent.old ≤ spent.new }
     ensures room { IfOk result (λ p. spent.new ≤ most.new) }
     ensures small { most.new < 2 ^ 128 }
+    ensures nest { IfOk result (λ p. (form : Form) → OpensNest index.now form (shape_of p.1) (term_at index.now.terms number ∷ []) spent.old spent.new) }
 {
     let (top, node) = open_leaf(index, Some(number), scheme, factor, most, spent, steps)?;
     Ok((top, node))
@@ -656,6 +669,8 @@ fn open_leaf<L: Ledger>(
     ensures later { spent.old ≤ spent.new }
     ensures room { IfOk result (λ p. spent.new ≤ most.new) }
     ensures small { most.new < 2 ^ 128 }
+    ensures alone { IfOk result (λ p. (form : Form) → IsNest form (shape_of p.1)) }
+    ensures begins { IfOk result (λ p. (point : ℕ) → spent.new + room_to index.now point (shape_of p.1) ≤ spent.old + (min 1 (length (list_in index.now number)) + count_to point (list_in index.now number))) }
 {
     let length = list_length(index, number);
     raise(most, length)?;
@@ -690,6 +705,7 @@ pub(crate) fn pair_of<L: Ledger>(
     ensures paid { IfOk result (λ p. spent.new + unread_of index.now (shape_of p.1) ≤ spent.old + (unread_of index.now (shape_of a) + unread_of index.now (shape_of b))) }
     ensures counted { steps.new + spent.old ≡ steps.old + spent.new }
     ensures later { spent.old ≤ spent.new }
+    ensures nest { IfOk result (λ p. IsJoint form → IsNest form (shape_of a) → IsNest form (shape_of b) → PairsNest index.now form (shape_of a) (shape_of b) (shape_of p.1) spent.old spent.new) }
 {
     let mut top = Top::ended();
     seek_pair(

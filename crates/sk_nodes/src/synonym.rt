@@ -1,10 +1,11 @@
 //! How the node of terms that count as one is opened: those of a synonym, and those that begin with a prefix.
-ghost use Rattle.std.specs.Prelude.{◌≡◌, ◌≤◌, ◌<◌, ◌+◌, ◌^◌, ℕ, true, map, min, All, IfOk, length, Option};
+ghost use Rattle.std.specs.Prelude.{◌≡◌, ◌≤◌, ◌<◌, ◌+◌, ◌^◌, ℕ, true, map, ◌++◌, min, All, IfOk, length, Option};
 ghost use Rattle.sk_base.specs.declared.find.Scheme.{Scheme};
 ghost use Rattle.sk_base.specs.Loads.{IsLight};
-ghost use Rattle.sk_base.specs.Numbers.{length_of};
+ghost use Rattle.sk_base.specs.Numbers.{length_of, terms_with};
 ghost use Rattle.sk_sorted.specs.Entries.{AreSorted};
 ghost use Rattle.sk_dict.specs.Terms.{term_at};
+ghost use Rattle.sk_query.specs.declared.form.Form.TheVariants as Form;
 ghost use Rattle.sk_query.specs.Trees as QueryTree;
 ghost use Rattle.sk_query.specs.Trees.{query_view};
 ghost use Rattle.sk_query.specs.Fits.{is_sound, leaves_of, are_different};
@@ -14,6 +15,7 @@ ghost use Rattle.sk_model.specs.Allowance.{leaf_readings};
 ghost use Rattle.sk_decay.specs.Sides.{paired};
 ghost use Rattle.sk_nodes.specs.Shapes.{shape_of};
 ghost use Rattle.sk_nodes.specs.Left.{unread_of};
+ghost use Rattle.sk_nodes.specs.Flat.{OpensNest, OpensFlat};
 ghost use Rattle.sk_nodes.specs.Proximity.{AreThere};
 ghost use Rattle.sk_nodes.specs.Opened.{score_of, joint_form, Opens};
 
@@ -59,6 +61,7 @@ pub(crate) fn open_synonym<L: Ledger>(
     ensures later { spent.old ≤ spent.new }
     ensures room { IfOk result (λ p. spent.new ≤ most.new) }
     ensures small { most.new < 2 ^ 128 }
+    ensures flat { IfOk result (λ p. OpensFlat index.now (shape_of p.1) words.now spent.old spent.new) }
 {
     let numbers = numbers_of(alloc, index, words)?;
     let (top, node) = open_joint(
@@ -102,6 +105,7 @@ pub(crate) fn open_wildcard<L: Ledger>(
     ensures later { spent.old ≤ spent.new }
     ensures room { IfOk result (λ p. spent.new ≤ most.new) }
     ensures small { most.new < 2 ^ 128 }
+    ensures flat { IfOk result (λ p. OpensFlat index.now (shape_of p.1) (terms_with prefix.now index.now.live.documents) spent.old spent.new) }
 {
     let numbers = index.with_prefix(prefix.as_str().as_bytes())?;
     let (top, node) = open_joint(
@@ -144,6 +148,7 @@ fn open_joint<L: Ledger>(
     ensures later { spent.old ≤ spent.new }
     ensures room { IfOk result (λ p. spent.new ≤ most.new) }
     ensures small { most.new < 2 ^ 128 }
+    ensures nest { IfOk result (λ p. OpensNest index.now (joint_form scheme) (shape_of p.1) (map (term_at index.now.terms) numbers.now) spent.old spent.new) }
 {
     if numbers.is_empty() {
         return Ok((Top::ended(), Node::Nothing));
@@ -182,6 +187,7 @@ fn open_one<L: Ledger>(
     ensures later { spent.old ≤ spent.new }
     ensures room { IfOk result (λ p. spent.new ≤ most.new) }
     ensures small { most.new < 2 ^ 128 }
+    ensures nest { IfOk result (λ p. (form : Form) → OpensNest index.now form (shape_of p.1) (map (term_at index.now.terms) numbers.now) spent.old spent.new) }
 {
     let number = numbers[0];
     let (top, node) = open_numbered(index, number, scheme, factor, most, spent, steps)?;
@@ -205,6 +211,7 @@ fn split_numbers<'a>(
     ensures front_shorter { length result.0.now < length numbers.now }
     ensures back_shorter { length result.1.now < length numbers.now }
     ensures scores { (o : Option Document) → score_of (QueryTree.synonym (map (term_at index.now.terms) numbers.now)) scheme _factor o ≡ paired (joint_form scheme) (score_of (QueryTree.synonym (map (term_at index.now.terms) result.0.now)) scheme _factor o) (score_of (QueryTree.synonym (map (term_at index.now.terms) result.1.now)) scheme _factor o) }
+    ensures terms { map (term_at index.now.terms) numbers.now ≡ map (term_at index.now.terms) result.0.now ++ map (term_at index.now.terms) result.1.now }
     ensures readings { lengths_of (map (term_at index.now.terms) numbers.now) index.now.live.documents ≡ lengths_of (map (term_at index.now.terms) result.0.now) index.now.live.documents + lengths_of (map (term_at index.now.terms) result.1.now) index.now.live.documents }
 {
     let count = numbers.len();

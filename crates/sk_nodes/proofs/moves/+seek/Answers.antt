@@ -1,10 +1,10 @@
 -- Two sides, how far they have come and where they meet.
-use Rattle.std.proofs.Common.{◌≡◌, ◌^◌, ◌++◌, refl, sym, subst, ap, ◌∙◌, Box, Global, arith}
+use Rattle.std.proofs.Common.{◌≡◌, ◌^◌, ◌++◌, refl, sym, subst, ap, ◌∙◌, Box, Vec, Global, arith, rules}
+use Rattle.std.proofs.lemmas.List.{places}
 use Rattle.sk_model.specs.Covers.{Covers}
 use Rattle.sk_nodes.specs.declared.top.Top.{Top}
 use Rattle.sk_nodes.specs.declared.node.Node.{Node}
-use Rattle.sk_nodes.specs.declared.node.Node.TheVariants as Node
-use Rattle.sk_nodes.specs.Shapes.{Shape, Sides, ended, pair, tested, shape_of, sides_on, sizes_in}
+use Rattle.sk_nodes.specs.Shapes.{Shape, Sides, ended, pair, odd, tested, shape_of, sides_on, sizes_in}
 use Rattle.sk_nodes.specs.Left.{rest, from_on, greatest_sum, unread_in}
 use Rattle.sk_nodes.specs.Sound.{IsTop, Sound, AreSound}
 use Rattle.sk_nodes.specs.Odd.{AreFrom, AreSought, followed_by}
@@ -13,12 +13,15 @@ use Rattle.sk_nodes.proofs.NodeLaws.{covers_more, capped_top, shape_of-Nothing, 
 use Rattle.sk_nodes.proofs.OddLaws.{weights_fit, odd_covers, odd_more, odd_top, sides_split, sides_append, both_sound, sound_behind, from_behind, sought_behind, greatest_behind, unread_behind, sizes_behind, some_sizes}
 use Rattle.sk_nodes.specs.Proximity.{entries_from}
 use Rattle.sk_nodes.proofs.ProximityLaws.{test_begun, moved_all, moved_covers, passed_top, passed_sound, passed_covers, none_top, failed_ended_covers, failed_more}
+use Rattle.sk_nodes.specs.Flat.{Stays}
+use Rattle.sk_nodes.proofs.NodeLaws.{pair_covers, odd_shape, odd_written}
+use Rattle.sk_nodes.proofs.StopLaws.{stays_same, stays_decayed, stays_along, stays_begun, stays_then, stays_on, stays_other, round_stays, round_ended}
 use Rattle.sk_nodes.proofs.moves.+seek.Goals as goal
 
 pub reach-returns-clause-covers : goal.reach-returns-clause-covers
 reach-returns-clause-covers g t c =
     let i = c.args.index.now in
-    covers_more c.args.target c.args.need (rest i (shape_of c.args.node.now)) (rest i (shape_of c.settle.new.node)) (rest i (shape_of c.seek.new.node)) c.settle.ensures.covers c.seek.ensures.covers
+    covers_more c.args.target c.args.need (rest i (shape_of c.args.node.now)) (rest i (shape_of c.settle.new.node)) (rest i (shape_of c.seek.new.node)) c.settle.ensures.decays.covers c.seek.ensures.covers
 
 pub reach-returns-clause-top : goal.reach-returns-clause-top
 reach-returns-clause-top g t c =
@@ -123,6 +126,21 @@ seek_pair-sides-preserved g t c =
           (subst (λ n. Covers (from_on c.second_target-next.result (rest i (shape_of c.sides.b))) (rest i (shape_of c.reach-in-sides.new.node)) n) c.second_need.ensures c.reach-in-sides.ensures.covers)
           c.second_target-next.ensures)
           on.within on.below;
+      stays = stays_on i c.args.form c.args.target c.args.need c.sides.from c.in-Behind.further c.args.spent.now c.sides.spent c.reach-in-sides.new.spent c.args.ta.now (shape_of c.args.a.now) c.args.tb.now (shape_of c.args.b.now)
+          c.sides.ta (shape_of c.sides.a) c.sides.tb (shape_of c.sides.b) c.reach.new.top (shape_of c.reach.new.node) c.reach-in-sides.new.top (shape_of c.reach-in-sides.new.node)
+          c.sides.invariant.stays
+          (round_stays i c.args.form c.sides.from c.args.need c.sides.spent c.reach.new.spent c.reach-in-sides.new.spent c.sides.ta (shape_of c.sides.a) c.sides.tb (shape_of c.sides.b) c.reach.new.top (shape_of c.reach.new.node) c.reach-in-sides.new.top (shape_of c.reach-in-sides.new.node)
+          far.pair.second.bound c.reach.ensures.top c.reach.ensures.falls
+          (subst (λ n. Covers (from_on c.sides.from (rest i (shape_of c.sides.a))) (rest i (shape_of c.reach.new.node)) n) c.first_need.ensures c.reach.ensures.covers)
+          (subst (λ n. Stays i c.sides.from n c.sides.spent c.reach.new.spent (shape_of c.sides.a) (shape_of c.reach.new.node)) c.first_need.ensures c.reach.ensures.stays)
+          c.second_target-next.result c.second_target-next.ensures c.reach-in-sides.ensures.falls
+          (subst (λ n. Stays i c.second_target-next.result n c.reach.new.spent c.reach-in-sides.new.spent (shape_of c.sides.b) (shape_of c.reach-in-sides.new.node)) c.second_need.ensures c.reach-in-sides.ensures.stays))
+          (pair_covers c.args.form c.sides.from c.second_target-next.result c.args.need c.reach.new.top.greatest c.sides.tb.greatest (rest i (shape_of c.sides.a)) (rest i (shape_of c.sides.b)) (rest i (shape_of c.reach.new.node)) (rest i (shape_of c.reach-in-sides.new.node)) c.reach.new.top.head c.reach.new.top.weight
+          far.pair.second.bound c.reach.ensures.top.bound c.reach.ensures.top.head c.reach.ensures.reached
+          (subst (λ n. Covers (from_on c.sides.from (rest i (shape_of c.sides.a))) (rest i (shape_of c.reach.new.node)) n) c.first_need.ensures c.reach.ensures.covers)
+          (subst (λ n. Covers (from_on c.second_target-next.result (rest i (shape_of c.sides.b))) (rest i (shape_of c.reach-in-sides.new.node)) n) c.second_need.ensures c.reach-in-sides.ensures.covers)
+          c.second_target-next.ensures)
+          c.in-Behind.ensures.on on.below;
       paid = omega (arith, c.reach.ensures.paid, c.reach-in-sides.ensures.paid, c.sides.invariant.paid);
       counted = omega (arith, c.reach.ensures.counted, c.reach-in-sides.ensures.counted, c.sides.invariant.counted);
       later = omega (arith, c.reach.ensures.later, c.reach-in-sides.ensures.later, c.sides.invariant.later);
@@ -172,6 +190,7 @@ seek_pair-sides-init g t c =
     let i = c.args.index.now in
     record {
       far = sides_begun i c.args.form c.args.target c.args.need c.args.ta.now (shape_of c.args.a.now) c.args.tb.now (shape_of c.args.b.now) c.requires.pair c.requires.target;
+      stays = stays_begun i c.args.form c.args.target c.args.need c.args.spent.now c.args.ta.now (shape_of c.args.a.now) c.args.tb.now (shape_of c.args.b.now);
       paid = omega arith;
       counted = omega arith;
       later = omega arith;
@@ -320,3 +339,73 @@ seek_inner-returns-in-Tested-clause-paid g t c =
     paid_along c.args.index.now _ _ _ _ c.args.spent.now c.seek_tested.new.spent
     (tested_shape c.args.node.now c.in-Tested.test c.in-Tested.below c.in-Tested.node _ _ _ c.in-Tested.is c.in-Tested.test-is c.in-Tested.below-is (c.deref_mut-in-Tested.ensures.value ∙ ap (λ (x : Box Node Global). x.value) c.in-Tested.node-is))
     (shape_of-Tested _ _ _) c.seek_tested.ensures.paid
+
+pub reach-returns-then-target-top-clause-stays : goal.reach-returns-then-target-top-clause-stays
+reach-returns-then-target-top-clause-stays g t c = stays_same c.args.index.now c.args.target c.args.need c.args.spent.now (shape_of c.args.node.now)
+
+pub reach-returns-clause-stays : goal.reach-returns-clause-stays
+reach-returns-clause-stays g t c =
+    let i = c.args.index.now in
+    stays_decayed i c.args.target c.args.need c.args.spent.now c.seek.new.spent (shape_of c.args.node.now) (shape_of c.seek.new.node)
+    (subst (λ (s : Shape). Covers (rest i (shape_of c.args.node.now)) (rest i s) c.args.need) c.settle.ensures.stands c.settle.ensures.decays.covers)
+    (subst (λ (s : Shape). Stays i c.args.target c.args.need c.args.spent.now c.seek.new.spent s (shape_of c.seek.new.node)) c.settle.ensures.stands c.seek.ensures.stays)
+
+pub seek_inner-returns-in-Pair-clause-stays : goal.seek_inner-returns-in-Pair-clause-stays
+seek_inner-returns-in-Pair-clause-stays g t c =
+    stays_along c.args.index.now c.args.target c.args.need c.args.spent.now c.seek_pair.new.spent _ _ _ _
+    (parts_shape c.args.node.now c.in-Pair.form c.in-Pair.ta c.in-Pair.tb c.in-Pair.a c.in-Pair.b _ _ _ _ _ c.in-Pair.is c.in-Pair.form-is c.in-Pair.ta-is c.in-Pair.tb-is (c.deref_mut.ensures.value ∙ ap (λ (x : Box Node Global). x.value) c.in-Pair.a-is) (c.deref_mut-in-Pair.ensures.value ∙ ap (λ (x : Box Node Global). x.value) c.in-Pair.b-is))
+    (shape_of-Pair _ _ _ _ _) c.seek_pair.ensures.stays
+
+pub seek_inner-returns-in-Odd-clause-top : goal.seek_inner-returns-in-Odd-clause-top
+seek_inner-returns-in-Odd-clause-top g t c = subst (λ (s : Shape). IsTop c.args.index.now c.seek_odd.new.top s) (sym (odd_written _ _ c.seek_odd.new.tops c.seek_odd.new.nodes (search (rules, places)) (search (rules, places)))) c.seek_odd.ensures.top
+
+pub seek_inner-returns-in-Odd-clause-sound : goal.seek_inner-returns-in-Odd-clause-sound
+seek_inner-returns-in-Odd-clause-sound g t c = subst (λ (s : Shape). Sound c.args.index.now s) (sym (odd_written _ _ c.seek_odd.new.tops c.seek_odd.new.nodes (search (rules, places)) (search (rules, places)))) c.seek_odd.ensures.sound
+
+pub seek_inner-returns-in-Odd-clause-covers : goal.seek_inner-returns-in-Odd-clause-covers
+seek_inner-returns-in-Odd-clause-covers g t c =
+    covers_along c.args.index.now c.args.target c.args.need _ _ _ _
+    (odd_shape c.args.node.now c.in-Odd.tops c.in-Odd.nodes _ _ c.in-Odd.is (c.deref_mut-in-Odd.ensures.value ∙ ap (λ (v : Vec Top Global). v.items) c.in-Odd.tops-is) (c.deref_mut-in-Odd-2.ensures.value ∙ ap (λ (v : Vec Node Global). v.items) c.in-Odd.nodes-is))
+    (odd_written _ _ c.seek_odd.new.tops c.seek_odd.new.nodes (search (rules, places)) (search (rules, places))) c.seek_odd.ensures.covers
+
+pub seek_inner-returns-in-Odd-clause-smaller : goal.seek_inner-returns-in-Odd-clause-smaller
+seek_inner-returns-in-Odd-clause-smaller g t c =
+    size_along _ _ _ _
+    (odd_shape c.args.node.now c.in-Odd.tops c.in-Odd.nodes _ _ c.in-Odd.is (c.deref_mut-in-Odd.ensures.value ∙ ap (λ (v : Vec Top Global). v.items) c.in-Odd.tops-is) (c.deref_mut-in-Odd-2.ensures.value ∙ ap (λ (v : Vec Node Global). v.items) c.in-Odd.nodes-is))
+    (odd_written _ _ c.seek_odd.new.tops c.seek_odd.new.nodes (search (rules, places)) (search (rules, places))) (omega (arith, c.seek_odd.ensures.smaller))
+
+pub seek_inner-returns-in-Odd-clause-paid : goal.seek_inner-returns-in-Odd-clause-paid
+seek_inner-returns-in-Odd-clause-paid g t c =
+    paid_along c.args.index.now _ _ _ _ c.args.spent.now c.seek_odd.new.spent
+    (odd_shape c.args.node.now c.in-Odd.tops c.in-Odd.nodes _ _ c.in-Odd.is (c.deref_mut-in-Odd.ensures.value ∙ ap (λ (v : Vec Top Global). v.items) c.in-Odd.tops-is) (c.deref_mut-in-Odd-2.ensures.value ∙ ap (λ (v : Vec Node Global). v.items) c.in-Odd.nodes-is))
+    (odd_written _ _ c.seek_odd.new.tops c.seek_odd.new.nodes (search (rules, places)) (search (rules, places))) c.seek_odd.ensures.paid
+
+pub seek_inner-returns-in-Odd-clause-stays : goal.seek_inner-returns-in-Odd-clause-stays
+seek_inner-returns-in-Odd-clause-stays g t c =
+    stays_along c.args.index.now c.args.target c.args.need c.args.spent.now c.seek_odd.new.spent _ _ _ _
+    (odd_shape c.args.node.now c.in-Odd.tops c.in-Odd.nodes _ _ c.in-Odd.is (c.deref_mut-in-Odd.ensures.value ∙ ap (λ (v : Vec Top Global). v.items) c.in-Odd.tops-is) (c.deref_mut-in-Odd-2.ensures.value ∙ ap (λ (v : Vec Node Global). v.items) c.in-Odd.nodes-is))
+    (odd_written _ _ c.seek_odd.new.tops c.seek_odd.new.nodes (search (rules, places)) (search (rules, places))) (stays_other c.args.index.now c.args.target c.args.need c.args.spent.now c.seek_odd.new.spent (odd _) (odd _) (λ last h. h) (λ h. h))
+
+pub seek_pair-returns-in-At-clause-stays : goal.seek_pair-returns-in-At-clause-stays
+seek_pair-returns-in-At-clause-stays g t c =
+    let i = c.args.index.now in
+    stays_then i c.args.form c.args.target c.args.need c.sides.from c.args.spent.now c.sides.spent c.reach-in-sides.new.spent c.args.ta.now (shape_of c.args.a.now) c.args.tb.now (shape_of c.args.b.now)
+    c.sides.ta (shape_of c.sides.a) c.sides.tb (shape_of c.sides.b) c.reach.new.top (shape_of c.reach.new.node) c.reach-in-sides.new.top (shape_of c.reach-in-sides.new.node) c.sides.invariant.stays
+    (round_stays i c.args.form c.sides.from c.args.need c.sides.spent c.reach.new.spent c.reach-in-sides.new.spent c.sides.ta (shape_of c.sides.a) c.sides.tb (shape_of c.sides.b) c.reach.new.top (shape_of c.reach.new.node) c.reach-in-sides.new.top (shape_of c.reach-in-sides.new.node)
+    c.sides.invariant.far.pair.second.bound c.reach.ensures.top c.reach.ensures.falls
+    (subst (λ n. Covers (from_on c.sides.from (rest i (shape_of c.sides.a))) (rest i (shape_of c.reach.new.node)) n) c.first_need.ensures c.reach.ensures.covers)
+    (subst (λ n. Stays i c.sides.from n c.sides.spent c.reach.new.spent (shape_of c.sides.a) (shape_of c.reach.new.node)) c.first_need.ensures c.reach.ensures.stays)
+    c.second_target-next.result c.second_target-next.ensures c.reach-in-sides.ensures.falls
+    (subst (λ n. Stays i c.second_target-next.result n c.reach.new.spent c.reach-in-sides.new.spent (shape_of c.sides.b) (shape_of c.reach-in-sides.new.node)) c.second_need.ensures c.reach-in-sides.ensures.stays))
+
+pub seek_pair-returns-then-next-ge-END-clause-stays : goal.seek_pair-returns-then-next-ge-END-clause-stays
+seek_pair-returns-then-next-ge-END-clause-stays g t c =
+    let i = c.args.index.now in
+    let at_end = target_ended c.args.form c.sides.from c.reach.new.top.head c.sides.invariant.far.within (omega (arith, c.if-next-ge-END.true, c.second_target-next.ensures)) in
+    stays_then i c.args.form c.args.target c.args.need c.sides.from c.args.spent.now c.sides.spent c.reach.new.spent c.args.ta.now (shape_of c.args.a.now) c.args.tb.now (shape_of c.args.b.now)
+    c.sides.ta (shape_of c.sides.a) c.sides.tb (shape_of c.sides.b) c.reach.new.top (shape_of c.reach.new.node) c.sides.tb (shape_of c.sides.b) c.sides.invariant.stays
+    (round_ended i c.args.form c.sides.from c.args.need c.sides.spent c.reach.new.spent c.reach.new.spent c.sides.ta (shape_of c.sides.a) c.sides.tb (shape_of c.sides.b) c.reach.new.top (shape_of c.reach.new.node) c.sides.tb (shape_of c.sides.b)
+    c.sides.invariant.far.pair.second.bound c.reach.ensures.top c.reach.ensures.falls
+    (subst (λ n. Covers (from_on c.sides.from (rest i (shape_of c.sides.a))) (rest i (shape_of c.reach.new.node)) n) c.first_need.ensures c.reach.ensures.covers)
+    (subst (λ n. Stays i c.sides.from n c.sides.spent c.reach.new.spent (shape_of c.sides.a) (shape_of c.reach.new.node)) c.first_need.ensures c.reach.ensures.stays)
+    at_end.0)

@@ -1,5 +1,5 @@
 -- One half and the other.
-use Rattle.std.proofs.Common.{◌≤◌, ◌<◌, ◌++◌, length, sym, subst, ap, arith, List, Option, ℕ}
+use Rattle.std.proofs.Common.{◌≤◌, sym, subst, ap, arith}
 use Rattle.sk_nodes.specs.Shapes.{Sides, sides_on}
 use Rattle.sk_nodes.specs.Left.{rests}
 use Rattle.sk_nodes.specs.Sound.{AreSound}

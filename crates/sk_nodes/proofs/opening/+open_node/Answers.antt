@@ -1,8 +1,7 @@
 -- The sides of one half behind those of the other.
 use Rattle.std.proofs.Common.{◌≡◌, ◌+◌, ℕ, List, refl, sym, subst, ap, ◌∙◌, arith}
 use Rattle.sk_query.specs.declared.form.Form.{Form}
-use Rattle.sk_query.specs.Trees.{queries_view}
-use Rattle.sk_model.specs.Bounds.{sum_in, ceils, ceil_of, lengths_of}
+use Rattle.sk_model.specs.Bounds.{ceils, ceil_of, lengths_of}
 use Rattle.sk_model.specs.Allowance.{leaves_readings}
 use Rattle.sk_nodes.specs.Shapes.{shape_of, sides_on}
 use Rattle.sk_nodes.specs.Left.{unread_in}
@@ -12,6 +11,12 @@ use Rattle.sk_nodes.proofs.OddLaws.{unread_behind, opens_behind}
 use Rattle.sk_nodes.proofs.NodeLaws.{shape_of-Nothing}
 use Rattle.sk_nodes.proofs.ListLaws.{nothing_opened}
 use Rattle.sk_nodes.proofs.StandingLaws.{missing_none, fewer_numbers, all_numbered, terms_are, terms_size, terms_ceils, terms_readings, entries_all, test_opened, standing_opened}
+use Rattle.std.proofs.lemmas.Result.{IfOk-weaker}
+use Rattle.sk_query.specs.Trees.{query_view, queries_view}
+use Rattle.sk_query.proofs.ViewLaws.{view-Term}
+use Rattle.sk_model.specs.Sharp.{terms_in}
+use Rattle.sk_nodes.specs.Flat.{OpensNest}
+use Rattle.sk_nodes.proofs.NestLaws.{parts_flat, nest_opens, split_nest, joint_others, one_term, term_opens, term_flat}
 use Rattle.sk_nodes.proofs.opening.+open_node.Goals as goal
 
 pub open_sides-returns-clause-opens : goal.open_sides-returns-clause-opens
@@ -69,3 +74,34 @@ open_standing-tested_of-requires-clause-tested g t c =
     test_opened i (record { standing = c.args.standing; window = c.args.window; numbers = c.in_ok-numbers.numbers; marks = c.in_ok-marks.marks; next = 0 }) c.in_ok-below.below (shape_of c.in_ok-below.node) c.args.words.now c.args.scheme c.args.factor _ c.requires.sound named
     (omega (arith, c.in_ok-marks.ensures.len, c.len-2.ensures)) c.in_ok-numbers.ensures.there (subst (λ (ns : List ℕ). AreInOrder i ns) c.as_slice-2.ensures.value c.in_ok-add_lengths.ensures.sorted) refl c.requires.documents
     (subst (λ ts. Opens i c.in_ok-below.below (shape_of c.in_ok-below.node) (joint_score_of Form.And ts c.args.scheme c.args.factor) (ceil_of Form.And (ceils ts c.args.scheme c.args.factor i.live.documents))) view c.in_ok-below.ensures.opens)
+
+pub open_node-returns-in-Some-clause-flat : goal.open_node-returns-in-Some-clause-flat
+open_node-returns-in-Some-clause-flat g t c =
+    let i = c.args.index.now in
+    IfOk-weaker c.open_parts.result _ _
+    (λ p h lists e.
+    let f = parts_flat (query_view c.args.query.now) c.in-Some.form (queries_view c.in-Some.parts.now) lists i.live.documents c.in-Some.ensures.is e in
+    nest_opens i c.in-Some.form (shape_of p.1) lists _ _ f.0 (h lists f.0 f.1)) c.open_parts.ensures.nest
+
+pub open_node-returns-in-Term-clause-alone : goal.open_node-returns-in-Term-clause-alone
+open_node-returns-in-Term-clause-alone g t c =
+    IfOk-weaker c.open_term.result _ _ (λ p h term form e. term_opens c.args.index.now form (shape_of p.1) (query_view c.args.query.now) _ term _ _ (ap query_view c.in-Term.is ∙ view-Term _) e (h form)) c.open_term.ensures.nest
+
+pub open_node-returns-in-Term-clause-flat : goal.open_node-returns-in-Term-clause-flat
+open_node-returns-in-Term-clause-flat g t c =
+    IfOk-weaker c.open_term.result _ _ (λ p h lists e. term_flat c.args.index.now (shape_of p.1) (query_view c.args.query.now) _ lists _ _ (ap query_view c.in-Term.is ∙ view-Term _) e (h Form.Or)) c.open_term.ensures.nest
+
+pub open_parts-returns-in-Some-clause-nest : goal.open_parts-returns-in-Some-clause-nest
+open_parts-returns-in-Some-clause-nest g t c =
+    let i = c.args.index.now in
+    IfOk-weaker c.open_node.result _ _
+    (λ p h lists joint e.
+    one_term (queries_view c.args.parts.now) (query_view c.in-Some.part.now) lists (λ ts. OpensNest i c.args.form (shape_of p.1) ts c.args.spent.now c.open_node.new.spent) c.in-Some.ensures.alone e (λ term is. h term c.args.form is)) c.open_node.ensures.alone
+
+pub open_parts-returns-clause-nest : goal.open_parts-returns-clause-nest
+open_parts-returns-clause-nest g t c =
+    let i = c.args.index.now in
+    IfOk-weaker c.pair_of.result _ _
+    (λ p h lists joint e.
+    split_nest i c.args.form c.others_of.result (shape_of c.in_ok-ta.a) (shape_of c.in_ok-tb.b) (shape_of p.1) lists (terms_in (queries_view c.split_parts.result.0.now)) (terms_in (queries_view c.split_parts.result.1.now)) _ _ _ _
+    joint (c.others_of.ensures ∙ joint_others c.args.form joint) (c.in_ok-ta.ensures.nest) (c.in_ok-tb.ensures.nest) h (c.split_parts.ensures.terms lists e)) c.pair_of.ensures.nest

@@ -2,6 +2,8 @@
 use Rattle.std.proofs.Common.{◌≤◌, subst, ◌∙◌, arith}
 use Rattle.sk_dict.specs.Terms.{term_at}
 use Rattle.sk_nodes.proofs.ListLaws.{weighed-term, greatest-term, length-postings}
+use Rattle.sk_nodes.specs.Shapes.{shape_of}
+use Rattle.sk_nodes.proofs.NestLaws.{term_nest}
 use Rattle.sk_nodes.proofs.opening.open_numbered.Goals as goal
 
 pub returns-clause-opens : goal.returns-clause-opens
@@ -19,3 +21,6 @@ pub returns-clause-within : goal.returns-clause-within
 returns-clause-within g c =
     let i = c.args.index.now in
     omega (arith, length-postings (term_at i.terms c.args.number) i.live.documents, c.in_ok-top.ensures.within)
+
+pub returns-clause-nest : goal.returns-clause-nest
+returns-clause-nest g c form = term_nest c.args.index.now form (shape_of c.in_ok-top.node) c.args.number _ _ (c.in_ok-top.ensures.alone form) c.in_ok-top.ensures.begins

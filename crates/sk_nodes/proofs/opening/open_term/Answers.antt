@@ -8,6 +8,7 @@ use Rattle.sk_nodes.specs.Shapes.{shape_of}
 use Rattle.sk_nodes.specs.Opened.{score_of, Opens}
 use Rattle.sk_nodes.proofs.NodeLaws.{shape_of-Nothing}
 use Rattle.sk_nodes.proofs.ListLaws.{term-none, nothing_opened}
+use Rattle.sk_nodes.proofs.NestLaws.{named_nest}
 use Rattle.sk_nodes.proofs.opening.open_term.Goals as goal
 
 pub returns-in-None-clause-opens : goal.returns-in-None-clause-opens
@@ -29,3 +30,7 @@ returns-in_ok-top-in-Some-clause-within g c =
     let i = c.args.index.now in
     let named : term_at i.terms c.in-Some.number ≡ c.args.word.now = c.in-Some.ensures.found.1 ∙ c.as_bytes.ensures.value ∙ c.as_str.ensures in
     omega (arith, ap (λ t. length_of t i.live.documents) named, c.in_ok-top-in-Some.ensures.within)
+
+pub returns-in_ok-top-in-Some-clause-nest : goal.returns-in_ok-top-in-Some-clause-nest
+returns-in_ok-top-in-Some-clause-nest g c form =
+    named_nest c.args.index.now form (shape_of c.in_ok-top-in-Some.node) _ _ _ _ (c.in-Some.ensures.found.1 ∙ c.as_bytes.ensures.value ∙ c.as_str.ensures) (c.in_ok-top-in-Some.ensures.nest form)

@@ -6,6 +6,8 @@ use Rattle.sk_nodes.specs.Shapes.{shape_of}
 use Rattle.sk_nodes.specs.Left.{rest, from_on}
 use Rattle.sk_nodes.proofs.LeafLaws.{from_on-at}
 use Rattle.sk_nodes.proofs.NodeLaws.{pair_shape}
+use Rattle.sk_nodes.proofs.StopLaws.{stays_along}
+use Rattle.sk_nodes.proofs.NestLaws.{paired_nest}
 use Rattle.sk_nodes.proofs.opening.pair_of.Goals as goal
 
 pub returns-clause-gives : goal.returns-clause-gives
@@ -15,3 +17,9 @@ returns-clause-gives g c id =
     ap (λ s. rest i s id) (pair_shape _ c.args.form c.seek_pair.new.ta c.seek_pair.new.tb c.in_ok-a.a c.in_ok-b.b c.seek_pair.new.a c.seek_pair.new.b refl (sym c.in_ok-a.ensures.ok) (sym c.in_ok-b.ensures.ok))
     ∙ covers_exactly (from_on 0 both id) (paired c.args.form (rest i (shape_of c.seek_pair.new.a) id) (rest i (shape_of c.seek_pair.new.b) id)) (c.seek_pair.ensures.covers id)
     ∙ from_on-at 0 both id (omega arith)
+
+pub returns-clause-nest : goal.returns-clause-nest
+returns-clause-nest g c joint first second =
+    let i = c.args.index.now in
+    let shape = pair_shape _ c.args.form c.seek_pair.new.ta c.seek_pair.new.tb c.in_ok-a.a c.in_ok-b.b c.seek_pair.new.a c.seek_pair.new.b refl (sym c.in_ok-a.ensures.ok) (sym c.in_ok-b.ensures.ok) in
+    paired_nest i c.args.form _ _ c.args.ta (shape_of c.args.a) c.args.tb (shape_of c.args.b) _ (stays_along i 0 0 _ _ _ _ _ _ refl shape c.seek_pair.ensures.stays) first second joint

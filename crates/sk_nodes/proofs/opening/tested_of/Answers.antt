@@ -1,5 +1,5 @@
 -- A test that was moved on without a need gives what passes it.
-use Rattle.std.proofs.Common.{ap, sym, ◌∙◌}
+use Rattle.std.proofs.Common.{ap, ◌∙◌}
 use Rattle.sk_nodes.specs.Shapes.{tested, shape_of}
 use Rattle.sk_nodes.proofs.NodeLaws.{shape_of-Tested}
 use Rattle.sk_nodes.proofs.ProximityLaws.{tested_gives}

@@ -1,14 +1,14 @@
 -- The terms that have a number, as one.
-use Rattle.std.proofs.Common.{◌≡◌, ℕ, List, true, map, sym, subst, ap, ◌∙◌, arith}
+use Rattle.std.proofs.Common.{ℕ, List, map, sym, ap, ◌∙◌, arith}
 use Rattle.sk_dict.specs.Terms.{term_at}
-use Rattle.sk_query.specs.Trees as Query
 use Rattle.sk_query.specs.Trees.{query_view}
 use Rattle.sk_query.specs.Fits.{are_different}
 use Rattle.sk_model.specs.Bounds.{lengths_of}
 use Rattle.sk_model.specs.Edits.{document_at}
 use Rattle.sk_nodes.specs.Shapes.{shape_of}
-use Rattle.sk_nodes.specs.Opened.{score_of}
+use Rattle.sk_nodes.specs.Opened.{score_of, joint_form}
 use Rattle.sk_nodes.proofs.SynonymLaws.{numbered_apart, numbered_score, numbered_readings, synonym_apart, synonym_at_most, query_capped}
+use Rattle.sk_nodes.proofs.NestLaws.{other_opens, joint_joint, numbered_entered}
 use Rattle.sk_nodes.proofs.synonym.open_synonym.Goals as goal
 
 pub open_joint-requires-clause-apart : goal.open_joint-requires-clause-apart
@@ -32,3 +32,10 @@ returns-clause-within g c =
     let i = c.args.index.now in
     let same = ap (λ (ns : List ℕ). lengths_of (map (term_at i.terms) ns) i.live.documents) c.as_slice.ensures.value in
     omega (arith, same, ap (λ ts. lengths_of ts i.live.documents) c.in_ok-numbers.ensures.terms, numbered_readings i c.args.words.now, c.in_ok-top.ensures.within)
+
+pub returns-clause-flat : goal.returns-clause-flat
+returns-clause-flat g c =
+    let i = c.args.index.now in
+    let named = ap (λ (ns : List ℕ). map (term_at i.terms) ns) c.as_slice.ensures.value ∙ c.in_ok-numbers.ensures.terms in
+    other_opens i (joint_form c.args.scheme) (shape_of c.in_ok-top.node) _ c.args.words.now _ _ (joint_joint c.args.scheme)
+    (λ point. numbered_entered i _ c.args.words.now point named) c.in_ok-top.ensures.nest

@@ -9,8 +9,10 @@ use Rattle.sk_model.specs.Edits.{document_at}
 use Rattle.sk_index.specs.Indexed.{AreAllWith}
 use Rattle.sk_nodes.specs.Proximity.{AreThere}
 use Rattle.sk_nodes.specs.Shapes.{shape_of}
-use Rattle.sk_nodes.specs.Opened.{score_of}
+use Rattle.sk_base.specs.Numbers.{terms_with}
+use Rattle.sk_nodes.specs.Opened.{score_of, joint_form}
 use Rattle.sk_nodes.proofs.SynonymLaws.{wild_there, wild_apart, wild_score, wild_readings, wild_at_most, query_capped}
+use Rattle.sk_nodes.proofs.NestLaws.{other_opens, joint_joint, wild_entered}
 use Rattle.sk_nodes.proofs.synonym.open_wildcard.Goals as goal
 
 pub open_joint-requires-clause-there : goal.open_joint-requires-clause-there
@@ -42,3 +44,12 @@ returns-clause-within g c =
     let are = subst (λ (t : List ℕ). AreAllWith t i.terms i.live.documents ns) bytes c.in_ok-numbers.ensures in
     let same = ap (λ (ms : List ℕ). lengths_of (map (term_at i.terms) ms) i.live.documents) c.as_slice.ensures.value in
     omega (arith, same, wild_readings i c.args.prefix.now ns are, c.in_ok-top.ensures.within)
+
+pub returns-clause-flat : goal.returns-clause-flat
+returns-clause-flat g c =
+    let i = c.args.index.now in
+    let ns = c.in_ok-numbers.numbers.items in
+    let bytes = c.as_bytes.ensures.value ∙ c.as_str.ensures in
+    let are = subst (λ (t : List ℕ). AreAllWith t i.terms i.live.documents ns) bytes c.in_ok-numbers.ensures in
+    other_opens i (joint_form c.args.scheme) (shape_of c.in_ok-top.node) _ (terms_with c.args.prefix.now i.live.documents) _ _ (joint_joint c.args.scheme)
+    (λ point. wild_entered i c.args.prefix.now ns _ are point c.as_slice.ensures.value) c.in_ok-top.ensures.nest

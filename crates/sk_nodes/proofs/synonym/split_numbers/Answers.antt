@@ -1,5 +1,5 @@
 -- What holds of terms holds of their halves.
-use Rattle.sk_nodes.proofs.SynonymLaws.{halves_there, halves_apart, halves_scores, halves_readings}
+use Rattle.sk_nodes.proofs.SynonymLaws.{halves_there, halves_apart, halves_scores, halves_readings, halves_named}
 use Rattle.sk_nodes.proofs.synonym.split_numbers.Goals as goal
 
 pub returns-clause-front_there : goal.returns-clause-front_there
@@ -19,3 +19,6 @@ returns-clause-scores c = halves_scores c.args.index.now c.args.numbers.now _ _ 
 
 pub returns-clause-readings : goal.returns-clause-readings
 returns-clause-readings c = halves_readings c.args.index.now c.args.numbers.now _ _ _ c.split_at.ensures.front c.split_at.ensures.back
+
+pub returns-clause-terms : goal.returns-clause-terms
+returns-clause-terms c = halves_named c.args.index.now c.args.numbers.now _ _ _ c.split_at.ensures.front c.split_at.ensures.back

@@ -1,4 +1,4 @@
-use Rattle.std.proofs.Common.{◌≡◌, ◌≤◌, subst, sym, refl}
+use Rattle.std.proofs.Common.{◌≤◌, subst, sym, refl}
 use Rattle.sk_lists.specs.Lists.{Runs}
 use Rattle.sk_lists.specs.Seeks.{Passes}
 use Rattle.sk_lists.specs.Cursor.{left, IsOn}

@@ -38,3 +38,8 @@ returns-clause-left g c =
     weighed_ids-scored (rest i (shape_of c.in_ok-top.node)) (score_of (query_view c.args.query.now) c.args.scheme 1) 0 i.live.documents
     (AreSorted-all i.live.documents (subst (λ (ps : Postings). AreSorted ps) c.all.ensures.entries c.length-sorted.ensures.sound)).rise
     (λ id lt. c.in_ok-top.ensures.opens.gives id)
+
+pub returns-clause-stops : goal.returns-clause-stops
+returns-clause-stops g c lists e point =
+    let flat = c.in_ok-top.ensures.flat lists e in
+    record { shape = flat.shape; account = omega (arith, flat.account point) }

@@ -5,6 +5,8 @@ use Rattle.sk_nodes.specs.Shapes.{Shape, shape_of}
 use Rattle.sk_nodes.specs.Left.{rest, from_on}
 use Rattle.sk_nodes.proofs.NodeLaws.{shape_of-Nothing, covers_gone}
 use Rattle.sk_nodes.proofs.TreeLaws.{weighed_ids-none, left_exact}
+use Rattle.sk_nodes.specs.Flat.{Stays}
+use Rattle.sk_nodes.proofs.StopLaws.{stops_closed, stops_sought}
 use Rattle.sk_nodes.proofs.tree.Tree.seek.Goals as goal
 
 pub returns-then-self-need-clause-covers : goal.returns-then-self-need-clause-covers
@@ -22,3 +24,16 @@ returns-clause-exact g c none =
     left_exact i c.args.target (shape_of c.args.self.now.node) (shape_of c.reach.new.node) c.requires.tree.documents
     (subst (λ n. Covers (from_on c.args.target (rest i (shape_of c.args.self.now.node))) (rest i (shape_of c.reach.new.node)) n) none
     (subst (λ n. Covers (from_on n (rest i (shape_of c.args.self.now.node))) (rest i (shape_of c.reach.new.node)) c.args.need) c.from.ensures c.reach.ensures.covers))
+
+pub returns-then-self-need-clause-stops : goal.returns-then-self-need-clause-stops
+returns-then-self-need-clause-stops g c point most stops may =
+    let done = stops_closed c.args.index.now (shape_of c.args.self.now.node) _ c.args.need point most c.args.self.now.spent shape_of-Nothing stops.account in
+    record { shape = done.0; account = done.1 }
+
+pub returns-clause-stops : goal.returns-clause-stops
+returns-clause-stops g c point most stops may =
+    let i = c.args.index.now in
+    let done = stops_sought i (shape_of c.args.self.now.node) (shape_of c.reach.new.node) c.args.self.now.need c.args.need c.args.target point most c.args.self.now.spent c.reach.new.spent c.args.self.now.top.greatest
+    c.requires.rising c.if-self-need.false c.ranges.target.fits
+    (subst (λ n. Stays i n c.args.need c.args.self.now.spent c.reach.new.spent (shape_of c.args.self.now.node) (shape_of c.reach.new.node)) c.from.ensures c.reach.ensures.stays) stops.shape stops.account may in
+    record { shape = done.0; account = done.1 }
