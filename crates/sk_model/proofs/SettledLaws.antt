@@ -6,14 +6,14 @@ use Rattle.sk_base.specs.declared.find.Find.{Find}
 use Rattle.sk_base.specs.declared.rank.Rank.{Rank}
 use Rattle.sk_base.specs.Numbers.{Docs}
 use Rattle.sk_query.specs.declared.form.Form.{Form}
-use Rattle.sk_query.specs.Trees.{Tree, nothing, all, term, wildcard, parts, near, phrase, synonym, scale, range, Trees}
+use Rattle.sk_query.specs.Trees.{Tree, nothing, all, term, wildcard, parts, near, phrase, synonym, scale, range}
 use Rattle.sk_model.specs.Allowance.{extra, allowance}
 use Rattle.sk_model.specs.Counts.{wanted}
 use Rattle.sk_model.specs.Edits.{last_id}
 use Rattle.sk_model.specs.Matches.{found_by}
-use Rattle.sk_model.specs.Settled.{less_heavy, settled_from, settled, settling_weight, stop_point, decay_point, seen_up_to, heavy_up_to}
+use Rattle.sk_model.specs.Settled.{less_heavy, settled_from, settled, settling_weight, stop_point, seen_up_to, heavy_up_to}
 use Rattle.sk_model.proofs.OrderLaws.{both_so}
-use Rattle.sk_model.specs.Sharp.{terms_in, flat_lists, ups, is_plain, stop_number, of_two, rare_lists, rare_readings, rare_number, decay_readings, decay_of, decay_number, at_most, sharp}
+use Rattle.sk_model.specs.Sharp.{terms_in, flat_lists, ups, is_plain, stop_number, of_two, rare_lists, rare_readings, rare_number, decay_of, decay_number, at_most, sharp}
 
 -- ---- rising ids
 
