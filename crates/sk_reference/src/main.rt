@@ -15,7 +15,7 @@ use std::sync::ledger::Blank;
 use std::{env, io};
 
 /// What is printed where the words are no form.
-const USAGE: &[u8] = b"usage: sk_reference run (answers by the definitions alone; slow on purpose)";
+const USAGE: &[u8] = b"usage: sk_reference run | search FILE [and] | demo N (by the definitions alone; slow on purpose)";
 
 fn main(rt: HostRuntime) -> io::Result<ExitCode> {
     let alloc = rt.alloc();

@@ -1,6 +1,10 @@
 mod MachineLemmas
 mod RunLemmas
 mod EndLemmas
+mod GoOnLemmas
+mod LineEndLemmas
+mod SearchLemmas
+mod DemoLemmas
 mod Examples
 mod RanLemmas
 pub mod AskLemmas
