@@ -1,5 +1,5 @@
 -- The commands of a demonstration, and how far it has come.
-use Rattle.std.proofs.Common.{◌≡◌, ◌≤◌, ◌<◌, ◌+◌, ◌-◌, ◌*◌, ◌%◌, ◌^◌, ℕ, zero, suc, Bool, true, false, ◌||◌, ◌==◌, nat_le, if◌then◌else◌, ◌⊎◌, inl, List, [], ◌∷◌, ◌++◌, length, Option, Some, None, codes, decimal, refl, sym, ap, ◌∙◌, subst, arith, rules, append_assoc, append-nil, length-append, sum_by}
+use Rattle.std.proofs.Common.{◌≡◌, ◌≤◌, ◌<◌, ◌+◌, ◌-◌, ◌*◌, ◌%◌, ◌^◌, ℕ, zero, suc, Bool, true, false, ◌||◌, ◌==◌, nat_le, if◌then◌else◌, ◌⊎◌, inl, List, [], ◌∷◌, ◌++◌, length, Option, Some, None, codes, decimal, refl, sym, ap, ◌∙◌, subst, arith, rules, append_assoc, append-nil, length-append, sum_by, AllPairs}
 use Rattle.std.specs.Io.KnownBytes.{Appends}
 use Rattle.std.proofs.lemmas.Fmt.{length-decimal-le}
 use Rattle.std.proofs.lemmas.List.Sums.{sum_by-append}
@@ -8,6 +8,7 @@ use Rattle.sk_base.specs.declared.command.Command.{Command}
 use Rattle.sk_base.specs.declared.command.Command.TheVariants as Command
 use Rattle.sk_base.specs.declared.find.Find.{Find}
 use Rattle.sk_base.specs.declared.record.Edit.TheVariants as Edit
+use Rattle.sk_base.specs.declared.record.Entry.{Entry}
 use Rattle.sk_base.specs.declared.schema.Field.{Field}
 use Rattle.sk_base.specs.Fields.{IsSchema}
 use Rattle.sk_base.specs.Records.{FitsFind, FitsValues, most_bytes, bytes_of_values}
@@ -29,15 +30,21 @@ schema_fits : IsSchema demo_fields
 schema_fits = record { sound = refl; some = omega arith; few = omega arith }
 
 find_fits : (place : ℕ) → FitsFind (demo_find place)
-find_fits 0 = record { ask = omega arith; page = omega arith; collapse = tt }
-find_fits 1 = record { ask = omega arith; page = omega arith; collapse = tt }
-find_fits 2 = record { ask = omega arith; page = omega arith; collapse = tt }
-find_fits 3 = record { ask = omega arith; page = omega arith; collapse = omega arith }
+find_fits zero = record { ask = omega arith; page = omega arith; collapse = tt }
+find_fits (suc zero) = record { ask = omega arith; page = omega arith; collapse = tt }
+find_fits (suc (suc zero)) = record { ask = omega arith; page = omega arith; collapse = tt }
+find_fits (suc (suc (suc zero))) = record { ask = omega arith; page = omega arith; collapse = omega arith }
 find_fits (suc (suc (suc (suc n)))) = record { ask = omega arith; page = omega arith; collapse = tt }
 
 alls_length : (k : ℕ) → length (alls k) ≡ 4 * k
 alls_length zero = refl
-alls_length (suc k) = omega (arith, length-append (codes " all") (alls k), alls_length k)
+alls_length (suc k) = omega (arith, length-append (alls k) (codes " all"), alls_length k)
+
+-- One time more.
+pub alls_more : (s t b : List ℕ) (k : ℕ) → s ≡ b ++ alls k → t ≡ s ++ codes " all" → t ≡ b ++ alls (k + 1)
+alls_more s t b k so more =
+    let e : k + 1 ≡ suc k = omega arith in
+    more ∙ ap (λ (w : List ℕ). w ++ codes " all") so ∙ append_assoc b (alls k) (codes " all") ∙ ap (λ (n : ℕ). b ++ alls n) (sym e)
 
 short_decimal : (i n k : ℕ) → 0 < n → n ≤ 10 ^ k → 0 < k → n < 2 ^ 64 → length (decimal (i % n)) ≤ k
 short_decimal i n k some fits digits small =
@@ -61,8 +68,20 @@ body_length i =
 site_length : (i : ℕ) → length (codes "s" ++ decimal (i % 50)) ≤ 3
 site_length i = omega (arith, length-append (codes "s") (decimal (i % 50)), short_decimal i 50 2 (omega arith) (omega arith) (omega arith) (omega arith))
 
+-- The entries stand by rising place.
+rising : (i : ℕ) → AllPairs (λ (a b : Entry). a.field < b.field) (demo_record i).values
+rising n zero zero d h l = absurd (omega (arith, h))
+rising n zero (suc zero) d h l = omega arith
+rising n zero (suc (suc zero)) d h l = omega arith
+rising n zero (suc (suc (suc j))) d h l = absurd (omega (arith, l))
+rising n (suc zero) zero d h l = absurd (omega (arith, h))
+rising n (suc zero) (suc zero) d h l = absurd (omega (arith, h))
+rising n (suc zero) (suc (suc zero)) d h l = omega arith
+rising n (suc zero) (suc (suc (suc j))) d h l = absurd (omega (arith, l))
+rising n (suc (suc i)) j d h l = absurd (omega (arith, h, l))
+
 record_fits : (i : ℕ) → FitsValues demo_fields (demo_record i).values
-record_fits i = record { rising = search rules; kinds = refl; small = omega (arith, body_length i, site_length i) }
+record_fits i = record { rising = rising i; kinds = refl; small = omega (arith, body_length i, site_length i) }
 
 -- Each command may come behind those before it.
 pub comes : (documents place : ℕ) → MayCome (demo_schema place) (demo_command documents place)
@@ -168,8 +187,11 @@ module _ {W S R : Type 0} (text : R → List ℕ) (refuses : R → Bool) (cost :
         };
       }
 
+  none_left : documents + 6 - (documents + 6) ≡ 0
+  none_left = omega arith
+
   -- All commands were obeyed.
-  pub demo_through : (machine : W) (refused : Bool) (before after : Output) → DemoSoFar before.held before.steps (documents + 6) after.held machine refused after.steps → after.finishes ≡ before.finishes → before.faults ≤ after.faults
+  demo_through : (machine : W) (refused : Bool) (before after : Output) → DemoSoFar before.held before.steps (documents + 6) after.held machine refused after.steps → after.finishes ≡ before.finishes → before.faults ≤ after.faults
       → Continues text refuses cost (ObeysThrough Obeys Stands machine start (demo_commands documents)) false refused before after
   demo_through machine refused before after so same later = record {
     answers = so.answers;
@@ -181,8 +203,13 @@ module _ {W S R : Type 0} (text : R → List ℕ) (refuses : R → Bool) (cost :
     lines = record {
       last = so.state;
       runs =
-          subst (λ (n : ℕ). Obeyings Obeys start (demo_commands documents) so.answers so.state (demo_commands_from documents (documents + 6) n)) (omega arith)
+          subst (λ (n : ℕ). Obeyings Obeys start (demo_commands documents) so.answers so.state (demo_commands_from documents (documents + 6) n)) none_left
           (stops_at before.held before.steps (documents + 6) after.held machine refused after.steps so);
       at = so.at;
     };
   }
+
+  pub demo_ended : (place : ℕ) (machine : W) (refused : Bool) (before after : Output) → place ≡ documents + 6 → DemoSoFar before.held before.steps place after.held machine refused after.steps → after.finishes ≡ before.finishes → before.faults ≤ after.faults
+      → Continues text refuses cost (ObeysThrough Obeys Stands machine start (demo_commands documents)) false refused before after
+  demo_ended place machine refused before after last so same later =
+      demo_through machine refused before after (subst (λ (n : ℕ). DemoSoFar before.held before.steps n after.held machine refused after.steps) last so) same later

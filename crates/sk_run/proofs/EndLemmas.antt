@@ -80,30 +80,30 @@ module _ {W S R : Type 0} (text : R → List ℕ) (refuses : R → Bool) (cost :
   }
 
   -- Memory ran out for the line that was read.
-  pub ends_lost : (first : W) (seen seen' : Seen) (refused0 : Bool) (before after : Output) (reader reader' : Reader) (left : Option (List ℕ)) (answerer : W) (refused : Bool) (steps : ℕ) (l : Line)
-      → SoFar first seen.left before.held refused0 before.steps reader left after.held answerer refused steps → ReadsOn reader left reader' seen'.left (outcome (Ok (Some l))) → steps ≤ after.steps → after.finishes ≡ before.finishes
-      → RunsOut text refuses cost (FirstOf first seen seen'.left) before after
-  ends_lost first seen seen' refused0 before after reader reader' left answerer refused steps l so reads later same = record {
+  pub ends_lost : (first : W) (seen : Seen) (left' : Option (List ℕ)) (refused0 : Bool) (before after : Output) (reader reader' : Reader) (left : Option (List ℕ)) (answerer : W) (refused : Bool) (steps : ℕ) (l : Line)
+      → SoFar first seen.left before.held refused0 before.steps reader left after.held answerer refused steps → ReadsOn reader left reader' left' (outcome (Ok (Some l))) → steps ≤ after.steps → after.finishes ≡ before.finishes
+      → RunsOut text refuses cost (FirstOf first seen left') before after
+  ends_lost first seen left' refused0 before after reader reader' left answerer refused steps l so reads later same = record {
     answers = so.answers;
     put = so.put.put;
     steps = omega (arith, so.put.paid, later);
     finishes = same;
-    lines = λ bytes told s at. lost Stands Answers s bytes so.answers reader reader' left seen'.left answerer l (so.reached bytes told s at) reads;
+    lines = λ bytes told s at. lost Stands Answers s bytes so.answers reader reader' left left' answerer l (so.reached bytes told s at) reads;
   }
 
   -- The sink failed within the answer of a line.
-  pub ends_unwritten : (first : W) (seen seen' : Seen) (refused0 : Bool) (before after : Output) (reader reader' : Reader) (left held : Option (List ℕ)) (answerer answerer' : W) (refused : Bool) (steps : ℕ) (l : Line) (answer : R) (piece : List ℕ)
-      → SoFar first seen.left before.held refused0 before.steps reader left held answerer refused steps → ReadsOn reader left reader' seen'.left (outcome (Ok (Some l))) → AnsweredLine Stands Answers answerer l answer answerer'
+  pub ends_unwritten : (first : W) (seen : Seen) (left' : Option (List ℕ)) (refused0 : Bool) (before after : Output) (reader reader' : Reader) (left held : Option (List ℕ)) (answerer answerer' : W) (refused : Bool) (steps : ℕ) (l : Line) (answer : R) (piece : List ℕ)
+      → SoFar first seen.left before.held refused0 before.steps reader left held answerer refused steps → ReadsOn reader left reader' left' (outcome (Ok (Some l))) → AnsweredLine Stands Answers answerer l answer answerer'
       → piece ≡ text answer → AppendsPrefix held after.held piece → after.steps ≡ steps + cost answer → after.finishes ≡ before.finishes
-      → BreaksOff text refuses cost (FirstOf first seen seen'.left) before after
-  ends_unwritten first seen seen' refused0 before after reader reader' left held answerer answerer' refused steps l answer piece so reads answered is prefix paid same = record {
+      → BreaksOff text refuses cost (FirstOf first seen left') before after
+  ends_unwritten first seen left' refused0 before after reader reader' left held answerer answerer' refused steps l answer piece so reads answered is prefix paid same = record {
     answers = so.answers ++ answer ∷ [];
     put = put_in_part text refuses cost so.answers before.held held after.held answer piece so.put.put is prefix;
     steps = omega (arith, paid, so.put.paid, sum_by-append cost so.answers (answer ∷ []));
     finishes = inl same;
     lines = λ bytes told s at.
-        let more = reach_more Stands Answers s bytes so.answers reader reader' left seen'.left answerer answerer' answer l (so.reached bytes told s at) reads answered in
-        first_ones Stands Answers s bytes (so.answers ++ answer ∷ []) reader' seen'.left answerer' more;
+        let more = reach_more Stands Answers s bytes so.answers reader reader' left left' answerer answerer' answer l (so.reached bytes told s at) reads answered in
+        first_ones Stands Answers s bytes (so.answers ++ answer ∷ []) reader' left' answerer' more;
   }
 
   -- The end was reached.

@@ -101,6 +101,13 @@ module _ {R : Type 0} (text : R → List ℕ) (refuses : R → Bool) (cost : R �
     ended_after Status.Memory e = runs_out_after e
     ended_after Status.TooMuch e = cuts_after Status.TooMuch e
 
+-- A piece that was put whole and then kept was put, if perhaps in part.
+pub kept_prefix : (a b c : Option (List ℕ)) (piece : List ℕ) → Appends a b piece → Keeps b c → AppendsPrefix a c piece
+kept_prefix None b c piece p k = tt
+kept_prefix (Some held) None c piece p k = absurd p
+kept_prefix (Some held) (Some more) None piece p k = absurd k
+kept_prefix (Some held) (Some more) (Some last) piece p k = record { shown = piece; rest = []; whole = sym (append-nil piece); now_held = ap Some (k ∙ p) }
+
 -- What closes a run, and the end of it.
 module _ {W S R : Type 0} (text : R → List ℕ) (refuses : R → Bool) (cost : R → ℕ) (Stands : W → S → Type 0) (Closes : S → R → Type 0) (now : W) (refused : Bool) where
   alone_put : (answer : R) (piece : List ℕ) (h0 h1 : Option (List ℕ)) → piece ≡ text answer → Appends h0 h1 piece → Appends h0 h1 (flat_map text (answer ∷ []))

@@ -5,6 +5,7 @@ mod GoOnLemmas
 mod LineEndLemmas
 mod SearchLemmas
 mod DemoLemmas
+mod FormLemmas
 mod Examples
 mod RanLemmas
 pub mod AskLemmas

@@ -1,7 +1,8 @@
 -- How a machine goes from state to state.
 use Rattle.std.proofs.Common.{◌≡◌, ◌≤◌, ◌<◌, ℕ, true, false, if◌then◌else◌, List, length, nat_lt, Option, Some, None, Result, Ok, refl, sym, ap, ◌∙◌, subst, arith}
 use Rattle.std.proofs.lemmas.Bool.Decides.{nat_tests}
-use Rattle.std.specs.Str.{is_utf8}
+use Rattle.std.specs.Str.{is_utf8, IsUtf8}
+use Rattle.std.proofs.lemmas.Str.{IsUtf8-from_is_utf8}
 use Rattle.sk_io.specs.LineText.{most_line}
 use Rattle.sk_base.specs.declared.command.Command.{Command}
 use Rattle.sk_base.specs.declared.command.Command.TheVariants as Command
@@ -31,6 +32,10 @@ line_meant schema line o short full is =
     ap (λ b. if b then refusal Refusal.TooLong else (if is_blank line then blank else meaning_of (outcome schema (line_value line)))) fits
     ∙ ap (λ b. if b then blank else meaning_of (outcome schema (line_value line))) full
     ∙ ap meaning_of is
+
+-- Bytes that are not UTF-8 fail the test.
+pub not_utf8 : (line : List ℕ) → (IsUtf8 line → ⊥) → is_utf8 line ≡ false
+not_utf8 line h = elim (is_utf8 line) as (λ b. is_utf8 line ≡ b → b ≡ false) [ true ↦ λ e. absurd (h (IsUtf8-from_is_utf8 line e)) | false ↦ λ e. refl ] refl
 
 long_test : (line : List ℕ) → most_line < length line → nat_lt most_line (length line) ≡ true
 long_test line long = grind (arith, nat_tests)
@@ -68,7 +73,7 @@ module _ {M S A : Type 0} (fields : M → List Field) (Holds : M → S → Type 
       }
 
   -- The schema of a machine is that of the state.
-  schema_in_state : (store : Option M) (s : State S) → StandsFor fields Holds store s → schema_in fields (record { store = store }) ≡ schema_of s
+  pub schema_in_state : (store : Option M) (s : State S) → StandsFor fields Holds store s → schema_in fields (record { store = store }) ≡ schema_of s
   schema_in_state None None at = refl
   schema_in_state None (Some s) at = absurd at
   schema_in_state (Some store) None at = absurd at

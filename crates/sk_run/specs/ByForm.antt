@@ -49,8 +49,8 @@ module _ {S A : Type 0} (begun : S) (Does : List Field → S → Command → Res
   TakenBy (Search join) before after status answers =
       (Stopped status before.records after.records × (after.input ≡ before.input) × WhereTold before.records (λ records. AnswersTaken (Answers begun Does) None records answers after.records.left))
       ⊎ (Stopped status before.input after.input × WhereTold before.records (λ records. WhereTold before.input (λ input.
-          BehindRecords (Answers begun Does) None records answers after.records.left
-          (λ middle others. AnswersTaken (AnswersQuery begun Does join) middle input others after.input.left))))
+      BehindRecords (Answers begun Does) None records answers after.records.left
+      (λ middle others. AnswersTaken (AnswersQuery begun Does join) middle input others after.input.left))))
   TakenBy (Demo documents) before after status answers = ⊥
 
   -- First lines, or commands, of those that were taken were answered, or all of them and the run closed.
@@ -59,8 +59,8 @@ module _ {S A : Type 0} (begun : S) (Does : List Field → S → Command → Res
   FirstBy (Search join) before after answers =
       ((after.input ≡ before.input) × WhereTold before.records (λ records. AnswersFirst (Answers begun Does) None records answers after.records.left))
       ⊎ WhereTold before.records (λ records. WhereTold before.input (λ input.
-          BehindRecords (Answers begun Does) None records answers after.records.left
-          (λ middle others. AnswersSome (AnswersQuery begun Does join) (Closes Ends) middle input others after.input.left)))
+      BehindRecords (Answers begun Does) None records answers after.records.left
+      (λ middle others. AnswersSome (AnswersQuery begun Does join) (Closes Ends) middle input others after.input.left)))
   FirstBy (Demo documents) before after answers = ObeysSome (Obeys begun Does) (Closes Ends) None (demo_commands documents) answers
 
 -- The sources that the words do not touch are as before: the records under `run`, and both under `demo`.

@@ -24,7 +24,7 @@ demo_fields =
 -- The word `all` so often again, each behind a space.
 abbrev pub alls : ℕ → List ℕ
 alls zero = []
-alls (suc k) = codes " all" ++ alls k
+alls (suc k) = alls k ++ codes " all"
 
 -- The body of the document with this number: `all`, three words by the last digits of the number, and `all` up to six times again.
 abbrev pub demo_body : ℕ → List ℕ
@@ -47,11 +47,11 @@ three_by text order collapse = record { ask = Ask.Text text Join.Or; options = o
 
 -- The five finds, by their places: by relevance, by relevance, by relevance, collapsed on the site, and by the year, the later first.
 abbrev pub demo_find : ℕ → Find
-demo_find 0 = three_by (codes "all") by_relevance None
-demo_find 1 = three_by (codes "d3 h3") by_relevance None
-demo_find 2 = three_by (codes "all AND k7") by_relevance None
-demo_find 3 = three_by (codes "d1 all") by_relevance (Some (record { slot = 1; max = 1 }))
-demo_find _ = three_by (codes "year:1950..1959") (record { by = OrderBy.Value (record { slot = 0; reverse = true }); falling = false }) None
+demo_find zero = three_by (codes "all") by_relevance None
+demo_find (suc zero) = three_by (codes "d3 h3") by_relevance None
+demo_find (suc (suc zero)) = three_by (codes "all AND k7") by_relevance None
+demo_find (suc (suc (suc zero))) = three_by (codes "d1 all") by_relevance (Some (record { slot = 1; max = 1 }))
+demo_find (suc (suc (suc (suc more)))) = three_by (codes "year:1950..1959") (record { by = OrderBy.Value (record { slot = 0; reverse = true }); falling = false }) None
 
 -- The command at a place, of a demonstration with so many documents: the schema, the documents from 1 on, and the finds.
 abbrev pub demo_command : ℕ → ℕ → Command

@@ -38,10 +38,14 @@ demo_form word = if is_size word then demo_of (digits_value 10 word) else None
 abbrev pub two_words : List ℕ → List ℕ → Option Form
 two_words word other = if bytes_eq word (codes "search") then Some (Search Join.Or) else (if bytes_eq word (codes "demo") then demo_form other else None)
 
+-- What `search`, a word and `and` ask for.
+abbrev pub three_words : List ℕ → List ℕ → Option Form
+three_words word join = if bytes_eq word (codes "search") && bytes_eq join (codes "and") then Some (Search Join.And) else None
+
 -- The words that are a form: `run`; `search` and any word, and `and` behind them or not; `demo` and a number. No others are.
 abbrev pub form_of : List (List ℕ) → Option Form
 form_of [] = None
 form_of (word ∷ []) = if bytes_eq word (codes "run") then Some Run else None
 form_of (word ∷ other ∷ []) = two_words word other
-form_of (word ∷ file ∷ join ∷ []) = if bytes_eq word (codes "search") && bytes_eq join (codes "and") then Some (Search Join.And) else None
+form_of (word ∷ file ∷ join ∷ []) = three_words word join
 form_of (word ∷ file ∷ join ∷ more ∷ words) = None

@@ -1,5 +1,5 @@
 //! The commands of a demonstration.
-ghost use Rattle.std.specs.Prelude.{◌≡◌, ◌<◌, ◌≤◌, ◌^◌, ◌+◌, ◌%◌, ℕ, List, codes, decimal, ◌++◌, Some, None, IfOk, IfErr, OnOk, string_bytes};
+ghost use Rattle.std.specs.Prelude.{◌≡◌, false, ◌<◌, ◌≤◌, ◌^◌, ◌+◌, ◌%◌, ℕ, List, codes, decimal, ◌++◌, Some, None, IfOk, IfErr, OnOk, string_bytes};
 ghost use Rattle.sk_base.specs.declared.command.Command.{Command};
 ghost use Rattle.sk_run.specs.declared.response.Printing.TheVariants as Printing;
 ghost use Rattle.sk_run.specs.declared.response.Response.{Response};
@@ -71,11 +71,7 @@ pub(crate) fn obey_demo<M: Store, K: Sink, L: Ledger>(
 
 /// The command at a place, from 0, of a demonstration with so many documents: the schema, the documents from 1 on, and
 /// the finds.
-pub fn demo_command(
-    alloc: Global,
-    documents: usize,
-    place: usize,
-) -> Result<Command, AllocError>
+pub fn demo_command(alloc: Global, documents: usize, place: usize) -> Result<Command, AllocError>
     ensures { IfOk result (λ command. command ≡ demo_command documents place) }
 {
     if place == 0 {
@@ -115,7 +111,7 @@ fn demo_schema(alloc: Global) -> Result<Schema, AllocError>
 
 /// The document with this number.
 fn demo_record(alloc: Global, number: usize) -> Result<Record, AllocError>
-    ensures { IfOk result (λ record. record ≡ demo_record number) }
+    ensures { IfOk result (λ made. made ≡ demo_record number) }
 {
     let mut values = Items::new(alloc);
     values.push(Entry {
@@ -149,6 +145,7 @@ fn demo_body(alloc: Global, number: usize) -> Result<Text, AllocError>
 }
 
 /// The word `all` so often again.
+#[tactic(auto, using(crate::proofs::DemoLemmas::alls_more))]
 fn push_alls(body: &mut String, count: usize) -> Result<(), AllocError>
     ensures { OnOk result (string_bytes body.new ≡ string_bytes body.old ++ alls count) }
 {
@@ -174,7 +171,12 @@ fn demo_find(alloc: Global, place: usize) -> Result<Find, AllocError>
         0 => three_by(alloc, "all", BY_RELEVANCE, None),
         1 => three_by(alloc, "d3 h3", BY_RELEVANCE, None),
         2 => three_by(alloc, "all AND k7", BY_RELEVANCE, None),
-        3 => three_by(alloc, "d1 all", BY_RELEVANCE, Some(Collapse { slot: 1, max: 1 })),
+        3 => three_by(
+            alloc,
+            "d1 all",
+            BY_RELEVANCE,
+            Some(Collapse { slot: 1, max: 1 }),
+        ),
         _ => three_by(
             alloc,
             "year:1950..1959",

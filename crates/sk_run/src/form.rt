@@ -1,9 +1,9 @@
 //! The forms of words that a program takes.
-ghost use Rattle.std.specs.Prelude.{◌≡◌, ℕ, List, [], ◌∷◌, true, map, string_bytes};
+ghost use Rattle.std.specs.Prelude.{◌≡◌, [], ◌∷◌, true, map, string_bytes};
 ghost use Rattle.std.specs.List.{list_all};
 ghost use Rattle.std.specs.Char.{is_ascii_digit};
 ghost use Rattle.std.specs.Str.Parse.{digits_value};
-ghost use Rattle.sk_run.specs.Forms.{is_size, demo_of, demo_form, two_words, form_of};
+ghost use Rattle.sk_run.specs.Forms.{is_size, demo_of, demo_form, two_words, three_words, form_of};
 
 use sk_base::Join;
 
@@ -52,7 +52,7 @@ fn two_words(word: &str, other: &str) -> Option<Form>
 }
 
 fn three_words(word: &str, join: &str) -> Option<Form>
-    ensures { (file : List ℕ) → result ≡ form_of (word.now ∷ file ∷ join.now ∷ []) }
+    ensures { result ≡ three_words word.now join.now }
 {
     if word == "search" && join == "and" {
         Some(Form::Search(Join::And))

@@ -13,9 +13,7 @@ ghost use Rattle.sk_run.specs.Output.{State, Answers, AnswersQuery, AnswersAs, C
 ghost use Rattle.sk_run.specs.Machines.{StandsFor, IsAt, schema_in, schema_behind, Obeyed, Queried};
 
 use crate::{Refusal, Response, Store};
-use sk_base::{
-    Ask, Command, Find, Join, Options, Order, OrderBy, Reply, Schema, Scheme, Text,
-};
+use sk_base::{Ask, Command, Find, Join, Options, Order, OrderBy, Reply, Schema, Scheme, Text};
 use sk_io::Line;
 use sk_record::{LineFault, command};
 use sk_steps::Steps;
@@ -139,7 +137,10 @@ impl<M: Store> Machine<M> {
                 let (machine, response) = query(alloc, store, join, line, steps)?;
                 Ok((machine, response))
             }
-            None => Ok((Machine { store: None }, Response::Refused(Refusal::NoSchema))),
+            None => Ok((
+                Machine { store: None },
+                Response::Refused(Refusal::NoSchema),
+            )),
         }
     }
 

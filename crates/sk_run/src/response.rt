@@ -45,7 +45,11 @@ impl<A: Printed> Response<A> {
     }
 
     /// The lines that are printed, where answers are printed so.
-    pub(crate) fn into_text_under(self, alloc: Global, printing: Printing) -> Result<String, AllocError>
+    pub(crate) fn into_text_under(
+        self,
+        alloc: Global,
+        printing: Printing,
+    ) -> Result<String, AllocError>
         ensures { IfOk result (λ s. string_bytes s ≡ text_under printing A.text self) }
     {
         match printing {

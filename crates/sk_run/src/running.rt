@@ -1,5 +1,5 @@
 //! What the words of a program ask for.
-ghost use Rattle.std.specs.Prelude.{◌≡◌, ◌<◌, ◌^◌, map, string_bytes, Some, None};
+ghost use Rattle.std.specs.Prelude.{◌≡◌, false, ◌<◌, ◌^◌, map, string_bytes, Some, None};
 ghost use Rattle.sk_base.specs.declared.find.Join.{Join};
 ghost use Rattle.sk_run.specs.declared.form.Form.{Form};
 ghost use Rattle.sk_run.specs.declared.form.Form.TheVariants as Form;
@@ -53,8 +53,15 @@ pub fn run<M: Store, S: Source, R: Source, K: Sink, L: Ledger>(
             output,
             steps,
         ),
-        Some(Form::Search(join)) => search::<M, _, _, _, _>(alloc, join, input, records, output, steps),
-        Some(Form::Demo(documents)) => demonstrate::<M, _, _>(alloc, documents as usize, output, steps),
+        Some(Form::Search(join)) => search::<M, _, _, _, _>(
+            alloc, join, input, records, output, steps,
+        ),
+        Some(Form::Demo(documents)) => demonstrate::<M, _, _>(
+            alloc,
+            documents as usize,
+            output,
+            steps,
+        ),
         None => Status::Usage,
     }
 }
@@ -70,14 +77,14 @@ fn search<M: Store, S: Source, R: Source, K: Sink, L: Ledger>(
 ) -> Status
     ensures { Ended (text_under Printing.WithoutOk M.Answer.text) (is_refusal M.Answer.refuses) (steps_of M.Answer.steps)
         (WholeBy M.begun M.does M.closes (Form.Search join)
-            (record { input = record { left = S.left input.old; faults = S.faults input.old }; records = record { left = R.left records.old; faults = R.faults records.old }; output = record { held = K.held output.old; faults = K.faults output.old; settled = K.settled output.old; finishes = K.finishes output.old; steps = steps.old } })
-            (record { input = record { left = S.left input.new; faults = S.faults input.new }; records = record { left = R.left records.new; faults = R.faults records.new }; output = record { held = K.held output.new; faults = K.faults output.new; settled = K.settled output.new; finishes = K.finishes output.new; steps = steps.new } }))
+        (record { input = record { left = S.left input.old; faults = S.faults input.old }; records = record { left = R.left records.old; faults = R.faults records.old }; output = record { held = K.held output.old; faults = K.faults output.old; settled = K.settled output.old; finishes = K.finishes output.old; steps = steps.old } })
+        (record { input = record { left = S.left input.new; faults = S.faults input.new }; records = record { left = R.left records.new; faults = R.faults records.new }; output = record { held = K.held output.new; faults = K.faults output.new; settled = K.settled output.new; finishes = K.finishes output.new; steps = steps.new } }))
         (TakenBy M.begun M.does M.closes (Form.Search join)
-            (record { input = record { left = S.left input.old; faults = S.faults input.old }; records = record { left = R.left records.old; faults = R.faults records.old }; output = record { held = K.held output.old; faults = K.faults output.old; settled = K.settled output.old; finishes = K.finishes output.old; steps = steps.old } })
-            (record { input = record { left = S.left input.new; faults = S.faults input.new }; records = record { left = R.left records.new; faults = R.faults records.new }; output = record { held = K.held output.new; faults = K.faults output.new; settled = K.settled output.new; finishes = K.finishes output.new; steps = steps.new } }))
+        (record { input = record { left = S.left input.old; faults = S.faults input.old }; records = record { left = R.left records.old; faults = R.faults records.old }; output = record { held = K.held output.old; faults = K.faults output.old; settled = K.settled output.old; finishes = K.finishes output.old; steps = steps.old } })
+        (record { input = record { left = S.left input.new; faults = S.faults input.new }; records = record { left = R.left records.new; faults = R.faults records.new }; output = record { held = K.held output.new; faults = K.faults output.new; settled = K.settled output.new; finishes = K.finishes output.new; steps = steps.new } }))
         (FirstBy M.begun M.does M.closes (Form.Search join)
-            (record { input = record { left = S.left input.old; faults = S.faults input.old }; records = record { left = R.left records.old; faults = R.faults records.old }; output = record { held = K.held output.old; faults = K.faults output.old; settled = K.settled output.old; finishes = K.finishes output.old; steps = steps.old } })
-            (record { input = record { left = S.left input.new; faults = S.faults input.new }; records = record { left = R.left records.new; faults = R.faults records.new }; output = record { held = K.held output.new; faults = K.faults output.new; settled = K.settled output.new; finishes = K.finishes output.new; steps = steps.new } }))
+        (record { input = record { left = S.left input.old; faults = S.faults input.old }; records = record { left = R.left records.old; faults = R.faults records.old }; output = record { held = K.held output.old; faults = K.faults output.old; settled = K.settled output.old; finishes = K.finishes output.old; steps = steps.old } })
+        (record { input = record { left = S.left input.new; faults = S.faults input.new }; records = record { left = R.left records.new; faults = R.faults records.new }; output = record { held = K.held output.new; faults = K.faults output.new; settled = K.settled output.new; finishes = K.finishes output.new; steps = steps.new } }))
         false result
         (record { held = K.held output.old; faults = K.faults output.old; settled = K.settled output.old; finishes = K.finishes output.old; steps = steps.old })
         (record { held = K.held output.new; faults = K.faults output.new; settled = K.settled output.new; finishes = K.finishes output.new; steps = steps.new }) }
@@ -103,7 +110,7 @@ fn search<M: Store, S: Source, R: Source, K: Sink, L: Ledger>(
             output,
             steps,
         ),
-        Err(status) => status,
+        Err(stopped) => stopped,
     }
 }
 

@@ -33,17 +33,19 @@ pub(crate) fn answer_to_end<M: Store, S: Source, K: Sink, L: Ledger>(
 ) -> Status
     ensures { Ended (text_under printing M.Answer.text) (is_refusal M.Answer.refuses) (steps_of M.Answer.steps)
         (λ answers. WhereTold (record { left = S.left input.old; faults = S.faults input.old }) (λ bytes. (s : State M.State) → IsAt M.fields M.holds first s
-            → AnswersAll (AnswersAs M.begun M.does reading) (Closes M.closes) s bytes answers (S.left input.new)))
+        → AnswersAll (AnswersAs M.begun M.does reading) (Closes M.closes) s bytes answers (S.left input.new)))
         (λ status answers. Stopped status (record { left = S.left input.old; faults = S.faults input.old }) (record { left = S.left input.new; faults = S.faults input.new })
-            × WhereTold (record { left = S.left input.old; faults = S.faults input.old }) (λ bytes. (s : State M.State) → IsAt M.fields M.holds first s
-                → AnswersTaken (AnswersAs M.begun M.does reading) s bytes answers (S.left input.new)))
+        × WhereTold (record { left = S.left input.old; faults = S.faults input.old }) (λ bytes. (s : State M.State) → IsAt M.fields M.holds first s
+        → AnswersTaken (AnswersAs M.begun M.does reading) s bytes answers (S.left input.new)))
         (λ answers. WhereTold (record { left = S.left input.old; faults = S.faults input.old }) (λ bytes. (s : State M.State) → IsAt M.fields M.holds first s
-            → AnswersSome (AnswersAs M.begun M.does reading) (Closes M.closes) s bytes answers (S.left input.new)))
+        → AnswersSome (AnswersAs M.begun M.does reading) (Closes M.closes) s bytes answers (S.left input.new)))
         refused result
         (record { held = K.held output.old; faults = K.faults output.old; settled = K.settled output.old; finishes = K.finishes output.old; steps = steps.old })
         (record { held = K.held output.new; faults = K.faults output.new; settled = K.settled output.new; finishes = K.finishes output.new; steps = steps.new }) }
 {
-    match answer_lines(alloc, first, reading, printing, refused, input, output, steps) {
+    match answer_lines(
+        alloc, first, reading, printing, refused, input, output, steps,
+    ) {
         Ok((machine, refused)) => close(alloc, machine, printing, refused, output),
         Err(status) => status,
     }
@@ -63,17 +65,17 @@ pub(crate) fn answer_lines<M: Store, S: Source, K: Sink, L: Ledger>(
 ) -> Result<(Machine<M>, bool), Status>
     ensures ok { IfOk result (λ p. Continues (text_under printing M.Answer.text) (is_refusal M.Answer.refuses) (steps_of M.Answer.steps)
         (λ answers. WhereTold (record { left = S.left input.old; faults = S.faults input.old }) (λ bytes. (s : State M.State) → IsAt M.fields M.holds first s
-            → AnswersThrough (AnswersAs M.begun M.does reading) (IsAt M.fields M.holds) p.0 s bytes answers (S.left input.new)))
+        → AnswersThrough (AnswersAs M.begun M.does reading) (IsAt M.fields M.holds) p.0 s bytes answers (S.left input.new)))
         refused_before p.1
         (record { held = K.held output.old; faults = K.faults output.old; settled = K.settled output.old; finishes = K.finishes output.old; steps = steps.old })
         (record { held = K.held output.new; faults = K.faults output.new; settled = K.settled output.new; finishes = K.finishes output.new; steps = steps.new })) }
     ensures err { IfErr result (λ status. Ended (text_under printing M.Answer.text) (is_refusal M.Answer.refuses) (steps_of M.Answer.steps)
         NotWhole
         (λ status answers. Stopped status (record { left = S.left input.old; faults = S.faults input.old }) (record { left = S.left input.new; faults = S.faults input.new })
-            × WhereTold (record { left = S.left input.old; faults = S.faults input.old }) (λ bytes. (s : State M.State) → IsAt M.fields M.holds first s
-                → AnswersTaken (AnswersAs M.begun M.does reading) s bytes answers (S.left input.new)))
+        × WhereTold (record { left = S.left input.old; faults = S.faults input.old }) (λ bytes. (s : State M.State) → IsAt M.fields M.holds first s
+        → AnswersTaken (AnswersAs M.begun M.does reading) s bytes answers (S.left input.new)))
         (λ answers. WhereTold (record { left = S.left input.old; faults = S.faults input.old }) (λ bytes. (s : State M.State) → IsAt M.fields M.holds first s
-            → AnswersFirst (AnswersAs M.begun M.does reading) s bytes answers (S.left input.new)))
+        → AnswersFirst (AnswersAs M.begun M.does reading) s bytes answers (S.left input.new)))
         refused_before status
         (record { held = K.held output.old; faults = K.faults output.old; settled = K.settled output.old; finishes = K.finishes output.old; steps = steps.old })
         (record { held = K.held output.new; faults = K.faults output.new; settled = K.settled output.new; finishes = K.finishes output.new; steps = steps.new })) }
@@ -120,7 +122,7 @@ pub(crate) fn close<M: Store, K: Sink>(
     let Ok(answer) = machine.close(alloc) else {
         return Status::Memory;
     };
-    let refuses = refused || answer.refuses();
+    let refuses = refused | answer.refuses();
     let Ok(text) = answer.into_text_under(alloc, printing) else {
         return Status::Memory;
     };
