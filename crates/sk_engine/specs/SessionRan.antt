@@ -2,14 +2,12 @@
 use Rattle.std.specs.Prelude.{ℕ, List}
 use Rattle.sk_model.specs.Edits.{nothing_live}
 use Rattle.sk_run.specs.declared.status.Status.{Status}
-use Rattle.sk_run.specs.Responses.{text_of, is_refusal, steps_of}
 use Rattle.sk_run.specs.FindAnswers.{answer_text, is_refused, steps_in, Shown}
-use Rattle.sk_run.specs.Output.{Answers, Closes, Begins, DoesOnLive, ClosesSilently}
-use Rattle.sk_run.specs.Ended.{Outside}
+use Rattle.sk_run.specs.Output.{DoesOnLive, ClosesSilently}
+use Rattle.sk_run.specs.Outsides.{Outside}
 use Rattle.sk_run.specs.Ran.{Ran}
 use Rattle.sk_engine.specs.Finds.{Shows}
 
--- The main theorem, where each line may be answered as edits of documents, finds and shows are: what a run did that was given these words.
+-- The main theorem, where each command may be answered as edits of documents, finds and shows are: what a run did that was given these words.
 abbrev pub SessionRan : List (List ℕ) → Status → Outside → Outside → Type 0
-SessionRan words status before after =
-    Ran (text_of answer_text) (is_refusal is_refused) (steps_of steps_in) (Answers nothing_live (DoesOnLive Shows Shown)) (Closes ClosesSilently) Begins words status before after
+SessionRan words status before after = Ran answer_text is_refused steps_in nothing_live (DoesOnLive Shows Shown) ClosesSilently words status before after

@@ -1,5 +1,6 @@
 //! A program: from its arguments to the number that it ends with.
 ghost use Rattle.std.specs.Prelude.{◌≡◌};
+ghost use Rattle.sk_run.specs.Outsides.{Seen};
 ghost use Rattle.sk_run.specs.Started.{Around, Started};
 ghost use Rattle.sk_engine.specs.SessionRan.{SessionRan};
 
@@ -25,10 +26,11 @@ pub fn start<S: Source, R: Source, K: Sink, E: Sink, L: Ledger>(
     requires parts { blank.parts ≡ L.parts }
     requires one { blank.parts ≡ 1 }
     ensures started { Started SessionRan usage.now arguments result
-        (record { left = S.left input.old; read_faults = S.faults input.old; held = K.held output.old; write_faults = K.faults output.old; settled = K.settled output.old; finishes = K.finishes output.old })
-        (record { left = S.left input.new; read_faults = S.faults input.new; held = K.held output.new; write_faults = K.faults output.new; settled = K.settled output.new; finishes = K.finishes output.new })
+        (record { input = record { left = S.left input.old; faults = S.faults input.old }; records = record { left = R.left records.old; faults = R.faults records.old }; held = K.held output.old; faults = K.faults output.old; settled = K.settled output.old; finishes = K.finishes output.old })
+        (record { input = record { left = S.left input.new; faults = S.faults input.new }; records = record { left = R.left records.new; faults = R.faults records.new }; held = K.held output.new; faults = K.faults output.new; settled = K.settled output.new; finishes = K.finishes output.new })
         (E.held errors.old) (E.faults errors.old) (E.held errors.new) (E.faults errors.new) }
-    ensures records { records.new ≡ records.old }
 {
-    sk_run::start::<Session, _, _, _, L>(blank, alloc, usage, arguments, input, output, errors)
+    sk_run::start::<Session, _, _, _, _, L>(
+        blank, alloc, usage, arguments, input, records, output, errors,
+    )
 }

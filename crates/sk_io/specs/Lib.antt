@@ -2,6 +2,7 @@ pub mod Causes
 pub mod Fronts
 pub mod Memory
 pub mod Standard
+pub mod Files
 pub mod LineText
 pub mod Reading
 pub mod Answers

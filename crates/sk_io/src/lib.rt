@@ -3,6 +3,7 @@
 #![tactic(auto)]
 
 mod failed;
+mod file;
 mod found;
 mod line;
 mod lines;
@@ -14,6 +15,7 @@ mod standard;
 mod window;
 
 pub use failed::Failed;
+pub use file::LazyFile;
 pub use line::{Line, LineStop, MAX_LINE};
 pub use lines::Lines;
 pub use memory::{MemorySink, MemorySource};

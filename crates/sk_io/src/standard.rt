@@ -28,7 +28,7 @@ impl<T: Read + Drop> StdSource<T> {
 }
 
 // One read, tried again where it was interrupted.
-fn read_some<T: Read>(reader: &mut T, buf: &mut [u8]) -> Result<usize, Failed>
+pub(crate) fn read_some<T: Read>(reader: &mut T, buf: &mut [u8]) -> Result<usize, Failed>
     ensures bound { ReadsAtMost result buf.new }
     ensures bytes { ReadConsumes (T.remaining reader.old) (T.remaining reader.new) result buf.new }
 {

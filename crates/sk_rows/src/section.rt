@@ -28,6 +28,8 @@ pub struct Section {
     /// Whether each line that sets something has a meaning.
     is_set: bool,
     input: Vec<u8>,
+    /// The bytes of the second source.
+    records: Vec<u8>,
     wanted: Vec<String>,
     /// What is to be said on the errors.
     said: Vec<String>,
@@ -43,9 +45,10 @@ impl Section {
     pub fn new(alloc: Global) -> Result<Section, AllocError> {
         Ok(Section {
             title: String::new(alloc),
-            setting: Setting::new(alloc)?,
+            setting: Setting::new(alloc),
             is_set: true,
             input: Vec::new(alloc),
+            records: Vec::new(alloc),
             wanted: Vec::new(alloc),
             said: Vec::new(alloc),
             rows: 0,
@@ -61,20 +64,24 @@ impl Section {
         self.rows
     }
 
-    /// Adds a line: `# ` and the title, `@ ` and what is set, `> ` and a line of commands, `>> ` and one without its
-    /// end, `! ` and a line that is said, or an answer. A blank line is nothing.
+    /// Adds a line: `# ` and the title, `@ ` and what is set, `> ` and a line of the input, `>> ` and one without its
+    /// end, `< ` and a line of the records, `! ` and a line that is said, or an answer. A blank line is nothing.
     pub fn add(&mut self, alloc: Global, line: &[u8]) -> Result<(), AllocError> {
         if let Some(title) = line.strip_prefix(b"# ") {
             self.title = String::from_utf8_lossy(alloc, title)?;
         } else if let Some(set) = line.strip_prefix(b"@ ") {
             let set = String::from_utf8_lossy(alloc, set)?;
-            self.is_set = self.setting.set(set.as_str())? && self.is_set;
+            self.is_set = self.setting.set(alloc, set.as_str())? && self.is_set;
         } else if let Some(command) = line.strip_prefix(b"> ") {
             put_expanded(&mut self.input, command)?;
             self.input.push(b'\n')?;
             self.rows = self.rows.saturating_add(1);
         } else if let Some(command) = line.strip_prefix(b">> ") {
             put_expanded(&mut self.input, command)?;
+            self.rows = self.rows.saturating_add(1);
+        } else if let Some(record) = line.strip_prefix(b"< ") {
+            put_expanded(&mut self.records, record)?;
+            self.records.push(b'\n')?;
             self.rows = self.rows.saturating_add(1);
         } else if let Some(said) = line.strip_prefix(b"! ") {
             self.said.push(String::from_utf8_lossy(alloc, said)?)?;
@@ -107,7 +114,12 @@ impl Section {
         }
         let mut arguments = Vec::new(alloc);
         arguments.push(String::from_str(alloc, "program")?)?;
-        arguments.push(self.setting.word.clone()?)?;
+        for word in &self.setting.words {
+            arguments.push(word.clone()?)?;
+        }
+        if self.setting.words.is_empty() {
+            arguments.push(String::from_str(alloc, "run")?)?;
+        }
         Ok(Ok(arguments))
     }
 
@@ -122,7 +134,8 @@ impl Section {
         let reads = vec![in alloc; self.setting.read; 1]?;
         let writes = vec![in alloc; self.setting.write; 1]?;
         let mut input = MemorySource::new(self.input.clone()?, piece, reads);
-        let mut records = MemorySource::new(Vec::new(alloc), 1, Vec::new(alloc));
+        let record_reads = vec![in alloc; self.setting.records; 1]?;
+        let mut records = MemorySource::new(self.records.clone()?, piece, record_reads);
         let mut output = MemorySink::new(alloc, piece, self.setting.room, writes)?;
         let mut errors = MemorySink::new(alloc, 100, 100, Vec::new(alloc))?;
         let code = start::<_, _, _, _, L>(

@@ -2,18 +2,20 @@
 use sk_engine::Status;
 use std::alloc::{AllocError, Global};
 
-/// The word that the program is started with, how its streams give and take, and the number that it is to end with.
+/// The words that the program is started with, how its streams give and take, and the number that it is to end with.
 #[derive(Debug, Drop)]
 pub struct Setting {
-    pub word: String,
+    /// `run` where there is none.
+    pub words: Vec<String>,
     /// Why the arguments of the program were not read, where they were not.
     pub unread: Option<Status>,
     /// How many bytes a call gives or takes at the most.
     pub piece: usize,
     /// How many bytes the output takes.
     pub room: usize,
-    /// Which call of the input fails, and which of the output, counted from 1; none where it is 0.
+    /// Which call of the input fails, which of the records, and which of the output, counted from 1; none where it is 0.
     pub read: u64,
+    pub records: u64,
     pub write: u64,
     /// None where the section does not say it.
     pub code: Option<u64>,
@@ -21,27 +23,27 @@ pub struct Setting {
 
 impl Setting {
     /// Streams that give and take all.
-    pub fn new(alloc: Global) -> Result<Setting, AllocError> {
-        Ok(Setting {
-            word: String::from_str(alloc, "run")?,
+    pub fn new(alloc: Global) -> Setting {
+        Setting {
+            words: Vec::new(alloc),
             unread: None,
             piece: 65_536,
             room: 1 << 20,
             read: 0,
+            records: 0,
             write: 0,
             code: None,
-        })
+        }
     }
 
     /// Takes what a line sets, as `piece=3 read=1`, and answers whether all of it has a meaning.
-    pub fn set(&mut self, line: &str) -> Result<bool, AllocError> {
-        let alloc = *self.word.allocator();
+    pub fn set(&mut self, alloc: Global, line: &str) -> Result<bool, AllocError> {
         for part in line.split(' ') {
             let Some((name, value)) = part.split_once("=") else {
                 return Ok(false);
             };
             if name == "word" {
-                self.word = String::from_str(alloc, value)?;
+                self.words.push(String::from_str(alloc, value)?)?;
             } else if !self.set_number(name, value) {
                 return Ok(false);
             }
@@ -57,6 +59,7 @@ impl Setting {
             "piece" => self.piece = number as usize,
             "room" => self.room = number as usize,
             "read" => self.read = number,
+            "records" => self.records = number,
             "write" => self.write = number,
             "code" => self.code = Some(number),
             "unread" => {

@@ -1,6 +1,11 @@
 mod MachineLemmas
 mod RunLemmas
 mod EndLemmas
+mod GoOnLemmas
+mod LineEndLemmas
+mod SearchLemmas
+mod DemoLemmas
+mod FormLemmas
 mod Examples
 mod RanLemmas
 pub mod AskLemmas

@@ -1,7 +1,7 @@
 -- What a run did, by the arguments of its program.
 use Rattle.std.proofs.Common.{◌≡◌, ℕ, List, Result, Ok, String, Global, Vec, map, drop, string_bytes, sym, subst}
 use Rattle.sk_run.specs.declared.status.Status.{Status}
-use Rattle.sk_run.specs.Ended.{Outside}
+use Rattle.sk_run.specs.Outsides.{Outside}
 use Rattle.sk_run.specs.Started.{Around, outside, RanBy, RanFrom}
 
 -- a run by the words behind the first argument, from a counter at 0 on

@@ -1,140 +1,104 @@
--- The main theorem, from the end of a run over lines.
-use Rattle.std.proofs.Common.{◌≡◌, ◌≢◌, ◌≤◌, ◌+◌, ◌^◌, ℕ, Bool, true, false, List, Some, sum_by, refl, sym, ◌∙◌, arith, true≢false}
+-- The main theorem, from the end of a run by its form.
+use Rattle.std.proofs.Common.{◌≡◌, ◌≢◌, ◌≤◌, ◌<◌, ◌+◌, ◌^◌, ℕ, Bool, true, false, List, length, Option, Some, None, ◌⊎◌, inl, inr, sum_by, refl, sym, ap, ◌∙◌, subst, arith}
+use Rattle.sk_base.specs.declared.command.Command.{Command}
+use Rattle.sk_base.specs.declared.find.Join.{Join}
+use Rattle.sk_base.specs.declared.schema.Field.{Field}
 use Rattle.sk_io.specs.Causes.{Rose}
+use Rattle.sk_run.specs.declared.form.Form.{Form}
+use Rattle.sk_run.specs.declared.form.Form.TheVariants as Form
+use Rattle.sk_run.specs.declared.response.Response.{Response}
 use Rattle.sk_run.specs.declared.status.Status.{Status}
 use Rattle.sk_run.specs.declared.status.Status.TheVariants as Status
-use Rattle.sk_run.specs.Statuses.{IsFinished, IsCutShort}
-use Rattle.sk_run.specs.Forms.{is_form}
-use Rattle.sk_run.specs.Ends.{TakesAll}
-use Rattle.sk_run.specs.Ended.{Outside, WhereTold, Finishes, CutsShort, BreaksOff, RunsOut, Ended}
-use Rattle.sk_run.specs.Ran.{Ran}
+use Rattle.sk_run.specs.Statuses.{IsFinished}
+use Rattle.sk_run.specs.Forms.{form_of}
+use Rattle.sk_run.specs.Responses.{text_under, is_refusal, steps_of}
+use Rattle.sk_run.specs.Outsides.{Seen, Outside, WhereTold}
+use Rattle.sk_run.specs.Ends.{TakesAll, Stopped}
+use Rattle.sk_run.specs.Ended.{Ended}
+use Rattle.sk_run.specs.ByForm.{printing_of, WholeBy, TakenBy, FirstBy, Keeps}
+use Rattle.sk_run.specs.Ran.{IsCalm, Ran}
 
-module _ {S R : Type 0} (text : R → List ℕ) (refuses : R → Bool) (cost : R → ℕ) (Answers : S → List ℕ → R → S → Type 0) (Closes : S → R → Type 0) (Stands Begins : S → Type 0) (begins : (s : S) → Begins s → Stands s) where
-  finishes : (status : Status) (before after : Outside) → Finishes text refuses cost Answers Closes Stands status before after → Finishes text refuses cost Answers Closes Begins status before after
-  finishes status before after e = record {
-    answers = e.answers;
-    put = e.put;
-    status_is = e.status_is;
-    steps = e.steps;
-    settled = e.settled;
-    finishes = e.finishes;
-    lines = λ bytes told s at. e.lines bytes told s (begins s at);
+some≢none : {A : Type 0} (a : A) → Some a ≡ None → ⊥
+some≢none a e = cc
+
+same_form : (a b : Form) → Some a ≡ Some b → a ≡ b
+same_form a b e = cc
+
+-- A calm source does not stop.
+never_stopped : (status : Status) (before after : Seen) → IsCalm before after → Stopped status before after → ⊥
+never_stopped Status.Done before after calm stopped = stopped
+never_stopped Status.Refused before after calm stopped = stopped
+never_stopped Status.Usage before after calm stopped = stopped
+never_stopped Status.ReadFault before after calm stopped = calm.sound stopped
+never_stopped Status.WriteFault before after calm stopped = stopped
+never_stopped Status.Memory before after calm stopped = stopped
+never_stopped Status.TooMuch before after calm stopped =
+    let all : TakesAll (2 ^ 40) calm.bytes after.left = stopped calm.bytes calm.told in
+    omega (arith, all.taken, calm.short)
+
+module _ {S A : Type 0} (text : A → List ℕ) (refuses : A → Bool) (cost : A → ℕ) (begun : S) (Does : List Field → S → Command → Response A → S → Type 0) (Ends : List Field → S → Response A → Type 0) where
+  -- What a run did under the words of a form.
+  abbrev pub EndedBy : Form → Status → Outside → Outside → Type 0
+  EndedBy form status before after =
+      Ended (text_under (printing_of form) text) (is_refusal refuses) (steps_of cost) (WholeBy begun Does Ends form before after) (TakenBy begun Does Ends form before after) (FirstBy begun Does Ends form before after) false status before.output after.output
+
+  -- Where both sources are calm nothing was cut short.
+  never_taken : (form : Form) (status : Status) (before after : Outside) (answers : List (Response A)) → IsCalm before.input after.input → IsCalm before.records after.records → TakenBy begun Does Ends form before after status answers → ⊥
+  never_taken Form.Run status before after answers input records taken = never_stopped status before.input after.input input taken.0
+  never_taken (Form.Search join) status before after answers input records (inl taken) = never_stopped status before.records after.records records taken.0
+  never_taken (Form.Search join) status before after answers input records (inr taken) = never_stopped status before.input after.input input taken.0
+  never_taken (Form.Demo documents) status before after answers input records taken = taken
+
+  comes_to_its_end : (form : Form) (status : Status) (before after : Outside) → EndedBy form status before after → IsCalm before.input after.input → IsCalm before.records after.records → (Rose before.output.faults after.output.faults → ⊥)
+      → IsFinished status ⊎ (status ≡ Status.Memory)
+  comes_to_its_end form Status.Done before after e input records sound = inl tt
+  comes_to_its_end form Status.Refused before after e input records sound = inl tt
+  comes_to_its_end form Status.Usage before after e input records sound = absurd e
+  comes_to_its_end form Status.ReadFault before after e input records sound = absurd (never_taken form Status.ReadFault before after e.answers input records e.lines)
+  comes_to_its_end form Status.WriteFault before after e input records sound = absurd (sound e.1)
+  comes_to_its_end form Status.Memory before after e input records sound = inr refl
+  comes_to_its_end form Status.TooMuch before after e input records sound = absurd (never_taken form Status.TooMuch before after e.answers input records e.lines)
+
+  counts_on : (form : Form) (status : Status) (before after : Outside) → EndedBy form status before after → before.output.steps ≤ after.output.steps
+  counts_on form Status.Done before after e = omega (arith, e.steps)
+  counts_on form Status.Refused before after e = omega (arith, e.steps)
+  counts_on form Status.Usage before after e = absurd e
+  counts_on form Status.ReadFault before after e = omega (arith, e.steps)
+  counts_on form Status.WriteFault before after e = omega (arith, e.0.steps)
+  counts_on form Status.Memory before after e = omega (arith, e.steps)
+  counts_on form Status.TooMuch before after e = omega (arith, e.steps)
+
+  no_usage : (form : Form) (status : Status) (before after : Outside) → EndedBy form status before after → status ≡ Status.Usage → ⊥
+  no_usage form Status.Done before after e h = cc
+  no_usage form Status.Refused before after e h = cc
+  no_usage form Status.Usage before after e h = e
+  no_usage form Status.ReadFault before after e h = cc
+  no_usage form Status.WriteFault before after e h = cc
+  no_usage form Status.Memory before after e h = cc
+  no_usage form Status.TooMuch before after e h = cc
+
+  -- The end of a run under the words of a form says it all.
+  pub used : (words : List (List ℕ)) (form : Form) (status : Status) (before after : Outside) → form_of words ≡ Some form → EndedBy form status before after → Keeps form before after
+      → Ran text refuses cost begun Does Ends words status before after
+  used words form status before after is e keeps = record {
+    usage = (λ h. absurd (no_usage form status before after e h), λ h. absurd (some≢none form (sym is ∙ h)));
+    untouched = λ h. absurd (no_usage form status before after e h);
+    ended = λ other same. subst (λ (f : Form). EndedBy f status before after) (same_form form other (sym is ∙ same)) e;
+    kept = λ other same. subst (λ (f : Form). Keeps f before after) (same_form form other (sym is ∙ same)) keeps;
+    complete = λ other same input records sound. comes_to_its_end form status before after e input records sound;
+    counts = counts_on form status before after e;
   }
 
-  cuts_short : (before after : Outside) → CutsShort text refuses cost Answers Closes Stands before after → CutsShort text refuses cost Answers Closes Begins before after
-  cuts_short before after e = record { answers = e.answers; put = e.put; steps = e.steps; finishes = e.finishes; lines = λ bytes told s at. e.lines bytes told s (begins s at) }
-
-  breaks_off : (before after : Outside) → BreaksOff text refuses cost Answers Closes Stands before after → BreaksOff text refuses cost Answers Closes Begins before after
-  breaks_off before after e = record { answers = e.answers; put = e.put; steps = e.steps; finishes = e.finishes; lines = λ bytes told s at. e.lines bytes told s (begins s at) }
-
-  runs_out : (before after : Outside) → RunsOut text refuses cost Answers Closes Stands before after → RunsOut text refuses cost Answers Closes Begins before after
-  runs_out before after e = record { answers = e.answers; put = e.put; steps = e.steps; finishes = e.finishes; lines = λ bytes told s at. e.lines bytes told s (begins s at) }
-
   -- Where the words are no form, nothing happens.
-  pub unused : (words : List (List ℕ)) (before after : Outside) → is_form words ≡ false → after ≡ before → Ran text refuses cost Answers Closes Begins words Status.Usage before after
-  unused words before after no_form same = record {
-    whole = λ h. absurd h;
-    usage = (λ _. no_form, λ _. refl);
+  pub unused : (words : List (List ℕ)) (before after : Outside) → form_of words ≡ None → after ≡ before → Ran text refuses cost begun Does Ends words Status.Usage before after
+  unused words before after is same = record {
+    usage = (λ _. is, λ _. refl);
     untouched = λ _. same;
-    read_fault = λ e. absurd (usage_alone e);
-    write_fault = λ e. absurd (usage_alone_2 e);
-    too_much = λ e. absurd (usage_alone_3 e);
-    cut_short = λ h. absurd h;
-    broken_off = λ e. absurd (usage_alone_2 e);
-    ran_out = λ e. absurd (usage_alone_4 e);
+    ended = λ form h. absurd (some≢none form (sym h ∙ is));
+    kept = λ form h. absurd (some≢none form (sym h ∙ is));
+    complete = λ form h input records sound. absurd (some≢none form (sym h ∙ is));
     counts = by_same same;
   }
     where
-      usage_alone : Status.Usage ≡ Status.ReadFault → ⊥
-      usage_alone e = cc
-
-      usage_alone_2 : Status.Usage ≡ Status.WriteFault → ⊥
-      usage_alone_2 e = cc
-
-      usage_alone_3 : Status.Usage ≡ Status.TooMuch → ⊥
-      usage_alone_3 e = cc
-
-      usage_alone_4 : Status.Usage ≡ Status.Memory → ⊥
-      usage_alone_4 e = cc
-
-      by_same : after ≡ before → before.steps ≤ after.steps
-      by_same e = let s : after.steps ≡ before.steps = (λ i. Outside.steps (e i)) in omega (arith, s)
-
-  used_status : (status : Status) (words : List (List ℕ)) → is_form words ≡ true → status ≢ Status.Usage → (status ≡ Status.Usage → is_form words ≡ false) × (is_form words ≡ false → status ≡ Status.Usage)
-  used_status status words form other = (λ e. absurd (other e), λ e. absurd (true≢false (sym form ∙ e)))
-
-  -- The end of a run over lines says it all.
-  pub used : (words : List (List ℕ)) (status : Status) (before after : Outside) → is_form words ≡ true → Ended text refuses cost Answers Closes Stands status before after → Ran text refuses cost Answers Closes Begins words status before after
-  used words Status.Done before after form e = record {
-    whole = λ _. finishes Status.Done before after e;
-    usage = used_status Status.Done words form (λ h. cc);
-    untouched = λ h. cc;
-    read_fault = λ h. cc;
-    write_fault = λ h. cc;
-    too_much = λ h. cc;
-    cut_short = λ h. absurd h;
-    broken_off = λ h. cc;
-    ran_out = λ h. cc;
-    counts = omega (arith, e.steps);
-  }
-  used words Status.Refused before after form e = record {
-    whole = λ _. finishes Status.Refused before after e;
-    usage = used_status Status.Refused words form (λ h. cc);
-    untouched = λ h. cc;
-    read_fault = λ h. cc;
-    write_fault = λ h. cc;
-    too_much = λ h. cc;
-    cut_short = λ h. absurd h;
-    broken_off = λ h. cc;
-    ran_out = λ h. cc;
-    counts = omega (arith, e.steps);
-  }
-  used words Status.Usage before after form e = absurd e
-  used words Status.ReadFault before after form e = record {
-    whole = λ h. absurd h;
-    usage = used_status Status.ReadFault words form (λ h. cc);
-    untouched = λ h. cc;
-    read_fault = λ _. e.1;
-    write_fault = λ h. cc;
-    too_much = λ h. cc;
-    cut_short = λ _. cuts_short before after e.0;
-    broken_off = λ h. cc;
-    ran_out = λ h. cc;
-    counts = omega (arith, e.0.steps);
-  }
-  used words Status.WriteFault before after form e = record {
-    whole = λ h. absurd h;
-    usage = used_status Status.WriteFault words form (λ h. cc);
-    untouched = λ h. cc;
-    read_fault = λ h. cc;
-    write_fault = λ _. e.1;
-    too_much = λ h. cc;
-    cut_short = λ h. absurd h;
-    broken_off = λ _. breaks_off before after e.0;
-    ran_out = λ h. cc;
-    counts = omega (arith, e.0.steps);
-  }
-  used words Status.Memory before after form e = record {
-    whole = λ h. absurd h;
-    usage = used_status Status.Memory words form (λ h. cc);
-    untouched = λ h. cc;
-    read_fault = λ h. cc;
-    write_fault = λ h. cc;
-    too_much = λ h. cc;
-    cut_short = λ h. absurd h;
-    broken_off = λ h. cc;
-    ran_out = λ _. runs_out before after e;
-    counts = omega (arith, e.steps);
-  }
-  used words Status.TooMuch before after form e = record {
-    whole = λ h. absurd h;
-    usage = used_status Status.TooMuch words form (λ h. cc);
-    untouched = λ h. cc;
-    read_fault = λ h. cc;
-    write_fault = λ h. cc;
-    too_much = λ _. e.1;
-    cut_short = λ _. cuts_short before after e.0;
-    broken_off = λ h. cc;
-    ran_out = λ h. cc;
-    counts = omega (arith, e.0.steps);
-  }
+      by_same : after ≡ before → before.output.steps ≤ after.output.steps
+      by_same e = let s : after.output.steps ≡ before.output.steps = (λ i. (e i).output.steps) in omega (arith, s)

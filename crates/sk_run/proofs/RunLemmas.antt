@@ -15,9 +15,7 @@ use Rattle.sk_io.specs.Reading.{Reader, pending, StreamIs, outcome}
 use Rattle.sk_io.specs.Answers.{Charged, Ends, LineOf, LongLineOf, OpenLineOf, Stops, ReadsOn}
 use Rattle.sk_run.specs.declared.status.Status.{Status}
 use Rattle.sk_run.specs.Lines.{Runs, stop, line, Meets, Answered, AnsweredLine}
-use Rattle.sk_run.specs.Ends.{EndsLine, PutsFront, AnswersAll, AnswersTaken, AnswersFirst, AnswersSome, TakesAll, finished_status}
-use Rattle.sk_run.specs.Ended.{Outside, WhereTold, Finishes, CutsShort, BreaksOff, RunsOut, Ended}
-use Rattle.sk_run.specs.Closing.{Output, ClosesWhole, ClosesInPart, ClosesWithout, Closed}
+use Rattle.sk_run.specs.Ends.{EndsLine, PutsFront, AnswersTaken, AnswersFirst, AnswersThrough, TakesAll}
 
 -- as many bytes as are taken off the room were taken of the bytes
 pub record TakenSoFar (bytes : List ℕ) (reader : Reader) (left : Option (List ℕ)) : Type 0 where
@@ -147,30 +145,36 @@ pub still_goes : (reader reader' : Reader) (left left' : Option (List ℕ)) (l :
 still_goes reader reader' left left' (Whole text) reads = reads.goes
 still_goes reader reader' left left' TooLong reads = reads.goes
 
-or-false : (b : Bool) → (b || false) ≡ b
+pub or-false : (b : Bool) → (b || false) ≡ b
 or-false true = refl
 or-false false = refl
 
+pub or-assoc : (a b c : Bool) → ((a || b) || c) ≡ (a || (b || c))
+or-assoc true b c = refl
+or-assoc false b c = refl
+
 -- For answers that have these texts, refuse their lines so and tell of so many readings.
 module _ {R : Type 0} (text : R → List ℕ) (refuses : R → Bool) (cost : R → ℕ) where
-  -- The answers so far were put, and counted.
-  pub record IsPut (answers : List R) (held held_now : Option (List ℕ)) (refused : Bool) (begun now : ℕ) : Type 0 where
+  -- The answers so far were put, and counted; whether a line was refused before them, or by them, is known.
+  pub record IsPut (answers : List R) (held held_now : Option (List ℕ)) (refused_before refused : Bool) (begun now : ℕ) : Type 0 where
     pub put : Appends held held_now (flat_map text answers)
-    pub refusals : refused ≡ list_any refuses answers
+    pub refusals : refused ≡ (refused_before || list_any refuses answers)
     pub paid : now ≡ begun + sum_by cost answers
 
-  pub none_put : (held : Option (List ℕ)) (begun : ℕ) → IsPut [] held held false begun begun
-  none_put held begun = record { put = Appends-nil held; refusals = refl; paid = omega arith }
+  pub none_put : (held : Option (List ℕ)) (refused : Bool) (begun : ℕ) → IsPut [] held held refused refused begun begun
+  none_put held refused begun = record { put = Appends-nil held; refusals = sym (or-false refused); paid = omega arith }
 
   -- One answer more was put.
-  pub put_more : (answers : List R) (held held_now held' : Option (List ℕ)) (refused refused' : Bool) (begun now now' : ℕ) (answer : R) (piece : List ℕ)
-      → IsPut answers held held_now refused begun now → piece ≡ text answer → Appends held_now held' piece → refused' ≡ (refused || refuses answer) → now' ≡ now + cost answer
-      → IsPut (answers ++ answer ∷ []) held held' refused' begun now'
-  put_more answers held held_now held' refused refused' begun now now' answer piece so is put refusal paid = record {
+  pub put_more : (answers : List R) (held held_now held' : Option (List ℕ)) (refused_before refused refused' : Bool) (begun now now' : ℕ) (answer : R) (piece : List ℕ)
+      → IsPut answers held held_now refused_before refused begun now → piece ≡ text answer → Appends held_now held' piece → refused' ≡ (refused || refuses answer) → now' ≡ now + cost answer
+      → IsPut (answers ++ answer ∷ []) held held' refused_before refused' begun now'
+  put_more answers held held_now held' refused_before refused refused' begun now now' answer piece so is put refusal paid = record {
     put =
         subst (λ w. Appends held held' w) (ap (λ (w : List ℕ). flat_map text answers ++ w) is ∙ sym (texts-push text answers answer))
         (Appends-trans held held_now held' (flat_map text answers) piece so.put put);
-    refusals = refusal ∙ ap (λ b. b || refuses answer) so.refusals ∙ sym (list_any-append refuses answers (answer ∷ []) ∙ ap (λ b. list_any refuses answers || b) (or-false (refuses answer)));
+    refusals =
+        refusal ∙ ap (λ b. b || refuses answer) so.refusals ∙ or-assoc refused_before (list_any refuses answers) (refuses answer)
+        ∙ ap (λ b. refused_before || b) (sym (list_any-append refuses answers (answer ∷ []) ∙ ap (λ b. list_any refuses answers || b) (or-false (refuses answer))));
     paid = omega (arith, paid, so.paid, sum_by-append cost answers (answer ∷ []));
   }
 
@@ -293,36 +297,18 @@ module _ {W S R : Type 0} (Stands : W → S → Type 0) (Answers : S → List �
       closed (inl line_end) = line_end
       closed (inr at_end) = absurd (not_ended at_end)
 
-  -- The end was reached, and nothing closes the run.
-  pub unclosed : (start : S) (bytes : List ℕ) (answers : List R) (reader reader' : Reader) (left left' : Option (List ℕ)) (answerer : W)
-      → Reached start bytes answers reader left answerer → Ends reader left reader' left' → AnswersFirst Answers start bytes answers left'
-  unclosed start bytes answers reader reader' left left' answerer so ends =
-      let empty = ends.empty so.stream so.is in
-      let none : StreamIs reader' left' [] = empty.1 in
-      record {
-        last = so.state;
-        pending = pending reader';
-        rest = none.rest;
-        runs = stops_at start bytes answers reader left answerer (pending reader') none.rest so (empty.0 ∙ none.is);
-        left = none.told;
-      }
-
-  -- All lines were answered, and this closes the run.
-  pub closed_all : (Closes : S → R → Type 0) (start : S) (bytes : List ℕ) (answers : List R) (reader reader' : Reader) (left left' : Option (List ℕ)) (answerer : W) (closing : R)
-      → Reached start bytes answers reader left answerer → Ends reader left reader' left' → ((s : S) → Stands answerer s → Closes s closing)
-      → AnswersAll Answers Closes start bytes (answers ++ closing ∷ []) left'
-  closed_all Closes start bytes answers reader reader' left left' answerer closing so ends closes =
+  -- All lines were answered, and none is left.
+  pub through : (start : S) (bytes : List ℕ) (answers : List R) (reader reader' : Reader) (left left' : Option (List ℕ)) (answerer : W)
+      → Reached start bytes answers reader left answerer → Ends reader left reader' left' → AnswersThrough Answers Stands answerer start bytes answers left'
+  through start bytes answers reader reader' left left' answerer so ends =
       let empty = ends.empty so.stream so.is in
       let none : so.stream ≡ [] = empty.0 in
       let behind : StreamIs reader' left' [] = empty.1 in
       record {
-        of_lines = answers;
-        closing = closing;
         last = so.state;
-        all = refl;
         runs =
             subst (λ all. Runs Answers start bytes all so.state []) (append-nil answers)
             (so.goes_on [] so.state [] (subst (λ s. Runs Answers so.state so.stream [] so.state s) none stop));
-        closes = closes so.state so.at;
+        at = so.at;
         left = behind.told ∙ ap Some (behind.at_end ends.ended);
       }

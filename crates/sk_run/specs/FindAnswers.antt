@@ -1,21 +1,22 @@
--- What a find is answered, and its text.
+-- What a find or a show is answered, and its text.
 use Rattle.std.specs.Prelude.{◌≡◌, ℕ, ◌+◌, Bool, true, false, List, [], ◌∷◌, ◌++◌, length, codes, decimal, Result, Ok, Err}
 use Rattle.json.specs.Print.{quoted}
+use Rattle.serde_json.specs.Written.{compact_text}
 use Rattle.sk_base.specs.declared.find.Join.{Join}
 use Rattle.sk_base.specs.declared.report.Ranked.{Ranked}
 use Rattle.sk_base.specs.declared.report.Report.{Report}
 use Rattle.sk_base.specs.declared.schema.Field.{Field}
 use Rattle.sk_query.specs.Trees.{Tree}
+use Rattle.sk_shown.specs.Writing.{value_of}
 use Rattle.sk_grammar.specs.declared.fault.FaultKind.{FaultKind}
 use Rattle.sk_grammar.specs.declared.fault.FaultKind.TheVariants as FaultKind
 use Rattle.sk_asked.specs.declared.asked.AskError.{AskError}
 use Rattle.sk_asked.specs.declared.asked.AskError.TheVariants as AskError
 use Rattle.sk_asked.specs.Asked.{text_asked}
-use Rattle.sk_run.specs.declared.refusal.Refusal.TheVariants as Refusal
 use Rattle.sk_run.specs.declared.response.Response.{Response}
 use Rattle.sk_run.specs.declared.response.Response.TheVariants as Response
 use Rattle.sk_run.specs.declared.find_answer.FindAnswer.{FindAnswer}
-use Rattle.sk_run.specs.declared.find_answer.FindAnswer.TheVariants.{Found, BadQuery, BadTree}
+use Rattle.sk_run.specs.declared.find_answer.FindAnswer.TheVariants.{Found, Query, BadQuery, BadTree}
 
 -- The second half of a found line, from ` upper=` on.
 abbrev pub found_rest : Report → List ℕ
@@ -56,21 +57,24 @@ fault_name FaultKind.TooMany = codes "TooMany"
 abbrev pub fault_line : FaultKind → ℕ → List ℕ
 fault_line kind place = codes "refused 9 BadQuery " ++ (fault_name kind ++ (codes " at " ++ (decimal place ++ codes "\n")))
 
--- The text of what a find is answered.
+-- The text of what a find or a show is answered.
 abbrev pub answer_text : FindAnswer → List ℕ
 answer_text (Found first report) = found_text first report
+answer_text (Query text) = codes "query " ++ (text ++ codes "\n")
 answer_text (BadQuery kind place) = fault_line kind place
 answer_text BadTree = codes "refused 10 BadTree\n"
 
 -- Whether the find is refused.
 abbrev pub is_refused : FindAnswer → Bool
 is_refused (Found first report) = false
+is_refused (Query text) = false
 is_refused (BadQuery kind place) = true
 is_refused BadTree = true
 
 -- The number that is printed after `steps=`.
 abbrev pub steps_in : FindAnswer → ℕ
 steps_in (Found first report) = report.steps
+steps_in (Query text) = 0
 steps_in (BadQuery kind place) = 0
 steps_in BadTree = 0
 
@@ -85,10 +89,10 @@ abbrev pub AnswersAsk : (Tree → Response FindAnswer → Type 0) → Result Tre
 AnswersAsk Finds (Ok query) answer = Finds query answer
 AnswersAsk Finds (Err why) answer = RefusedFor why answer
 
--- A form that is not built as yet.
-abbrev pub IsNotBuilt : Tree → Response FindAnswer → Type 0
-IsNotBuilt query answer = answer ≡ Response.Refused Refusal.BadShape
+-- The query of a text is shown as the compact text of its JSON value.
+abbrev pub IsShown : Tree → Response FindAnswer → Type 0
+IsShown query answer = answer ≡ Response.Own (Query (compact_text (value_of query)))
 
--- What a line that asks to show the query of a text is answered: a text with a fault is refused for it. (To show a query is a form that is not built as yet.)
+-- What a line that asks to show the query of a text is answered: a text with a fault is refused for it.
 abbrev pub Shown : List Field → Join → List ℕ → Response FindAnswer → Type 0
-Shown fields join text answer = AnswersAsk IsNotBuilt (text_asked fields join text) answer
+Shown fields join text answer = AnswersAsk IsShown (text_asked fields join text) answer

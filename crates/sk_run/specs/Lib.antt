@@ -5,11 +5,16 @@ pub mod Statuses
 pub mod Forms
 pub mod Conclusions
 pub mod Meaning
+pub mod Queries
 pub mod Lines
+pub mod Outsides
 pub mod Output
 pub mod Machines
 pub mod Ends
 pub mod Ended
 pub mod Closing
+pub mod Obeying
+pub mod Demos
+pub mod ByForm
 pub mod Ran
 pub mod Started

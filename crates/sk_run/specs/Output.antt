@@ -10,7 +10,10 @@ use Rattle.sk_model.specs.Edits.{Live, edited, reply_to}
 use Rattle.sk_run.specs.declared.refusal.Refusal.TheVariants as Refusal
 use Rattle.sk_run.specs.declared.response.Response.{Response}
 use Rattle.sk_run.specs.Responses.{response_to}
+use Rattle.sk_run.specs.declared.machine.Reading.{Reading}
+use Rattle.sk_run.specs.declared.machine.Reading.TheVariants.{Commands, Queries}
 use Rattle.sk_run.specs.Meaning.{Meaning, blank, refusal, told, unread, meaning}
+use Rattle.sk_run.specs.Queries.{query_meaning}
 
 -- The state of a run over a store with states of its own: nothing yet, or the schema that was accepted and the state under it.
 abbrev pub State : Type 0 → Type 0
@@ -39,6 +42,15 @@ Follows begun Does s unread answer next = ⊥
 abbrev pub Answers : {S A : Type 0} → S → (List Field → S → Command → Response A → S → Type 0) → State S → List ℕ → Response A → State S → Type 0
 Answers begun Does s line answer next = Follows begun Does s (meaning (schema_of s) line) answer next
 
+-- In this state the line may be answered so as a query text, and leaves that state.
+abbrev pub AnswersQuery : {S A : Type 0} → S → (List Field → S → Command → Response A → S → Type 0) → Join → State S → List ℕ → Response A → State S → Type 0
+AnswersQuery begun Does join s line answer next = Follows begun Does s (query_meaning join (schema_of s) line) answer next
+
+-- How a line is read: as a command, or as a query text whose words are joined so.
+abbrev pub AnswersAs : {S A : Type 0} → S → (List Field → S → Command → Response A → S → Type 0) → Reading → State S → List ℕ → Response A → State S → Type 0
+AnswersAs begun Does Commands s line answer next = Answers begun Does s line answer next
+AnswersAs begun Does (Queries join) s line answer next = AnswersQuery begun Does join s line answer next
+
 -- What is put behind the answers of all lines: nothing before a schema was accepted, and then what the store closes with.
 abbrev pub Closes : {S A : Type 0} → (List Field → S → Response A → Type 0) → State S → Response A → Type 0
 Closes Ends None answer = answer ≡ Response.Skipped
@@ -54,7 +66,3 @@ DoesOnLive Finds Shown fields live (Command.Show text join) answer next = Shown 
 -- Nothing is put at the end.
 abbrev pub ClosesSilently : {S A : Type 0} → List Field → S → Response A → Type 0
 ClosesSilently fields s answer = answer ≡ Response.Skipped
-
--- A run begins without a schema.
-abbrev pub Begins : {S : Type 0} → State S → Type 0
-Begins s = s ≡ None

@@ -1,27 +1,38 @@
--- The main theorem: what a run does, whatever answers its lines, for every source and every sink.
-use Rattle.std.specs.Prelude.{◌≡◌, ℕ, ◌≤◌, ◌^◌, ◌↔◌, Bool, false, List}
+-- The main theorem: what a run does over a store, for all words, every two sources and every sink.
+use Rattle.std.specs.Prelude.{◌≡◌, ℕ, ◌≤◌, ◌<◌, ◌^◌, ◌↔◌, Bool, false, List, length, Option, Some, None, ◌⊎◌}
+use Rattle.sk_base.specs.declared.command.Command.{Command}
+use Rattle.sk_base.specs.declared.schema.Field.{Field}
 use Rattle.sk_io.specs.Causes.{Rose}
+use Rattle.sk_run.specs.declared.form.Form.{Form}
+use Rattle.sk_run.specs.declared.response.Response.{Response}
 use Rattle.sk_run.specs.declared.status.Status.{Status}
 use Rattle.sk_run.specs.declared.status.Status.TheVariants as Status
-use Rattle.sk_run.specs.Statuses.{IsFinished, IsCutShort}
-use Rattle.sk_run.specs.Forms.{is_form}
-use Rattle.sk_run.specs.Ends.{TakesAll}
-use Rattle.sk_run.specs.Ended.{Outside, WhereTold, Finishes, CutsShort, BreaksOff, RunsOut}
+use Rattle.sk_run.specs.Statuses.{IsFinished}
+use Rattle.sk_run.specs.Forms.{form_of}
+use Rattle.sk_run.specs.Responses.{text_under, is_refusal, steps_of}
+use Rattle.sk_run.specs.Outsides.{Seen, Outside}
+use Rattle.sk_run.specs.Ended.{Ended}
+use Rattle.sk_run.specs.ByForm.{printing_of, WholeBy, TakenBy, FirstBy, Keeps}
 
--- What a run does that was given these words, for answers that have these texts, refuse their lines so and tell of so many readings, for what a line may be answered, for what closes the run, and from each state that it may begin in.
-pub record Ran {S R : Type 0} (text : R → List ℕ) (refuses : R → Bool) (cost : R → ℕ) (Answers : S → List ℕ → R → S → Type 0) (Closes : S → R → Type 0) (Begins : S → Type 0) (words : List (List ℕ)) (status : Status) (before after : Outside) : Type 0 where
-  -- The input was read to its end: the output is one that the definitions allow, and nothing else.
-  pub whole : IsFinished status → Finishes text refuses cost Answers Closes Begins status before after
+-- The source tells its bytes, which are fewer than a run takes of one source, and it did not fail.
+pub record IsCalm (before after : Seen) : Type 0 where
+  pub bytes : List ℕ
+  pub told : before.left ≡ Some bytes
+  pub short : length bytes < 2 ^ 40
+  pub sound : Rose before.faults after.faults → ⊥
+
+-- What a run does that was given these words, over a store whose own answers have these texts, refuse their lines so and tell of so many readings, that begins in a state, obeys commands so and is closed so.
+pub record Ran {S A : Type 0} (text : A → List ℕ) (refuses : A → Bool) (cost : A → ℕ) (begun : S) (Does : List Field → S → Command → Response A → S → Type 0) (Ends : List Field → S → Response A → Type 0) (words : List (List ℕ)) (status : Status) (before after : Outside) : Type 0 where
   -- The status of usage comes exactly where the words are no form, and then nothing happened.
-  pub usage : (status ≡ Status.Usage) ↔ (is_form words ≡ false)
+  pub usage : (status ≡ Status.Usage) ↔ (form_of words ≡ None)
   pub untouched : status ≡ Status.Usage → after ≡ before
-  -- Why the run stopped before the end.
-  pub read_fault : status ≡ Status.ReadFault → Rose before.read_faults after.read_faults
-  pub write_fault : status ≡ Status.WriteFault → Rose before.write_faults after.write_faults
-  pub too_much : status ≡ Status.TooMuch → WhereTold before (λ bytes. TakesAll (2 ^ 40) bytes after.left)
-  -- What was put then: after a read fault or too much, the answers to all lines whose end was taken; after a write fault a front of some answers; for want of memory the first answers.
-  pub cut_short : IsCutShort status → CutsShort text refuses cost Answers Closes Begins before after
-  pub broken_off : status ≡ Status.WriteFault → BreaksOff text refuses cost Answers Closes Begins before after
-  pub ran_out : status ≡ Status.Memory → RunsOut text refuses cost Answers Closes Begins before after
+  -- Under the words of a form: what the status says, and what was put, read and counted by then.
+  pub ended : (form : Form) → form_of words ≡ Some form
+      → Ended (text_under (printing_of form) text) (is_refusal refuses) (steps_of cost) (WholeBy begun Does Ends form before after) (TakenBy begun Does Ends form before after) (FirstBy begun Does Ends form before after) false status before.output after.output
+  -- What the form does not touch is as before.
+  pub kept : (form : Form) → form_of words ≡ Some form → Keeps form before after
+  -- Where memory is enough, both sources tell their bytes, which are not too many, and nothing fails, the run comes to its end.
+  pub complete : (form : Form) → form_of words ≡ Some form → IsCalm before.input after.input → IsCalm before.records after.records → (Rose before.output.faults after.output.faults → ⊥)
+      → IsFinished status ⊎ (status ≡ Status.Memory)
   -- The counter never falls.
-  pub counts : before.steps ≤ after.steps
+  pub counts : before.output.steps ≤ after.output.steps

@@ -1,9 +1,11 @@
 -- The text of what a line is answered. Each line of it ends with the byte 10, and numbers are decimal.
-use Rattle.std.specs.Prelude.{ℕ, Bool, true, false, List, [], ◌++◌, codes, decimal, flat_map}
+use Rattle.std.specs.Prelude.{ℕ, Bool, true, false, List, [], ◌++◌, codes, decimal, flat_map, if◌then◌else◌}
 use Rattle.sk_base.specs.declared.record.Reply.{Reply}
 use Rattle.sk_run.specs.declared.refusal.Refusal.{Refusal}
 use Rattle.sk_run.specs.declared.refusal.Refusal.TheVariants as Refusal
 use Rattle.sk_run.specs.declared.response.Response.{Response}
+use Rattle.sk_run.specs.declared.response.Printing.{Printing}
+use Rattle.sk_run.specs.declared.response.Printing.TheVariants.{All, WithoutOk}
 use Rattle.sk_run.specs.declared.response.Response.TheVariants.{Skipped, Refused, Schema, Id, Deleted, Own}
 use Rattle.sk_run.specs.Refusals.{refusal_number, name_of}
 
@@ -19,6 +21,20 @@ text_of text (Schema fields) = codes "ok schema " ++ (decimal fields ++ codes "\
 text_of text (Id id) = codes "ok id " ++ (decimal id ++ codes "\n")
 text_of text (Deleted count) = codes "ok deleted " ++ (decimal count ++ codes "\n")
 text_of text (Own answer) = text answer
+
+-- Whether the answer says no more than that its line was done: its line begins with `ok`.
+abbrev pub says_ok : {A : Type 0} → Response A → Bool
+says_ok Skipped = false
+says_ok (Refused why) = false
+says_ok (Schema fields) = true
+says_ok (Id id) = true
+says_ok (Deleted count) = true
+says_ok (Own answer) = false
+
+-- The text of one answer, where all answers are printed, or all but those that say `ok`.
+abbrev pub text_under : {A : Type 0} → Printing → (A → List ℕ) → Response A → List ℕ
+text_under All text answer = text_of text answer
+text_under WithoutOk text answer = if says_ok answer then [] else text_of text answer
 
 -- Whether the answer refuses its line, where those of a store's own answers do for which this test holds.
 abbrev pub is_refusal : {A : Type 0} → (A → Bool) → Response A → Bool

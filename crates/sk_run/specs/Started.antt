@@ -4,20 +4,20 @@ use Rattle.std.proofs.Common.{String, Global, Vec}
 use Rattle.sk_run.specs.declared.status.Status.{Status}
 use Rattle.sk_run.specs.Statuses.{code_of}
 use Rattle.sk_run.specs.Conclusions.{Says}
-use Rattle.sk_run.specs.Ended.{Outside}
+use Rattle.sk_run.specs.Outsides.{Seen, Outside}
 
 -- What a program's run sees of the outside, but for its counter, which begins at 0.
 pub record Around : Type 0 where
-  pub left : Option (List ℕ)
-  pub read_faults : ℕ
+  pub input : Seen
+  pub records : Seen
   pub held : Option (List ℕ)
-  pub write_faults : ℕ
+  pub faults : ℕ
   pub settled : Bool
   pub finishes : ℕ
 
 -- The same, with the counter.
 abbrev pub outside : Around → ℕ → Outside
-outside a steps = record { left = a.left; read_faults = a.read_faults; held = a.held; write_faults = a.write_faults; settled = a.settled; finishes = a.finishes; steps = steps }
+outside a steps = record { input = a.input; records = a.records; output = record { held = a.held; faults = a.faults; settled = a.settled; finishes = a.finishes; steps = steps } }
 
 -- For runs that do so, by their words, their status, and the outside before and after.
 module _ (Runs : List (List ℕ) → Status → Outside → Outside → Type 0) where

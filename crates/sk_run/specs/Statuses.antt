@@ -23,7 +23,7 @@ message_of usage WriteFault = Some (codes "write fault")
 message_of usage Memory = Some (codes "no memory")
 message_of usage TooMuch = Some (codes "too much input")
 
--- The input was read to its end, and all was put.
+-- The run came to its end, and all was put.
 abbrev pub IsFinished : Status → Type 0
 IsFinished Done = Unit {0}
 IsFinished Refused = Unit {0}
@@ -32,13 +32,3 @@ IsFinished ReadFault = ⊥
 IsFinished WriteFault = ⊥
 IsFinished Memory = ⊥
 IsFinished TooMuch = ⊥
-
--- The input stopped before its end.
-abbrev pub IsCutShort : Status → Type 0
-IsCutShort Done = ⊥
-IsCutShort Refused = ⊥
-IsCutShort Usage = ⊥
-IsCutShort ReadFault = Unit {0}
-IsCutShort WriteFault = ⊥
-IsCutShort Memory = ⊥
-IsCutShort TooMuch = Unit {0}

@@ -3,9 +3,10 @@ ghost use Rattle.std.specs.Prelude.{◌≡◌, ◌≤◌, length, IfOk};
 ghost use Rattle.sk_run.specs.Responses.{steps_of};
 ghost use Rattle.sk_run.specs.FindAnswers.{steps_in, RefusedFor, Shown};
 
-use crate::{FindAnswer, Refusal, Response};
+use crate::{FindAnswer, Response};
 use sk_asked::{AskError, text_query};
-use sk_base::{Join, Schema};
+use sk_base::{Join, Schema, Text};
+use sk_shown::text as compact_text;
 use std::alloc::{AllocError, Global};
 
 /// What is answered where no query was read, with its cause.
@@ -33,7 +34,10 @@ pub fn shown(
     ensures free { IfOk result (λ answer. steps_of steps_in answer ≡ 0) }
 {
     match text_query(alloc, schema, join, text) {
-        Ok(_) => Ok(Response::Refused(Refusal::BadShape)),
+        Ok(query) => {
+            let text = compact_text(alloc, &query)?;
+            Ok(Response::Own(FindAnswer::Query(Text::from_string(text))))
+        }
         Err(why) => refused(why),
     }
 }

@@ -1,4 +1,4 @@
-//! What a find is answered, and its text.
+//! What a find or a show is answered, and its text.
 ghost use Rattle.std.specs.Prelude.{◌≡◌, ◌++◌, ◌+◌, ◌<◌, ◌^◌, codes, decimal, string_bytes, length, IfOk};
 ghost use Rattle.json.specs.Print.{quoted};
 
@@ -8,11 +8,13 @@ use sk_base::{Ranked, Report, Text};
 use sk_grammar::FaultKind;
 use std::alloc::{AllocError, Global};
 
-/// What a find is answered.
+/// What a find or a show is answered.
 #[derive(Debug, Drop)]
 pub enum FindAnswer {
     /// The rank of the first hit, and the report.
     Found(u32, Report),
+    /// The text of a query.
+    Query(Text),
     /// The text has this first fault, at this byte.
     BadQuery(FaultKind, usize),
     /// The tree is no query.
@@ -31,6 +33,7 @@ impl Printed for FindAnswer {
     fn into_text(self, alloc: Global) -> Result<String, AllocError> {
         match self {
             FindAnswer::Found(first, report) => found_lines(alloc, first, &report),
+            FindAnswer::Query(text) => query_line(alloc, &text),
             FindAnswer::BadQuery(kind, place) => fault_line(alloc, kind, place),
             FindAnswer::BadTree => String::from_str(alloc, "refused 10 BadTree\n"),
         }
@@ -39,6 +42,7 @@ impl Printed for FindAnswer {
     fn refuses(&self) -> bool {
         match self {
             FindAnswer::Found(_, _) => false,
+            FindAnswer::Query(_) => false,
             FindAnswer::BadQuery(_, _) => true,
             FindAnswer::BadTree => true,
         }
@@ -46,6 +50,13 @@ impl Printed for FindAnswer {
 }
 
 ghost use Rattle.sk_run.specs.FindAnswers.{found_line, found_rest, hit_line, hit_rest, found_text, fault_name, fault_line};
+
+fn query_line(alloc: Global, text: &Text) -> Result<String, AllocError>
+    ensures { IfOk result (λ s. string_bytes s ≡ codes "query " ++ (text.now ++ codes "\n")) }
+{
+    let text = text.as_str();
+    format!(in alloc; "query {text}\n")
+}
 
 fn fault_line(alloc: Global, kind: FaultKind, place: usize) -> Result<String, AllocError>
     ensures { IfOk result (λ s. string_bytes s ≡ fault_line kind place) }

@@ -1,95 +1,110 @@
-//! The form of words `run`.
-ghost use Rattle.std.specs.Prelude.{◌≡◌, drop, map, string_bytes, None, IfOk, IfErr, IsErr};
-ghost use Rattle.sk_run.specs.declared.status.Status.TheVariants as Status;
-ghost use Rattle.sk_run.specs.Responses.{text_of, is_refusal, steps_of};
-ghost use Rattle.std.specs.IoError.{error_kind};
-ghost use Rattle.sk_run.specs.Forms.{is_form, status_for};
-ghost use Rattle.sk_run.specs.Output.{Answers, Closes, Begins};
-ghost use Rattle.sk_run.specs.Ended.{Outside};
-ghost use Rattle.sk_run.specs.Ran.{Ran};
+//! The forms of words that a program takes.
+ghost use Rattle.std.specs.Prelude.{◌≡◌, [], ◌∷◌, true, map, string_bytes};
+ghost use Rattle.std.specs.List.{list_all};
+ghost use Rattle.std.specs.Char.{is_ascii_digit};
+ghost use Rattle.std.specs.Str.Parse.{digits_value};
+ghost use Rattle.sk_run.specs.Forms.{is_size, demo_of, demo_form, two_words, three_words, form_of};
 
-use crate::machine::Machine;
-use crate::runs::answer_lines;
-use crate::{Status, Store};
-use sk_io::{Sink, Source};
-use sk_steps::Steps;
-use std::alloc::{AllocError, Global};
-use std::env::Args;
-use std::io;
-use std::sync::ledger::Ledger;
+use sk_base::Join;
 
-/// Does what the words ask for. `run`: each line of `input` is a command, obeyed by a store of its own, and is
-/// answered on `output` before the next line is read.
-pub fn run<M: Store, S: Source, K: Sink, L: Ledger>(
-    alloc: Global,
-    words: &[String],
-    input: &mut S,
-    output: &mut K,
-    steps: &mut Steps<L>,
-) -> Status
-    ensures ran { Ran (text_of M.Answer.text) (is_refusal M.Answer.refuses) (steps_of M.Answer.steps) (Answers M.begun M.does) (Closes M.closes) Begins (map string_bytes words.now) result
-        (record { left = S.left input.old; read_faults = S.faults input.old; held = K.held output.old; write_faults = K.faults output.old; settled = K.settled output.old; finishes = K.finishes output.old; steps = steps.old })
-        (record { left = S.left input.new; read_faults = S.faults input.new; held = K.held output.new; write_faults = K.faults output.new; settled = K.settled output.new; finishes = K.finishes output.new; steps = steps.new }) }
-    ensures untouched { result ≡ Status.Usage → (input.new ≡ input.old) × (output.new ≡ output.old) }
-{
-    if !is_form(words) {
-        return Status::Usage;
-    }
-    answer_lines(alloc, Machine::<M>::new(), input, output, steps)
+/// The greatest number of documents of a demonstration.
+const MOST_DOCUMENTS: u32 = 200_000;
+
+/// What the words ask for.
+#[derive(Clone, Copy, Debug, PartialEq, Eq)]
+pub enum Form {
+    /// Each line of the input is a command.
+    Run,
+    /// Each line of the records is a command, and then each line of the input a query text whose words are joined so.
+    Search(Join),
+    /// The commands of a demonstration with so many documents.
+    Demo(u32),
 }
 
-fn is_form(words: &[String]) -> bool
-    ensures { result ≡ is_form (map string_bytes words.now) }
+/// What the words ask for, none where they are no form.
+pub fn form_of(words: &[String]) -> Option<Form>
+    ensures { result ≡ form_of (map string_bytes words.now) }
 {
     match words {
-        [word] => word.as_str() == "run",
-        _ => false,
+        [word] => one_word(word.as_str()),
+        [word, other] => two_words(word.as_str(), other.as_str()),
+        [word, _, join] => three_words(word.as_str(), join.as_str()),
+        _ => None,
     }
 }
 
-/// The arguments of a program, where they were read. Arguments that are not UTF-8 are none of the forms.
-pub fn arguments(alloc: Global, args: io::Result<Args>) -> Result<Vec<String>, Status>
-    ensures words { IfOk args (λ all. IfOk result (λ words. words.items ≡ all.rest.items)) }
-    ensures wanting { IfOk args (λ all. IfErr result (λ status. status ≡ Status.Memory)) }
-    ensures unread { IfErr args (λ error. IfErr result (λ status. status ≡ status_for (error_kind error))) }
-    ensures refused { IfErr args (λ error. IsErr result) }
+fn one_word(word: &str) -> Option<Form>
+    ensures { result ≡ form_of (word.now ∷ []) }
 {
-    match args {
-        Ok(all) => match collected(alloc, all) {
-            Ok(words) => Ok(words),
-            Err(_) => Err(Status::Memory),
-        },
-        Err(error) => { Err(status_for(error.kind())) }
+    if word == "run" { Some(Form::Run) } else { None }
+}
+
+fn two_words(word: &str, other: &str) -> Option<Form>
+    ensures { result ≡ two_words word.now other.now }
+{
+    if word == "search" {
+        Some(Form::Search(Join::Or))
+    } else if word == "demo" {
+        demo_form(other)
+    } else {
+        None
     }
 }
 
-/// The status of a run whose arguments were not read.
-fn status_for(kind: io::ErrorKind) -> Status
-    ensures { result ≡ status_for kind }
+fn three_words(word: &str, join: &str) -> Option<Form>
+    ensures { result ≡ three_words word.now join.now }
 {
-    match kind {
-        io::ErrorKind::OutOfMemory => Status::Memory,
-        _ => Status::Usage,
+    if word == "search" && join == "and" {
+        Some(Form::Search(Join::And))
+    } else {
+        None
     }
 }
 
-/// All that the iterator gives.
-fn collected(alloc: Global, args: Args) -> Result<Vec<String>, AllocError>
-    ensures { IfOk result (λ words. words.items ≡ args.rest.items) }
+/// A demonstration of as many documents as the word says.
+fn demo_form(word: &str) -> Option<Form>
+    ensures { result ≡ demo_form word.now }
 {
-    let mut words = Vec::new(alloc);
-    'words: for word in args {
-        words.push(word)?;
+    if is_size(word.as_bytes()) {
+        demo_of(word)
+    } else {
+        None
     }
-    Ok(words)
 }
 
-/// The words behind the program's name, which is the first argument.
-pub fn words_of(arguments: &[String]) -> &[String]
-    ensures { result.now ≡ drop 1 arguments.now }
+/// Whether it is a decimal number without a leading zero.
+fn is_size(word: &[u8]) -> bool
+    ensures { result ≡ is_size word.now }
 {
-    match arguments {
-        [_, words @ ..] => words,
-        [] => arguments,
+    match word {
+        [] => false,
+        [first, ..] => *first != b'0' && are_digits(word),
+    }
+}
+
+fn are_digits(word: &[u8]) -> bool
+    ensures { result ≡ list_all is_ascii_digit word.now }
+{
+    word.iter().all(|b| b.is_ascii_digit())
+}
+
+/// A demonstration of so many documents, where they are not too many.
+fn demo_of(digits: &str) -> Option<Form>
+    requires { is_size digits.now ≡ true }
+    ensures { result ≡ demo_of (digits_value 10 digits.now) }
+{
+    match digits.parse::<u32>() {
+        Ok(documents) => within(documents),
+        Err(_) => None,
+    }
+}
+
+fn within(documents: u32) -> Option<Form>
+    ensures { result ≡ demo_of documents }
+{
+    if documents <= MOST_DOCUMENTS {
+        Some(Form::Demo(documents))
+    } else {
+        None
     }
 }

@@ -1,10 +1,10 @@
-//! The run over lines, for whatever answers them, and what answers commands over any store of documents.
-//! `specs/Ran.antt` has the main theorem.
+//! The run by the words of a program, over any store of documents: lines of commands, lines of query texts, and the
+//! commands of a demonstration. `specs/Ran.antt` has the main theorem.
 #![tactic(auto)]
 
-mod answerer;
 mod asking;
 mod conclusion;
+mod demo;
 mod find_answer;
 mod form;
 mod machine;
@@ -12,20 +12,23 @@ mod printed;
 mod program;
 mod refusal;
 mod response;
+mod running;
 mod runs;
 mod status;
 mod store;
+mod words;
 
-pub use answerer::Answerer;
 pub use asking::{refused, shown};
 pub use conclusion::conclude;
+pub use demo::demo_command;
 pub use find_answer::FindAnswer;
-pub use form::{arguments, run, words_of};
-pub use machine::{Machine, response_to};
+pub use form::{Form, form_of};
+pub use machine::{Machine, Reading, response_to};
 pub use printed::Printed;
 pub use program::start;
 pub use refusal::Refusal;
-pub use response::Response;
-pub use runs::answer_lines;
+pub use response::{Printing, Response};
+pub use running::run;
 pub use status::Status;
 pub use store::Store;
+pub use words::{arguments, words_of};

@@ -1,22 +1,33 @@
-//! The state of a run over commands: a store, once a schema was accepted.
+//! The state of a run: a store, once a schema was accepted.
 ghost use Rattle.std.specs.Prelude.{◌≡◌, ◌≤◌, ◌+◌, IfOk, length, Some, None};
 ghost use Rattle.std.specs.Option.{option_copied};
 ghost use Rattle.sk_io.specs.LineText.{most_line};
+ghost use Rattle.sk_io.specs.Answers.{IsShort};
 ghost use Rattle.sk_base.specs.declared.command.Command.TheVariants as Command;
 ghost use Rattle.sk_record.specs.Outcome.{MayCome};
 ghost use Rattle.sk_run.specs.Responses.{steps_of, response_to};
 ghost use Rattle.sk_run.specs.Meaning.{is_blank};
 ghost use Rattle.sk_run.specs.Lines.{Answered, AnsweredLine};
-ghost use Rattle.sk_run.specs.Output.{Answers, Closes};
-ghost use Rattle.sk_run.specs.Machines.{StandsFor, IsAt, schema_in, Obeyed};
+ghost use Rattle.sk_run.specs.Queries.{find_by};
+ghost use Rattle.sk_run.specs.Output.{State, Answers, AnswersQuery, AnswersAs, Closes};
+ghost use Rattle.sk_run.specs.Machines.{StandsFor, IsAt, schema_in, schema_behind, Obeyed, Queried};
 
-use crate::{Answerer, Refusal, Response, Store};
-use sk_base::{Command, Reply, Schema};
+use crate::{Refusal, Response, Store};
+use sk_base::{Ask, Command, Find, Join, Options, Order, OrderBy, Reply, Schema, Scheme, Text};
 use sk_io::Line;
 use sk_record::{LineFault, command};
 use sk_steps::Steps;
 use std::alloc::{AllocError, Global};
 use std::sync::ledger::Ledger;
+
+/// How lines are read.
+#[derive(Clone, Copy, Debug, PartialEq, Eq)]
+pub enum Reading {
+    /// Each is a command.
+    Commands,
+    /// Each is a query text, whose words are joined so.
+    Queries(Join),
+}
 
 /// The store of a run, once a schema was accepted.
 #[derive(Drop)]
@@ -32,8 +43,55 @@ impl<M: Store> Machine<M> {
         Machine { store: None }
     }
 
-    /// Answers a line that is not too long. Where memory runs out the machine is given up.
+    /// Answers a line. Where memory runs out the machine is given up.
+    pub(crate) fn answer<L: Ledger>(
+        self,
+        alloc: Global,
+        reading: Reading,
+        line: Line<'_>,
+        steps: &mut Steps<L>,
+    ) -> Result<(Machine<M>, Response<M::Answer>), AllocError>
+        requires { IsShort (Some line) }
+        ensures answered { IfOk result (λ p. AnsweredLine (IsAt M.fields M.holds) (AnswersAs M.begun M.does reading) self line.entry p.1 p.0) }
+        ensures cost { IfOk result (λ p. steps.new ≡ steps.old + steps_of M.Answer.steps p.1) }
+        ensures later { steps.old ≤ steps.new }
+    {
+        match line {
+            Line::Whole(text) => {
+                let (machine, response) = self.answer_text(alloc, reading, text, steps)?;
+                Ok((machine, response))
+            }
+            Line::TooLong => Ok((self, Response::Refused(Refusal::TooLong))),
+        }
+    }
+
+    /// Answers a line that is not too long.
     fn answer_text<L: Ledger>(
+        self,
+        alloc: Global,
+        reading: Reading,
+        line: &[u8],
+        steps: &mut Steps<L>,
+    ) -> Result<(Machine<M>, Response<M::Answer>), AllocError>
+        requires { length line.now ≤ most_line }
+        ensures answered { IfOk result (λ p. Answered (IsAt M.fields M.holds) (AnswersAs M.begun M.does reading) self line.now p.1 p.0) }
+        ensures cost { IfOk result (λ p. steps.new ≡ steps.old + steps_of M.Answer.steps p.1) }
+        ensures later { steps.old ≤ steps.new }
+    {
+        match reading {
+            Reading::Commands => {
+                let (machine, response) = self.answer_command(alloc, line, steps)?;
+                Ok((machine, response))
+            }
+            Reading::Queries(join) => {
+                let (machine, response) = self.answer_query(alloc, join, line, steps)?;
+                Ok((machine, response))
+            }
+        }
+    }
+
+    /// Answers a line as a command.
+    fn answer_command<L: Ledger>(
         self,
         alloc: Global,
         line: &[u8],
@@ -61,6 +119,42 @@ impl<M: Store> Machine<M> {
         }
     }
 
+    /// Answers a line as a query text.
+    fn answer_query<L: Ledger>(
+        self,
+        alloc: Global,
+        join: Join,
+        line: &[u8],
+        steps: &mut Steps<L>,
+    ) -> Result<(Machine<M>, Response<M::Answer>), AllocError>
+        requires { length line.now ≤ most_line }
+        ensures answered { IfOk result (λ p. Answered (IsAt M.fields M.holds) (AnswersQuery M.begun M.does join) self line.now p.1 p.0) }
+        ensures cost { IfOk result (λ p. steps.new ≡ steps.old + steps_of M.Answer.steps p.1) }
+        ensures later { steps.old ≤ steps.new }
+    {
+        match self.store {
+            Some(store) => {
+                let (machine, response) = query(alloc, store, join, line, steps)?;
+                Ok((machine, response))
+            }
+            None => Ok((
+                Machine { store: None },
+                Response::Refused(Refusal::NoSchema),
+            )),
+        }
+    }
+
+    /// What is put behind the answers of all lines. It is no reading.
+    pub(crate) fn close(self, alloc: Global) -> Result<Response<M::Answer>, AllocError>
+        ensures closes { IfOk result (λ answer. (s : State M.State) → IsAt M.fields M.holds self s → Closes M.closes s answer) }
+        ensures free { IfOk result (λ answer. steps_of M.Answer.steps answer ≡ 0) }
+    {
+        match self.store {
+            Some(store) => store.close(alloc),
+            None => Ok(Response::Skipped),
+        }
+    }
+
     fn schema(&self) -> Option<&Schema>
         ensures { option_copied result ≡ schema_in M.fields self.now }
     {
@@ -70,7 +164,8 @@ impl<M: Store> Machine<M> {
         }
     }
 
-    fn execute<L: Ledger>(
+    /// Obeys a command that may come.
+    pub(crate) fn execute<L: Ledger>(
         self,
         alloc: Global,
         command: Command,
@@ -78,6 +173,7 @@ impl<M: Store> Machine<M> {
     ) -> Result<(Machine<M>, Response<M::Answer>), AllocError>
         requires { MayCome (schema_in M.fields self) command }
         ensures obeyed { IfOk result (λ p. Obeyed M.fields M.holds M.begun M.does self.store command p.1 p.0) }
+        ensures schema { IfOk result (λ p. schema_in M.fields p.0 ≡ schema_behind (schema_in M.fields self) command) }
         ensures cost { IfOk result (λ p. steps.new ≡ steps.old + steps_of M.Answer.steps p.1) }
         ensures later { steps.old ≤ steps.new }
     {
@@ -101,6 +197,7 @@ fn accept_schema<M: Store>(
     schema: Schema,
 ) -> Result<(Machine<M>, Response<M::Answer>), AllocError>
     ensures obeyed { IfOk result (λ p. Obeyed M.fields M.holds M.begun M.does None (Command.Schema schema) p.1 p.0) }
+    ensures schema { IfOk result (λ p. schema_in M.fields p.0 ≡ Some schema) }
     ensures cost { IfOk result (λ p. steps_of M.Answer.steps p.1 ≡ 0) }
 {
     let fields = schema.fields().len();
@@ -116,6 +213,7 @@ fn obey<M: Store, L: Ledger>(
 ) -> Result<(Machine<M>, Response<M::Answer>), AllocError>
     requires { MayCome (Some (M.fields store)) command }
     ensures obeyed { IfOk result (λ p. Obeyed M.fields M.holds M.begun M.does (Some store) command p.1 p.0) }
+    ensures schema { IfOk result (λ p. schema_in M.fields p.0 ≡ Some (M.fields store)) }
     ensures cost { IfOk result (λ p. steps.new ≡ steps.old + steps_of M.Answer.steps p.1) }
     ensures later { steps.old ≤ steps.new }
 {
@@ -123,41 +221,52 @@ fn obey<M: Store, L: Ledger>(
     Ok((Machine { store: Some(store) }, response))
 }
 
-impl<M: Store> Answerer for Machine<M> {
-    type Answer = Response<M::Answer>;
-
-    ghost use Rattle.sk_run.specs.Output.{State, Answers, Closes};
-    ghost use Rattle.sk_run.specs.Machines.{IsAt};
-
-    ghost State = { State M.State };
-
-    ghost stands = { IsAt M.fields M.holds };
-
-    ghost answers = { Answers M.begun M.does };
-
-    ghost closes = { Closes M.closes };
-
-    fn answer<L: Ledger>(
-        self,
-        alloc: Global,
-        line: Line<'_>,
-        steps: &mut Steps<L>,
-    ) -> Result<(Machine<M>, Response<M::Answer>), AllocError> {
-        match line {
-            Line::Whole(text) => {
-                let (machine, response) = self.answer_text(alloc, text, steps)?;
-                Ok((machine, response))
-            }
-            Line::TooLong => Ok((self, Response::Refused(Refusal::TooLong))),
+/// Answers a query text that is found in a store.
+fn query<M: Store, L: Ledger>(
+    alloc: Global,
+    store: M,
+    join: Join,
+    line: &[u8],
+    steps: &mut Steps<L>,
+) -> Result<(Machine<M>, Response<M::Answer>), AllocError>
+    requires { length line.now ≤ most_line }
+    ensures answered { IfOk result (λ p. Queried M.fields M.holds M.begun M.does store join line.now p.1 p.0) }
+    ensures cost { IfOk result (λ p. steps.new ≡ steps.old + steps_of M.Answer.steps p.1) }
+    ensures later { steps.old ≤ steps.new }
+{
+    match str::from_utf8(line) {
+        Ok(text) => {
+            let find = find_by(alloc, join, text)?;
+            let (machine, response) = obey(store, Command::Find(find), steps)?;
+            Ok((machine, response))
         }
+        Err(_) => Ok((
+            Machine { store: Some(store) },
+            Response::Refused(Refusal::BadShape),
+        )),
     }
+}
 
-    fn close(self, alloc: Global) -> Result<Response<M::Answer>, AllocError> {
-        match self.store {
-            Some(store) => store.close(alloc),
-            None => Ok(Response::Skipped),
-        }
-    }
+/// The find of a text, with the options that a find has which says none.
+fn find_by(alloc: Global, join: Join, text: &str) -> Result<Find, AllocError>
+    ensures { IfOk result (λ find. find ≡ find_by join text.now) }
+{
+    let text = Text::new(alloc, text)?;
+    Ok(Find {
+        ask: Ask::Text(text, join),
+        options: Options {
+            scheme: Scheme::Nnn,
+            first: 0,
+            size: 10,
+            check: 0,
+            cutoff: 0,
+        },
+        order: Order {
+            by: OrderBy::Relevance,
+            falling: false,
+        },
+        collapse: None,
+    })
 }
 
 /// What an edit's reply is answered.

@@ -1,7 +1,6 @@
 //! A program: from its arguments to the number that it ends with.
 ghost use Rattle.std.specs.Prelude.{◌≡◌};
-ghost use Rattle.sk_run.specs.Responses.{text_of, is_refusal, steps_of};
-ghost use Rattle.sk_run.specs.Output.{Answers, Closes, Begins};
+ghost use Rattle.sk_run.specs.Outsides.{Seen};
 ghost use Rattle.sk_run.specs.Ran.{Ran};
 ghost use Rattle.sk_run.specs.Started.{Around, RanFrom, Started};
 
@@ -14,46 +13,49 @@ use std::sync::ledger::{Blank, Ledger};
 /// Runs what the arguments of a program ask for, over a store of its own and under a counter of its own, and answers
 /// the number that the program ends with. Why a run did not come to its end is said on `errors`; `usage` is said of
 /// words that are no form.
-pub fn start<M: Store, S: Source, K: Sink, E: Sink, L: Ledger>(
+pub fn start<M: Store, S: Source, R: Source, K: Sink, E: Sink, L: Ledger>(
     blank: Blank,
     alloc: Global,
     usage: &'static [u8],
     arguments: Result<Vec<String>, Status>,
     input: &mut S,
+    records: &mut R,
     output: &mut K,
     errors: &mut E,
 ) -> u8
     requires name { blank.name ≡ L.name }
     requires parts { blank.parts ≡ L.parts }
     requires one { blank.parts ≡ 1 }
-    ensures started { Started (Ran (text_of M.Answer.text) (is_refusal M.Answer.refuses) (steps_of M.Answer.steps) (Answers M.begun M.does) (Closes M.closes) Begins) usage.now arguments result
-        (record { left = S.left input.old; read_faults = S.faults input.old; held = K.held output.old; write_faults = K.faults output.old; settled = K.settled output.old; finishes = K.finishes output.old })
-        (record { left = S.left input.new; read_faults = S.faults input.new; held = K.held output.new; write_faults = K.faults output.new; settled = K.settled output.new; finishes = K.finishes output.new })
+    ensures started { Started (Ran M.Answer.text M.Answer.refuses M.Answer.steps M.begun M.does M.closes) usage.now arguments result
+        (record { input = record { left = S.left input.old; faults = S.faults input.old }; records = record { left = R.left records.old; faults = R.faults records.old }; held = K.held output.old; faults = K.faults output.old; settled = K.settled output.old; finishes = K.finishes output.old })
+        (record { input = record { left = S.left input.new; faults = S.faults input.new }; records = record { left = R.left records.new; faults = R.faults records.new }; held = K.held output.new; faults = K.faults output.new; settled = K.settled output.new; finishes = K.finishes output.new })
         (E.held errors.old) (E.faults errors.old) (E.held errors.new) (E.faults errors.new) }
 {
     let mut steps = Steps::<L>::open(blank);
-    let status = status_of::<M, _, _, _>(alloc, arguments, input, output, &mut steps);
+    let status = status_of::<M, _, _, _, _>(alloc, arguments, input, records, output, &mut steps);
     conclude(status, usage, errors)
 }
 
 /// The status of a run, where the arguments were read.
-fn status_of<M: Store, S: Source, K: Sink, L: Ledger>(
+fn status_of<M: Store, S: Source, R: Source, K: Sink, L: Ledger>(
     alloc: Global,
     arguments: Result<Vec<String>, Status>,
     input: &mut S,
+    records: &mut R,
     output: &mut K,
     steps: &mut Steps<L>,
 ) -> Status
     requires { steps.old ≡ 0 }
-    ensures ran { RanFrom (Ran (text_of M.Answer.text) (is_refusal M.Answer.refuses) (steps_of M.Answer.steps) (Answers M.begun M.does) (Closes M.closes) Begins) arguments result
-        (record { left = S.left input.old; read_faults = S.faults input.old; held = K.held output.old; write_faults = K.faults output.old; settled = K.settled output.old; finishes = K.finishes output.old })
-        (record { left = S.left input.new; read_faults = S.faults input.new; held = K.held output.new; write_faults = K.faults output.new; settled = K.settled output.new; finishes = K.finishes output.new }) }
+    ensures ran { RanFrom (Ran M.Answer.text M.Answer.refuses M.Answer.steps M.begun M.does M.closes) arguments result
+        (record { input = record { left = S.left input.old; faults = S.faults input.old }; records = record { left = R.left records.old; faults = R.faults records.old }; held = K.held output.old; faults = K.faults output.old; settled = K.settled output.old; finishes = K.finishes output.old })
+        (record { input = record { left = S.left input.new; faults = S.faults input.new }; records = record { left = R.left records.new; faults = R.faults records.new }; held = K.held output.new; faults = K.faults output.new; settled = K.settled output.new; finishes = K.finishes output.new }) }
 {
     match arguments {
-        Ok(arguments) => run::<M, _, _, _>(
+        Ok(arguments) => run::<M, _, _, _, _>(
             alloc,
             words_of(arguments.as_slice()),
             input,
+            records,
             output,
             steps,
         ),

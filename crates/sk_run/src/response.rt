@@ -22,6 +22,48 @@ pub enum Response<A> {
     Own(A),
 }
 
+/// Which answers are printed.
+#[derive(Clone, Copy, Debug, PartialEq, Eq)]
+pub enum Printing {
+    All,
+    /// All but those that say no more than that a line was done.
+    WithoutOk,
+}
+
+impl<A: Printed> Response<A> {
+    ghost use Rattle.std.specs.Prelude.{◌≡◌, IfOk, string_bytes};
+    ghost use Rattle.sk_run.specs.Responses.{says_ok, text_under};
+
+    /// Whether it says no more than that its line was done.
+    fn says_ok(&self) -> bool
+        ensures { result ≡ says_ok self.now }
+    {
+        match self {
+            Response::Schema(_) | Response::Id(_) | Response::Deleted(_) => true,
+            Response::Skipped | Response::Refused(_) | Response::Own(_) => false,
+        }
+    }
+
+    /// The lines that are printed, where answers are printed so.
+    pub(crate) fn into_text_under(
+        self,
+        alloc: Global,
+        printing: Printing,
+    ) -> Result<String, AllocError>
+        ensures { IfOk result (λ s. string_bytes s ≡ text_under printing A.text self) }
+    {
+        match printing {
+            Printing::All => self.into_text(alloc),
+            Printing::WithoutOk => {
+                if self.says_ok() {
+                    return Ok(String::new(alloc));
+                }
+                self.into_text(alloc)
+            }
+        }
+    }
+}
+
 impl<A: Printed> Printed for Response<A> {
     ghost use Rattle.sk_run.specs.Responses.{text_of, is_refusal, steps_of};
 

@@ -1,9 +1,16 @@
 //! The run over the lines of a source.
-ghost use Rattle.std.specs.Prelude.{◌≡◌};
-ghost use Rattle.sk_run.specs.Ended.{Outside, Ended};
-ghost use Rattle.sk_run.specs.Closing.{Closed};
+ghost use Rattle.std.specs.Prelude.{◌≡◌, ℕ, List, IfOk, IfErr};
+ghost use Rattle.sk_run.specs.declared.status.Status.{Status};
+ghost use Rattle.sk_run.specs.declared.response.Response.{Response};
+ghost use Rattle.sk_run.specs.Responses.{text_under, is_refusal, steps_of};
+ghost use Rattle.sk_run.specs.Outsides.{Seen, Output, WhereTold};
+ghost use Rattle.sk_run.specs.Machines.{IsAt};
+ghost use Rattle.sk_run.specs.Output.{State, AnswersAs, Closes};
+ghost use Rattle.sk_run.specs.Ends.{Stopped, AnswersAll, AnswersTaken, AnswersFirst, AnswersSome, AnswersThrough};
+ghost use Rattle.sk_run.specs.Ended.{Ended, Continues, NotWhole};
+ghost use Rattle.sk_run.specs.Closing.{ClosedBy, ClosedOrNot, NeverTaken};
 
-use crate::{Answerer, Printed, Status};
+use crate::{Machine, Printed, Printing, Reading, Status, Store};
 use sk_io::{LineStop, Lines, Sink, Source, put_all};
 use sk_steps::Steps;
 use std::alloc::Global;
@@ -12,55 +19,111 @@ use std::sync::ledger::Ledger;
 /// How many bytes of one source a run takes at the most.
 const LIMIT: u64 = 1 << 40;
 
-/// Answers each line of `input` on `output`, before the next line is read. The answer is never `Usage`.
-pub fn answer_lines<A: Answerer, S: Source, K: Sink, L: Ledger>(
+/// Answers each line of `input` on `output`, before the next line is read, and closes the run. `refused` says whether
+/// a line was refused before. The answer is never `Usage`.
+pub(crate) fn answer_to_end<M: Store, S: Source, K: Sink, L: Ledger>(
     alloc: Global,
-    first: A,
+    first: Machine<M>,
+    reading: Reading,
+    printing: Printing,
+    refused: bool,
     input: &mut S,
     output: &mut K,
     steps: &mut Steps<L>,
 ) -> Status
-    ensures { Ended A.Answer.text A.Answer.refuses A.Answer.steps A.answers A.closes (A.stands first) result
-        (record { left = S.left input.old; read_faults = S.faults input.old; held = K.held output.old; write_faults = K.faults output.old; settled = K.settled output.old; finishes = K.finishes output.old; steps = steps.old })
-        (record { left = S.left input.new; read_faults = S.faults input.new; held = K.held output.new; write_faults = K.faults output.new; settled = K.settled output.new; finishes = K.finishes output.new; steps = steps.new }) }
+    ensures { Ended (text_under printing M.Answer.text) (is_refusal M.Answer.refuses) (steps_of M.Answer.steps)
+        (λ answers. WhereTold (record { left = S.left input.old; faults = S.faults input.old }) (λ bytes. (s : State M.State) → IsAt M.fields M.holds first s
+        → AnswersAll (AnswersAs M.begun M.does reading) (Closes M.closes) s bytes answers (S.left input.new)))
+        (λ status answers. Stopped status (record { left = S.left input.old; faults = S.faults input.old }) (record { left = S.left input.new; faults = S.faults input.new })
+        × WhereTold (record { left = S.left input.old; faults = S.faults input.old }) (λ bytes. (s : State M.State) → IsAt M.fields M.holds first s
+        → AnswersTaken (AnswersAs M.begun M.does reading) s bytes answers (S.left input.new)))
+        (λ answers. WhereTold (record { left = S.left input.old; faults = S.faults input.old }) (λ bytes. (s : State M.State) → IsAt M.fields M.holds first s
+        → AnswersSome (AnswersAs M.begun M.does reading) (Closes M.closes) s bytes answers (S.left input.new)))
+        refused result
+        (record { held = K.held output.old; faults = K.faults output.old; settled = K.settled output.old; finishes = K.finishes output.old; steps = steps.old })
+        (record { held = K.held output.new; faults = K.faults output.new; settled = K.settled output.new; finishes = K.finishes output.new; steps = steps.new }) }
+{
+    match answer_lines(
+        alloc, first, reading, printing, refused, input, output, steps,
+    ) {
+        Ok((machine, refused)) => close(alloc, machine, printing, refused, output),
+        Err(status) => status,
+    }
+}
+
+/// Answers each line of `input` on `output`, before the next line is read. The answer is the machine behind the lines,
+/// and whether a line was refused so far, or why the lines were not answered to their end.
+pub(crate) fn answer_lines<M: Store, S: Source, K: Sink, L: Ledger>(
+    alloc: Global,
+    first: Machine<M>,
+    reading: Reading,
+    printing: Printing,
+    refused_before: bool,
+    input: &mut S,
+    output: &mut K,
+    steps: &mut Steps<L>,
+) -> Result<(Machine<M>, bool), Status>
+    ensures ok { IfOk result (λ p. Continues (text_under printing M.Answer.text) (is_refusal M.Answer.refuses) (steps_of M.Answer.steps)
+        (λ answers. WhereTold (record { left = S.left input.old; faults = S.faults input.old }) (λ bytes. (s : State M.State) → IsAt M.fields M.holds first s
+        → AnswersThrough (AnswersAs M.begun M.does reading) (IsAt M.fields M.holds) p.0 s bytes answers (S.left input.new)))
+        refused_before p.1
+        (record { held = K.held output.old; faults = K.faults output.old; settled = K.settled output.old; finishes = K.finishes output.old; steps = steps.old })
+        (record { held = K.held output.new; faults = K.faults output.new; settled = K.settled output.new; finishes = K.finishes output.new; steps = steps.new })) }
+    ensures err { IfErr result (λ status. Ended (text_under printing M.Answer.text) (is_refusal M.Answer.refuses) (steps_of M.Answer.steps)
+        NotWhole
+        (λ status answers. Stopped status (record { left = S.left input.old; faults = S.faults input.old }) (record { left = S.left input.new; faults = S.faults input.new })
+        × WhereTold (record { left = S.left input.old; faults = S.faults input.old }) (λ bytes. (s : State M.State) → IsAt M.fields M.holds first s
+        → AnswersTaken (AnswersAs M.begun M.does reading) s bytes answers (S.left input.new)))
+        (λ answers. WhereTold (record { left = S.left input.old; faults = S.faults input.old }) (λ bytes. (s : State M.State) → IsAt M.fields M.holds first s
+        → AnswersFirst (AnswersAs M.begun M.does reading) s bytes answers (S.left input.new)))
+        refused_before status
+        (record { held = K.held output.old; faults = K.faults output.old; settled = K.settled output.old; finishes = K.finishes output.old; steps = steps.old })
+        (record { held = K.held output.new; faults = K.faults output.new; settled = K.settled output.new; finishes = K.finishes output.new; steps = steps.new })) }
 {
     let Ok(mut lines) = Lines::new(alloc, LIMIT) else {
-        return Status::Memory;
+        return Err(Status::Memory);
     };
-    let mut answerer = first;
-    let mut refused = false;
+    let mut machine = first;
+    let mut refused = refused_before;
     'lines: loop {
         let line = match lines.next(input) {
             Ok(Some(line)) => line,
-            Ok(None) => return close(alloc, answerer, output, refused),
-            Err(LineStop::Failed) => return Status::ReadFault,
-            Err(LineStop::TooMuch) => return Status::TooMuch,
+            Ok(None) => return Ok((machine, refused)),
+            Err(LineStop::Failed) => return Err(Status::ReadFault),
+            Err(LineStop::TooMuch) => return Err(Status::TooMuch),
         };
-        let Ok((next, answer)) = answerer.answer(alloc, line, steps) else {
-            return Status::Memory;
+        let Ok((next, answer)) = machine.answer(alloc, reading, line, steps) else {
+            return Err(Status::Memory);
         };
         refused |= answer.refuses();
-        let Ok(text) = answer.into_text(alloc) else {
-            return Status::Memory;
+        let Ok(text) = answer.into_text_under(alloc, printing) else {
+            return Err(Status::Memory);
         };
         let Ok(()) = put_all(output, text.as_bytes()) else {
-            return Status::WriteFault;
+            return Err(Status::WriteFault);
         };
-        answerer = next;
+        machine = next;
     }
 }
 
 /// Puts what closes the run, and ends the output.
-fn close<A: Answerer, K: Sink>(alloc: Global, answerer: A, output: &mut K, refused: bool) -> Status
-    ensures { Closed A.Answer.text A.Answer.refuses A.Answer.steps A.stands A.closes answerer refused result
-        (record { held = K.held output.old; faults = K.faults output.old; finishes = K.finishes output.old; settled = K.settled output.old })
-        (record { held = K.held output.new; faults = K.faults output.new; finishes = K.finishes output.new; settled = K.settled output.new }) }
+pub(crate) fn close<M: Store, K: Sink>(
+    alloc: Global,
+    machine: Machine<M>,
+    printing: Printing,
+    refused: bool,
+    output: &mut K,
+) -> Status
+    ensures { (count : ℕ) → Ended (text_under printing M.Answer.text) (is_refusal M.Answer.refuses) (steps_of M.Answer.steps)
+        (ClosedBy (IsAt M.fields M.holds) (Closes M.closes) machine) NeverTaken (ClosedOrNot (IsAt M.fields M.holds) (Closes M.closes) machine) refused result
+        (record { held = K.held output.old; faults = K.faults output.old; settled = K.settled output.old; finishes = K.finishes output.old; steps = count })
+        (record { held = K.held output.new; faults = K.faults output.new; settled = K.settled output.new; finishes = K.finishes output.new; steps = count }) }
 {
-    let Ok(answer) = answerer.close(alloc) else {
+    let Ok(answer) = machine.close(alloc) else {
         return Status::Memory;
     };
-    let refuses = refused || answer.refuses();
-    let Ok(text) = answer.into_text(alloc) else {
+    let refuses = refused | answer.refuses();
+    let Ok(text) = answer.into_text_under(alloc, printing) else {
         return Status::Memory;
     };
     let Ok(()) = put_all(output, text.as_bytes()) else {

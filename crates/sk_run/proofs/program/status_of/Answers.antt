@@ -1,7 +1,5 @@
 -- What a run did, by the arguments of its program.
 use Rattle.std.proofs.Common.{◌∙◌, drop}
-use Rattle.sk_run.specs.Responses.{text_of, is_refusal, steps_of}
-use Rattle.sk_run.specs.Output.{Answers, Closes, Begins}
 use Rattle.sk_run.specs.Ran.{Ran}
 use Rattle.sk_run.proofs.ProgramLemmas.{ran_from}
 use Rattle.sk_run.proofs.program.status_of.Goals as goal
@@ -9,7 +7,7 @@ use Rattle.sk_run.proofs.program.status_of.Goals as goal
 pub returns-in-Ok : goal.returns-in-Ok
 returns-in-Ok g c = record {
   ran =
-      ran_from (Ran (text_of g.M.Answer.Printed.text) (is_refusal g.M.Answer.Printed.refuses) (steps_of g.M.Answer.Printed.steps) (Answers g.M.Store.begun g.M.Store.does) (Closes g.M.Store.closes) Begins)
+      ran_from (Ran g.M.Answer.Printed.text g.M.Answer.Printed.refuses g.M.Answer.Printed.steps g.M.Store.begun g.M.Store.does g.M.Store.closes)
       c.args.arguments c.in-Ok.arguments c.words_of.result.now c.run.result _ _ c.args.steps.now c.run.new.steps
       c.in-Ok.is (c.words_of.ensures ∙ (λ i. drop 1 (c.as_slice.ensures.value i))) c.requires c.run.ensures.ran;
 }

@@ -1,5 +1,8 @@
 use Rattle.std.proofs.Common.{◌≡◌, ◌≤◌, ℕ, List, Some, None}
 use Rattle.sk_io.specs.Reading.{reach}
+use Rattle.sk_run.specs.Responses.{text_under, is_refusal, steps_of}
+use Rattle.sk_run.specs.Machines.{IsAt}
+use Rattle.sk_run.specs.Output.{AnswersAs}
 use Rattle.sk_run.proofs.RunLemmas.{TakenSoFar}
 use Rattle.sk_run.proofs.EndLemmas.{SoFar}
 use Rattle.sk_run.proofs.runs.answer_lines.Given as goal
@@ -11,8 +14,8 @@ invariant-lines g l = record {
   write_later : g.K.Sink.faults l.fn.output ≤ g.K.Sink.faults l.output;
   finishes : g.K.Sink.finishes l.output ≡ g.K.Sink.finishes l.fn.output;
   taken : (bytes : List ℕ) → g.S.Source.left l.fn.input ≡ Some bytes → TakenSoFar bytes l.lines (g.S.Source.left l.input);
-  so_far : SoFar g.A.Answer.Printed.text g.A.Answer.Printed.refuses g.A.Answer.Printed.steps g.A.Answerer.stands g.A.Answerer.answers g.A.Answerer.closes
-      l.fn.first (g.S.Source.left l.fn.input) (g.K.Sink.held l.fn.output) l.fn.steps l.lines (g.S.Source.left l.input) (g.K.Sink.held l.output) l.answerer l.refused l.steps;
+  so_far : SoFar (text_under l.fn.printing g.M.Answer.Printed.text) (is_refusal g.M.Answer.Printed.refuses) (steps_of g.M.Answer.Printed.steps) (IsAt g.M.Store.fields g.M.Store.holds) (AnswersAs g.M.Store.begun g.M.Store.does l.fn.reading)
+      l.fn.first (g.S.Source.left l.fn.input) (g.K.Sink.held l.fn.output) l.fn.refused_before l.fn.steps l.lines (g.S.Source.left l.input) (g.K.Sink.held l.output) l.machine l.refused l.steps;
 }
 
 abbrev pub decreases-lines : goal.decreases-lines

@@ -1,7 +1,7 @@
 use Rattle.std.proofs.Common.{sym, ◌∙◌}
 use Rattle.std.specs.Option.{option_copied}
 use Rattle.sk_run.proofs.MachineLemmas.{answered}
-use Rattle.sk_run.proofs.machine.Machine.answer_text.Goals as goal
+use Rattle.sk_run.proofs.machine.Machine.answer_command.Goals as goal
 
 pub returns-in_ok-machine-in-Ok-clause-answered : goal.returns-in_ok-machine-in-Ok-clause-answered
 returns-in_ok-machine-in-Ok-clause-answered g c =

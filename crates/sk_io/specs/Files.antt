@@ -1,0 +1,7 @@
+-- What a source over a file tells.
+use Rattle.std.specs.Prelude.{ℕ}
+use Rattle.sk_io.specs.declared.file.LazyFile.{LazyFile}
+
+-- how often a source over a file has failed
+abbrev pub file_faults : {R F D : Type 0} → LazyFile R F D → ℕ
+file_faults s = s.failed

@@ -1,0 +1,150 @@
+-- One part of a run behind another.
+use Rattle.std.proofs.Common.{◌≡◌, ◌≤◌, ◌+◌, ◌<◌, ℕ, Bool, ◌||◌, if◌then◌else◌, ◌⊎◌, inl, inr, List, [], ◌∷◌, ◌++◌, Option, Some, None, sum_by, flat_map, refl, sym, ap, ◌∙◌, subst, arith, true, false, append_assoc, append-nil}
+use Rattle.std.specs.List.{list_any}
+use Rattle.std.specs.Io.KnownBytes.{Appends, Keeps}
+use Rattle.std.proofs.KnownBytes.{Appends-nil, Appends-trans, Appends-kept}
+use Rattle.std.proofs.lemmas.List.Sums.{sum_by-append}
+use Rattle.std.proofs.lemmas.List.Folds.{list_any-append}
+use Rattle.std.proofs.lemmas.Grind.{flat_map-append}
+use Rattle.sk_io.specs.Causes.{Rose, counted}
+use Rattle.sk_io.specs.Fronts.{AppendsPrefix}
+use Rattle.sk_run.specs.declared.status.Status.{Status}
+use Rattle.sk_run.specs.declared.status.Status.TheVariants as Status
+use Rattle.sk_run.specs.Outsides.{Output}
+use Rattle.sk_run.specs.Ends.{PutsFront}
+use Rattle.sk_run.specs.Ended.{Finishes, CutsShort, BreaksOff, RunsOut, Continues, Ended, NotWhole, finished_status}
+use Rattle.sk_run.specs.Closing.{ClosedBy, ClosedOrNot, NeverTaken}
+use Rattle.sk_run.proofs.RunLemmas.{or-false, or-assoc, rose_since, put_in_part}
+
+module _ {R : Type 0} (text : R → List ℕ) (refuses : R → Bool) (cost : R → ℕ) where
+  -- What is said of the answers may be said in other words.
+  pub ended_as : (W0 W F0 F : List R → Type 0) (K0 K : Status → List R → Type 0) (refused : Bool) (status : Status) (before after : Output)
+      → ((a : List R) → W0 a → W a) → ((st : Status) (a : List R) → K0 st a → K st a) → ((a : List R) → F0 a → F a)
+      → Ended text refuses cost W0 K0 F0 refused status before after → Ended text refuses cost W K F refused status before after
+  ended_as W0 W F0 F K0 K refused Status.Done before after w k f e = record { answers = e.answers; put = e.put; status_is = e.status_is; steps = e.steps; settled = e.settled; finishes = e.finishes; lines = w e.answers e.lines }
+  ended_as W0 W F0 F K0 K refused Status.Refused before after w k f e = record { answers = e.answers; put = e.put; status_is = e.status_is; steps = e.steps; settled = e.settled; finishes = e.finishes; lines = w e.answers e.lines }
+  ended_as W0 W F0 F K0 K refused Status.Usage before after w k f e = absurd e
+  ended_as W0 W F0 F K0 K refused Status.ReadFault before after w k f e = record { answers = e.answers; put = e.put; steps = e.steps; finishes = e.finishes; lines = k Status.ReadFault e.answers e.lines }
+  ended_as W0 W F0 F K0 K refused Status.WriteFault before after w k f e = (record { answers = e.0.answers; put = e.0.put; steps = e.0.steps; finishes = e.0.finishes; lines = f e.0.answers e.0.lines }, e.1)
+  ended_as W0 W F0 F K0 K refused Status.Memory before after w k f e = record { answers = e.answers; put = e.put; steps = e.steps; finishes = e.finishes; lines = f e.answers e.lines }
+  ended_as W0 W F0 F K0 K refused Status.TooMuch before after w k f e = record { answers = e.answers; put = e.put; steps = e.steps; finishes = e.finishes; lines = k Status.TooMuch e.answers e.lines }
+
+  -- The texts of both parts were put.
+  both_put : (a b : List R) (h0 h1 h2 : Option (List ℕ)) → Appends h0 h1 (flat_map text a) → Appends h1 h2 (flat_map text b) → Appends h0 h2 (flat_map text (a ++ b))
+  both_put a b h0 h1 h2 p q = subst (λ w. Appends h0 h2 w) (sym (flat_map-append text a b)) (Appends-trans h0 h1 h2 (flat_map text a) (flat_map text b) p q)
+
+  both_front : (a b : List R) (h0 h1 h2 : Option (List ℕ)) → Appends h0 h1 (flat_map text a) → PutsFront text b h1 h2 → PutsFront text (a ++ b) h0 h2
+  both_front a b h0 h1 h2 p f = record {
+    shown = flat_map text a ++ f.shown;
+    hidden = f.hidden;
+    parts = flat_map-append text a b ∙ ap (λ (w : List ℕ). flat_map text a ++ w) f.parts ∙ sym (append_assoc (flat_map text a) f.shown f.hidden);
+    put = Appends-trans h0 h1 h2 (flat_map text a) f.shown p f.put;
+  }
+
+  both_paid : (a b : List R) (n0 n1 n2 : ℕ) → n1 ≡ n0 + sum_by cost a → n2 ≡ n1 + sum_by cost b → n2 ≡ n0 + sum_by cost (a ++ b)
+  both_paid a b n0 n1 n2 p q = omega (arith, p, q, sum_by-append cost a b)
+
+  both_refuse : (a b : List R) (r0 r1 : Bool) → r1 ≡ (r0 || list_any refuses a) → finished_status refuses r1 b ≡ finished_status refuses r0 (a ++ b)
+  both_refuse a b r0 r1 e =
+      ap (λ r. if r then Status.Refused else Status.Done)
+      (ap (λ r. r || list_any refuses b) e ∙ or-assoc r0 (list_any refuses a) (list_any refuses b) ∙ ap (λ r. r0 || r) (sym (list_any-append refuses a b)))
+
+  -- For what is said of the first part, of the second and of both.
+  module _ (T0 W2 W F2 F : List R → Type 0) (K2 K : Status → List R → Type 0)
+      (w : (a b : List R) → T0 a → W2 b → W (a ++ b)) (k : (st : Status) (a b : List R) → T0 a → K2 st b → K st (a ++ b)) (f : (a b : List R) → T0 a → F2 b → F (a ++ b))
+      (r0 r1 : Bool) (before middle after : Output) (c : Continues text refuses cost T0 r0 r1 before middle) where
+    finishes_after : (status : Status) → Finishes text refuses cost W2 r1 status middle after → Finishes text refuses cost W r0 status before after
+    finishes_after status e = record {
+      answers = c.answers ++ e.answers;
+      put = both_put c.answers e.answers before.held middle.held after.held c.put e.put;
+      status_is = e.status_is ∙ both_refuse c.answers e.answers r0 r1 c.refusals;
+      steps = both_paid c.answers e.answers before.steps middle.steps after.steps c.steps e.steps;
+      settled = e.settled;
+      finishes = e.finishes ∙ ap counted c.finishes;
+      lines = w c.answers e.answers c.lines e.lines;
+    }
+
+    cuts_after : (status : Status) → CutsShort text refuses cost (K2 status) middle after → CutsShort text refuses cost (K status) before after
+    cuts_after status e = record {
+      answers = c.answers ++ e.answers;
+      put = both_put c.answers e.answers before.held middle.held after.held c.put e.put;
+      steps = both_paid c.answers e.answers before.steps middle.steps after.steps c.steps e.steps;
+      finishes = e.finishes ∙ c.finishes;
+      lines = k status c.answers e.answers c.lines e.lines;
+    }
+
+    breaks_after : BreaksOff text refuses cost F2 middle after → BreaksOff text refuses cost F before after
+    breaks_after e = record {
+      answers = c.answers ++ e.answers;
+      put = both_front c.answers e.answers before.held middle.held after.held c.put e.put;
+      steps = both_paid c.answers e.answers before.steps middle.steps after.steps c.steps e.steps;
+      finishes = elim e.finishes as (λ _. (after.finishes ≡ before.finishes) ⊎ (after.finishes ≡ counted before.finishes)) [ inl same ↦ inl (same ∙ c.finishes) | inr more ↦ inr (more ∙ ap counted c.finishes) ];
+      lines = f c.answers e.answers c.lines e.lines;
+    }
+
+    runs_out_after : RunsOut text refuses cost F2 middle after → RunsOut text refuses cost F before after
+    runs_out_after e = record {
+      answers = c.answers ++ e.answers;
+      put = both_put c.answers e.answers before.held middle.held after.held c.put e.put;
+      steps = omega (arith, c.steps, e.steps, sum_by-append cost c.answers e.answers);
+      finishes = e.finishes ∙ c.finishes;
+      lines = f c.answers e.answers c.lines e.lines;
+    }
+
+    -- The second part ended, and so did both.
+    pub ended_after : (status : Status) → Ended text refuses cost W2 K2 F2 r1 status middle after → Ended text refuses cost W K F r0 status before after
+    ended_after Status.Done e = finishes_after Status.Done e
+    ended_after Status.Refused e = finishes_after Status.Refused e
+    ended_after Status.Usage e = absurd e
+    ended_after Status.ReadFault e = cuts_after Status.ReadFault e
+    ended_after Status.WriteFault e = (breaks_after e.0, rose_since before.faults middle.faults after.faults c.later e.1)
+    ended_after Status.Memory e = runs_out_after e
+    ended_after Status.TooMuch e = cuts_after Status.TooMuch e
+
+-- A piece that was put whole and then kept was put, if perhaps in part.
+pub kept_prefix : (a b c : Option (List ℕ)) (piece : List ℕ) → Appends a b piece → Keeps b c → AppendsPrefix a c piece
+kept_prefix None b c piece p k = tt
+kept_prefix (Some held) None c piece p k = absurd p
+kept_prefix (Some held) (Some more) None piece p k = absurd k
+kept_prefix (Some held) (Some more) (Some last) piece p k = record { shown = piece; rest = []; whole = sym (append-nil piece); now_held = ap Some (k ∙ p) }
+
+-- What closes a run, and the end of it.
+module _ {W S R : Type 0} (text : R → List ℕ) (refuses : R → Bool) (cost : R → ℕ) (Stands : W → S → Type 0) (Closes : S → R → Type 0) (now : W) (refused : Bool) where
+  alone_put : (answer : R) (piece : List ℕ) (h0 h1 : Option (List ℕ)) → piece ≡ text answer → Appends h0 h1 piece → Appends h0 h1 (flat_map text (answer ∷ []))
+  alone_put answer piece h0 h1 is put = subst (λ w. Appends h0 h1 w) (is ∙ sym (append-nil (text answer))) put
+
+  -- It was not made.
+  pub closes_without : (before after : Output) → Keeps before.held after.held → after.finishes ≡ before.finishes → after.steps ≡ before.steps
+      → RunsOut text refuses cost (ClosedOrNot Stands Closes now) before after
+  closes_without before after held same steps = record {
+    answers = [];
+    put = Appends-kept before.held before.held after.held [] (Appends-nil before.held) held;
+    steps = omega (arith, steps);
+    finishes = same;
+    lines = inl refl;
+  }
+
+  -- It was put whole, and the sink settled.
+  pub closes_whole : (answer : R) (piece : List ℕ) (status : Status) (before after : Output) (held : Option (List ℕ)) → ((s : S) → Stands now s → Closes s answer) → cost answer ≡ 0 → piece ≡ text answer
+      → Appends before.held held piece → Keeps held after.held → status ≡ (if refused || refuses answer then Status.Refused else Status.Done) → after.settled ≡ true → after.finishes ≡ counted before.finishes
+      → after.steps ≡ before.steps → Finishes text refuses cost (ClosedBy Stands Closes now) refused status before after
+  closes_whole answer piece status before after held closes free is put keeps status_is settled finishes steps = record {
+    answers = answer ∷ [];
+    put = alone_put answer piece before.held after.held is (Appends-kept before.held held after.held piece put keeps);
+    status_is = status_is ∙ ap (λ b. if refused || b then Status.Refused else Status.Done) (sym (or-false (refuses answer)));
+    steps = omega (arith, free, steps);
+    settled = settled;
+    finishes = finishes;
+    lines = record { closing = answer; alone = refl; closes = closes };
+  }
+
+  -- The sink failed.
+  pub closes_in_part : (answer : R) (piece : List ℕ) (before after : Output) → ((s : S) → Stands now s → Closes s answer) → cost answer ≡ 0 → piece ≡ text answer → AppendsPrefix before.held after.held piece
+      → (after.finishes ≡ before.finishes) ⊎ (after.finishes ≡ counted before.finishes) → after.steps ≡ before.steps → BreaksOff text refuses cost (ClosedOrNot Stands Closes now) before after
+  closes_in_part answer piece before after closes free is put finishes steps = record {
+    answers = answer ∷ [];
+    put = put_in_part text refuses cost [] before.held before.held after.held answer piece (Appends-nil before.held) is put;
+    steps = omega (arith, free, steps);
+    finishes = finishes;
+    lines = inr (record { closing = answer; alone = refl; closes = closes });
+  }

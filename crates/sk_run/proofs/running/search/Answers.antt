@@ -1,0 +1,18 @@
+use Rattle.std.proofs.Common.{None, refl, false}
+use Rattle.sk_run.specs.declared.response.Printing.TheVariants as Printing
+use Rattle.sk_run.specs.Responses.{text_under, is_refusal, steps_of}
+use Rattle.sk_run.specs.Machines.{IsAt}
+use Rattle.sk_run.specs.Outsides.{Seen}
+use Rattle.sk_run.specs.Output.{Answers, AnswersQuery, Closes}
+use Rattle.sk_run.proofs.SearchLemmas.{searched, not_searched}
+use Rattle.sk_run.proofs.running.search.Goals as goal
+
+pub returns-in-Ok : goal.returns-in-Ok
+returns-in-Ok g c =
+    searched (text_under Printing.WithoutOk g.M.Answer.Printed.text) (is_refusal g.M.Answer.Printed.refuses) (steps_of g.M.Answer.Printed.steps) (IsAt g.M.Store.fields g.M.Store.holds) (Answers g.M.Store.begun g.M.Store.does) (AnswersQuery g.M.Store.begun g.M.Store.does c.args.join) (Closes g.M.Store.closes) c.new-first.result None c.new-first.ensures (record { left = g.R.Source.left c.args.records.now; faults = g.R.Source.faults c.args.records.now }) (record { left = g.R.Source.left c.answer_lines.new.input; faults = g.R.Source.faults c.answer_lines.new.input }) (record { left = g.S.Source.left c.args.input.now; faults = g.S.Source.faults c.args.input.now }) (record { left = g.S.Source.left c.answer_to_end.new.input; faults = g.S.Source.faults c.answer_to_end.new.input })
+    c.in-Ok.machine false c.in-Ok.refused c.answer_to_end.result _ _ _ c.in-Ok.ensures.ok c.answer_to_end.ensures
+
+pub returns-in-Err : goal.returns-in-Err
+returns-in-Err g c =
+    not_searched (text_under Printing.WithoutOk g.M.Answer.Printed.text) (is_refusal g.M.Answer.Printed.refuses) (steps_of g.M.Answer.Printed.steps) (IsAt g.M.Store.fields g.M.Store.holds) (Answers g.M.Store.begun g.M.Store.does) (AnswersQuery g.M.Store.begun g.M.Store.does c.args.join) (Closes g.M.Store.closes) c.new-first.result None c.new-first.ensures (record { left = g.R.Source.left c.args.records.now; faults = g.R.Source.faults c.args.records.now }) (record { left = g.R.Source.left c.answer_lines.new.input; faults = g.R.Source.faults c.answer_lines.new.input }) (record { left = g.S.Source.left c.args.input.now; faults = g.S.Source.faults c.args.input.now }) (record { left = g.S.Source.left c.args.input.now; faults = g.S.Source.faults c.args.input.now }) refl
+    false c.in-Err.stopped _ _ c.in-Err.ensures.err

@@ -1,0 +1,70 @@
+-- The commands of a demonstration: a schema, so many documents and five finds, all made from one number.
+use Rattle.std.specs.Prelude.{ℕ, ◌+◌, ◌-◌, ◌%◌, zero, suc, ◌==◌, nat_le, Bool, true, false, List, [], ◌∷◌, ◌++◌, codes, decimal, Option, Some, None, if◌then◌else◌}
+use Rattle.sk_base.specs.declared.command.Command.{Command}
+use Rattle.sk_base.specs.declared.command.Command.TheVariants as Command
+use Rattle.sk_base.specs.declared.find.Ask.TheVariants as Ask
+use Rattle.sk_base.specs.declared.find.Collapse.{Collapse}
+use Rattle.sk_base.specs.declared.find.Find.{Find}
+use Rattle.sk_base.specs.declared.find.Join.TheVariants as Join
+use Rattle.sk_base.specs.declared.rank.Order.{Order}
+use Rattle.sk_base.specs.declared.rank.OrderBy.TheVariants as OrderBy
+use Rattle.sk_base.specs.declared.record.Edit.TheVariants as Edit
+use Rattle.sk_base.specs.declared.record.Entry.{Entry}
+use Rattle.sk_base.specs.declared.record.FieldValue.TheVariants as FieldValue
+use Rattle.sk_base.specs.declared.record.Record.{Record}
+use Rattle.sk_base.specs.declared.schema.Field.{Field}
+use Rattle.sk_base.specs.declared.schema.FieldKind.TheVariants as FieldKind
+use Rattle.sk_run.specs.Queries.{options_for, by_relevance}
+
+-- The fields: a text, a number and a word.
+abbrev pub demo_fields : List Field
+demo_fields =
+    record { name = codes "body"; kind = FieldKind.Text [] 1 } ∷ record { name = codes "year"; kind = FieldKind.Number 0 } ∷ record { name = codes "site"; kind = FieldKind.Word 1 } ∷ []
+
+-- The word `all` so often again, each behind a space.
+abbrev pub alls : ℕ → List ℕ
+alls zero = []
+alls (suc k) = alls k ++ codes " all"
+
+-- The body of the document with this number: `all`, three words by the last digits of the number, and `all` up to six times again.
+abbrev pub demo_body : ℕ → List ℕ
+demo_body i = (codes "all d" ++ (decimal (i % 10) ++ (codes " h" ++ (decimal (i % 100) ++ (codes " k" ++ decimal (i % 1000)))))) ++ alls (i % 7)
+
+-- The document with this number: its body, a year from 1900 on, and one of fifty sites.
+abbrev pub demo_record : ℕ → Record
+demo_record i = record {
+  values =
+      record { field = 0; value = FieldValue.Text (demo_body i) }
+      ∷ record { field = 1; value = FieldValue.Number (1900 + i % 120) }
+      ∷ record { field = 2; value = FieldValue.Word (codes "s" ++ decimal (i % 50)) }
+      ∷ [];
+  payload = [];
+}
+
+-- A find of three hits, by a text.
+abbrev pub three_by : List ℕ → Order → Option Collapse → Find
+three_by text order collapse = record { ask = Ask.Text text Join.Or; options = options_for 3; order = order; collapse = collapse }
+
+-- The five finds, by their places: by relevance, by relevance, by relevance, collapsed on the site, and by the year, the later first.
+abbrev pub demo_find : ℕ → Find
+demo_find zero = three_by (codes "all") by_relevance None
+demo_find (suc zero) = three_by (codes "d3 h3") by_relevance None
+demo_find (suc (suc zero)) = three_by (codes "all AND k7") by_relevance None
+demo_find (suc (suc (suc zero))) = three_by (codes "d1 all") by_relevance (Some (record { slot = 1; max = 1 }))
+demo_find (suc (suc (suc (suc more)))) = three_by (codes "year:1950..1959") (record { by = OrderBy.Value (record { slot = 0; reverse = true }); falling = false }) None
+
+-- The command at a place, of a demonstration with so many documents: the schema, the documents from 1 on, and the finds.
+abbrev pub demo_command : ℕ → ℕ → Command
+demo_command documents place =
+    if place == 0 then Command.Schema demo_fields
+    else (if nat_le place documents then Command.Edit (Edit.Add (demo_record place))
+    else Command.Find (demo_find (place - documents - 1)))
+
+-- So many of the commands, from a place on.
+abbrev pub demo_commands_from : ℕ → ℕ → ℕ → List Command
+demo_commands_from documents place zero = []
+demo_commands_from documents place (suc count) = demo_command documents place ∷ demo_commands_from documents (place + 1) count
+
+-- The commands of a demonstration with so many documents, in their order.
+abbrev pub demo_commands : ℕ → List Command
+demo_commands documents = demo_commands_from documents 0 (documents + 6)
