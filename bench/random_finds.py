@@ -1,6 +1,7 @@
 #!/usr/bin/env python3
 """Compares finds of the built sk_tool with those of the built sk_reference, over random documents, trees and options: hits,
-order, weights and payloads are to be equal, and counts within their bounds. Ends with 1 where one differs.
+order, weights and payloads are to be equal, counts within their bounds, and steps no more than the rules allow, which is
+what sk_reference prints. Ends with 1 where one differs.
 
 Wants both programs: (cd crates/sk_tool && rt run; cd ../sk_reference && rt run). Run it at the top of the repository:
 python3 bench/random_finds.py [SEEDS [FOLDER]], FOLDER being where crates/ is."""
@@ -48,9 +49,15 @@ def tree(picks, depth):
     return {form: [tree(picks, depth - 1) for _ in range(picks.randint(2, 3))]}
 
 
+def terms(picks):
+    """A tree of terms alone, as the sharper bounds on steps have them."""
+    words = [{"term": word} for word in picks.sample("abcde", picks.randint(1, 4))]
+    return {picks.choice(["and", "or", "or", "max", "and_not", "and_maybe", "filter"]): words}
+
+
 def asked(picks):
     """A find by a random tree, with random options."""
-    find = {"tree": tree(picks, picks.randint(0, 3))}
+    find = {"tree": terms(picks) if picks.random() < 0.4 else tree(picks, picks.randint(0, 3))}
     for name, chance, value in [
         ("scheme", 0.5, lambda: picks.choice(["bool", "coord", "nnn"])),
         ("size", 0.7, lambda: picks.randint(0, 6)),
@@ -76,7 +83,7 @@ def asked(picks):
 def commands(picks):
     """A schema, documents and some deletions, and finds."""
     yield SCHEMA
-    for number in range(picks.randint(5, 60)):
+    for number in range(picks.randint(5, 60) if picks.random() < 0.8 else picks.randint(200, 600)):
         record = {"body": " ".join(picks.choices("abcde", [5, 3, 2, 1, 1], k=picks.randint(0, 8)))}
         if picks.random() < 0.8:
             record["site"] = picks.choice(["x", "y", "z", ""])
@@ -111,6 +118,7 @@ def agree(ours, plain):
     return (
         bare[0] == bare[1]
         and mine["max"] == true["max"]
+        and int(mine["steps"]) <= int(true["steps"])
         and lower <= count <= upper
         and int(mine["estimate"]) == (lower + upper) // 2
         and all(few <= all_of for few, all_of in zip(*collapsed))
