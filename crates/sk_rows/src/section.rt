@@ -80,8 +80,10 @@ impl Section {
             put_expanded(&mut self.input, command)?;
             self.rows = self.rows.saturating_add(1);
         } else if let Some(record) = line.strip_prefix(b"< ") {
-            put_expanded(&mut self.records, record)?;
-            self.records.push(b'\n')?;
+            'times: for _ in 0..self.setting.times {
+                put_expanded(&mut self.records, record)?;
+                self.records.push(b'\n')?;
+            }
             self.rows = self.rows.saturating_add(1);
         } else if let Some(said) = line.strip_prefix(b"! ") {
             self.said.push(String::from_utf8_lossy(alloc, said)?)?;

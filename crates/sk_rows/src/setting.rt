@@ -17,6 +17,8 @@ pub struct Setting {
     pub read: u64,
     pub records: u64,
     pub write: u64,
+    /// How often a line of the records stands there that comes behind what sets this.
+    pub times: u64,
     /// None where the section does not say it.
     pub code: Option<u64>,
 }
@@ -32,6 +34,7 @@ impl Setting {
             read: 0,
             records: 0,
             write: 0,
+            times: 1,
             code: None,
         }
     }
@@ -61,6 +64,7 @@ impl Setting {
             "read" => self.read = number,
             "records" => self.records = number,
             "write" => self.write = number,
+            "times" => self.times = number,
             "code" => self.code = Some(number),
             "unread" => {
                 self.unread = unread(number);
