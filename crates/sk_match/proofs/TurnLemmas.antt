@@ -28,7 +28,7 @@ use Rattle.sk_model.specs.Documents.{Document}
 use Rattle.sk_model.specs.Edits.{document_at, last_id}
 use Rattle.sk_model.specs.Scores.{score}
 use Rattle.sk_model.specs.Settled.{stop_point}
-use Rattle.sk_model.specs.Sharp.{is_plain, flat_lists, ups}
+use Rattle.sk_model.specs.Sharp.{is_plain, flat_lists, ups, rare_lists, rare_readings}
 use Rattle.sk_model.specs.Matches.{value_by, key_for, key_of, found_by}
 use Rattle.sk_model.proofs.OrderLaws as OrderLaws
 use Rattle.sk_model.proofs.OrderLaws.{both_so}
@@ -37,6 +37,7 @@ use Rattle.sk_nodes.specs.Built as Nodes
 use Rattle.sk_nodes.specs.Built.{weighed_ids, gives, left, scored, IsTree, Built}
 use Rattle.sk_nodes.specs.Flat.{IsAtLeast}
 use Rattle.sk_nodes.specs.Stops.{Stops, MayMove}
+use Rattle.sk_nodes.specs.Rare.{Rare}
 use Rattle.sk_nodes.specs.declared.tree.Tree.{Tree}
 use Rattle.sk_heap.specs.declared.hit.Hit.{Hit}
 use Rattle.sk_heap.specs.Held.{Held, offered, need_of}
@@ -124,8 +125,9 @@ pub opened : (i : Indexed) (s : Search) (find : Find) (query : Query.Tree) → f
     → s.heap ≡ record { order = find.order; most = page_end find; room = page_end find; hits = [] }
     → ((key : Rank → List ℕ) → CollapsesBy find.collapse find.order key [] s.collapser)
     → ((lists : List (List ℕ)) → flat_lists query i.live.documents ≡ Some lists → (point : ℕ) → Stops i s.tree point (ups lists point i.live.documents))
+    → ((lists : List (List ℕ)) (m : ℕ) → rare_lists query i.live.documents ≡ Some (lists, m) → Rare i s.tree (rare_readings lists m i.live.documents))
     → Stands s i find query
-opened i s find query fits built all none need seen read options order collapse greatest most heap knows stops =
+opened i s find query fits built all none need seen read options order collapse greatest most heap knows stops rare =
     let docs = i.live.documents in
     let walk : Walk query find docs (gives i s.tree) 0 [] = started query find docs (gives i s.tree) built.tree.documents.rise
     (same_given (λ one. gives i s.tree one.0) (scores query find) 0 docs built.tree.documents.rise all) in
@@ -146,7 +148,7 @@ opened i s find query fits built all none need seen read options order collapse 
       walk = walk_on;
       pages = pages;
       read = omega (arith, read);
-      accounts = record { calm = λ plain. calm_opened i s find query (plain_is find plain) built.tree.documents.rise walk_on pages heap need; stops = λ _ lists e. stops lists e (stop_point query find docs) };
+      accounts = record { calm = λ plain. calm_opened i s find query (plain_is find plain) built.tree.documents.rise walk_on pages heap need; stops = λ _ lists e. stops lists e (stop_point query find docs); rare = rare };
     }
 
 -- ---- a search at a head
@@ -392,7 +394,7 @@ module _ (i : Indexed) (old : Search) (find : Find) (query : Query.Tree) (stands
     -- what it asked for, and how its tree went on
     module _ (saw2 : List Rank) (held : Held) (c : Option Collapsed) (pages : Pages find docs h saw2 held c) (sorted : IsSortedBy (λ (x y : Hit). is_before held.order x.rank y.rank) held.hits)
         (seen2 : ℕ) (is_seen : seen2 ≡ length saw2) (ceiling : ℕ) (is_ceiling : ceiling ≡ old.tree.top.greatest) (need2 : ℕ) (tree2 : Tree)
-        (asked : ((need2 ≡ old.need) × (h ≡ last_id)) ⊎ (need2 ≡ max old.need (need_for find.options seen2 held ceiling))) (keeps : KeepsStops i h need2 old.tree tree2)
+        (asked : ((need2 ≡ old.need) × (h ≡ last_id)) ⊎ (need2 ≡ max old.need (need_for find.options seen2 held ceiling))) (keeps : KeepsStops i h need2 old.tree tree2) (rarely : (most : ℕ) → Rare i old.tree most → Rare i tree2 most)
         (walk2 : Walk query find docs (gives i tree2) need2 saw2) (at_head : walk2.last ≡ h) where
       abbrev stop : ℕ
       stop = stop_point query find docs
@@ -455,6 +457,7 @@ module _ (i : Indexed) (old : Search) (find : Find) (query : Query.Tree) (stands
       accounts_on = record {
         calm = λ plain. calm_on (plain_is find plain) (stands.accounts.calm plain) asked;
         stops = λ plain lists flat. keeps stop (ups lists stop docs) (stands.accounts.stops plain lists flat) (may_go (plain_is find plain) (stands.accounts.calm plain));
+        rare = λ lists m is. rarely (rare_readings lists m docs) (stands.accounts.rare lists m is);
       }
 
     pub gone_on : (mid new : Search) (saw2 : List Rank) → Looked mid saw2
@@ -465,9 +468,10 @@ module _ (i : Indexed) (old : Search) (find : Find) (query : Query.Tree) (stands
         → new.need ≡ new.tree.need
         → ((new.need ≡ mid.need) × (h ≡ last_id)) ⊎ (new.need ≡ max mid.need (need_for mid.options mid.seen mid.heap mid.tree.top.greatest))
         → KeepsStops i h new.need mid.tree new.tree
+        → ((most : ℕ) → Rare i mid.tree most → Rare i new.tree most)
         → new.seen ≡ mid.seen → new.read ≡ mid.read → new.heap ≡ mid.heap → new.collapser ≡ mid.collapser → IsSamePage mid new
         → Stands new i find query
-    gone_on mid new saw2 looked same tree need sorted over built needed asked keeps seen read heap collapser after =
+    gone_on mid new saw2 looked same tree need sorted over built needed asked keeps rare seen read heap collapser after =
         let right_old : IsNeed find docs saw2 h old.need = need_on find docs stands.saw saw2 stands.walk.last h old.need (omega (arith, at.higher)) looked.full looked.keeps stands.walk.right in
         let right_new : IsNeed find docs saw2 h (need_for find.options mid.seen mid.heap mid.tree.top.greatest) = need_right find docs h saw2 mid.heap mid.collapser looked.pages sorted mid.seen mid.tree.top.greatest in
         let options_mid = same.options ∙ stands.options in
@@ -495,7 +499,7 @@ module _ (i : Indexed) (old : Search) (find : Find) (query : Query.Tree) (stands
           accounts =
               subst (λ n. Accounts i find query n new.need new.tree) (sym walk2.1)
               (accounts_on saw2 mid.heap mid.collapser looked.pages sorted mid.seen looked.seen mid.tree.top.greatest (ap (λ (t : Tree). t.top.greatest) tree) new.need new.tree asked3
-              (subst (λ (t : Tree). KeepsStops i h new.need t new.tree) tree keeps) walk2.0 walk2.1);
+              (subst (λ (t : Tree). KeepsStops i h new.need t new.tree) tree keeps) (subst (λ (t : Tree). (most : ℕ) → Rare i t most → Rare i new.tree most) tree rare) walk2.0 walk2.1);
         }
       where
         need_alone : ((new.need ≡ old.need) × (h ≡ last_id)) ⊎ (new.need ≡ max old.need (need_for find.options mid.seen mid.heap mid.tree.top.greatest)) → (new.need ≡ old.need) ⊎ (new.need ≡ max old.need (need_for find.options mid.seen mid.heap mid.tree.top.greatest))
@@ -630,6 +634,7 @@ pub record Passes (i : Indexed) (h : ℕ) (mid new : Search) : Type 0 where
   pub need : new.need ≡ new.tree.need
   pub asked : ((new.need ≡ mid.need) × (h ≡ last_id)) ⊎ (new.need ≡ max mid.need (need_for mid.options mid.seen mid.heap mid.tree.top.greatest))
   pub stops : KeepsStops i h new.need mid.tree new.tree
+  pub rare : (most : ℕ) → Rare i mid.tree most → Rare i new.tree most
   pub rest : (new.seen ≡ mid.seen) × (new.read ≡ mid.read) × (new.heap ≡ mid.heap) × (new.collapser ≡ mid.collapser)
   pub same : IsSamePage mid new
 
@@ -646,13 +651,13 @@ module _ (i : Indexed) (old : Search) (h w : ℕ) (head : Some h ≡ first_id (l
       let looked = looked_at i old find query stands h w (sym head) weight higher mid (omega (arith, enough, cut)) sees in
       gone_on i old find query stands h w (sym head) weight higher mid new looked.0 looked.1 same.page same.tree same.need passes.sorted passes.over
       (passes.built query find.options.scheme (subst (λ t. Built t i query find.options.scheme) (sym same.tree) stands.built))
-      passes.need passes.asked passes.stops passes.rest.0 passes.rest.1 passes.rest.2 passes.rest.3 passes.same
+      passes.need passes.asked passes.stops passes.rare passes.rest.0 passes.rest.1 passes.rest.2 passes.rest.3 passes.same
 
   pub turned_light : (new : Search) → w < old.options.cutoff → Passes i h old new → Stands new i find query
   turned_light new light passes =
       let cut : old.options.cutoff ≡ find.options.cutoff = ap (λ (o : Options). o.cutoff) stands.options in
       gone_on i old find query stands h w (sym head) weight higher old new stands.saw (passed_by i old find query stands h w (sym head) weight higher (omega (arith, light, cut))) (same_page old) refl refl passes.sorted passes.over
-      (passes.built query find.options.scheme stands.built) passes.need passes.asked passes.stops passes.rest.0 passes.rest.1 passes.rest.2 passes.rest.3 passes.same
+      (passes.built query find.options.scheme stands.built) passes.need passes.asked passes.stops passes.rare passes.rest.0 passes.rest.1 passes.rest.2 passes.rest.3 passes.same
 
 -- a search that goes on is at no document behind the stop point
 pub head_early : (i : Indexed) (old : Search) (find : Find) (query : Query.Tree) (stands : Stands old i find query) (h w : ℕ) → Some h ≡ first_id (left i old.tree) → w ≡ Nodes.first_weight (left i old.tree)

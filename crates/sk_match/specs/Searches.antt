@@ -13,11 +13,12 @@ use Rattle.sk_model.specs.Covers.{CoversAt}
 use Rattle.sk_model.specs.Edits.{document_at, last_id}
 use Rattle.sk_model.specs.Matches.{key_for}
 use Rattle.sk_model.specs.Settled.{stop_point}
-use Rattle.sk_model.specs.Sharp.{is_plain, flat_lists, ups}
+use Rattle.sk_model.specs.Sharp.{is_plain, flat_lists, ups, rare_lists, rare_readings}
 use Rattle.sk_index.specs.Indexed.{Indexed}
 use Rattle.sk_nodes.specs.Built.{gives, left, Built}
 use Rattle.sk_seen.specs.Walks.{Walk}
 use Rattle.sk_nodes.specs.Stops.{Stops, MayMove}
+use Rattle.sk_nodes.specs.Rare.{Rare}
 use Rattle.sk_nodes.specs.declared.tree.Tree.{Tree}
 use Rattle.sk_heap.specs.declared.hit.Hit.{Hit}
 use Rattle.sk_seen.specs.Pages.{Offers, Pages}
@@ -42,11 +43,12 @@ is_done index search = is_none (first_id (ahead index search)) || is_settled sea
 abbrev pub spent_by : Search → ℕ
 spent_by search = search.tree.spent + search.read
 
--- What a search of this find and query may read: before the point at which a page by relevance is settled it asks its tree for little, and of terms alone its tree stops there.
+-- What a search of this find and query may read: before the point at which a page by relevance is settled it asks its tree for little, of terms alone its tree stops there, and where one of its lists leads it reads the others with it.
 pub record Accounts (index : Indexed) (find : Find) (query : Query.Tree) (last need : ℕ) (tree : Tree) : Type 0 where
   pub calm : is_plain find ≡ true → IsCalm query find index.live.documents (stop_point query find index.live.documents) last need
   pub stops : is_plain find ≡ true → (lists : List (List ℕ)) → flat_lists query index.live.documents ≡ Some lists
       → Stops index tree (stop_point query find index.live.documents) (ups lists (stop_point query find index.live.documents) index.live.documents)
+  pub rare : (lists : List (List ℕ)) (m : ℕ) → rare_lists query index.live.documents ≡ Some (lists, m) → Rare index tree (rare_readings lists m index.live.documents)
 
 -- A search is one of this find and query on this index: its tree is the query's; it saw some of the matches, and is sure of what it passed over; it holds the page of them.
 pub record Stands (search : Search) (index : Indexed) (find : Find) (query : Query.Tree) : Type 0 where

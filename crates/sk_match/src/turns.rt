@@ -15,6 +15,7 @@ ghost use Rattle.sk_model.specs.Counts.{wanted};
 ghost use Rattle.sk_model.specs.Matches.{found_by};
 ghost use Rattle.sk_model.specs.Settled.{stop_point};
 ghost use Rattle.sk_model.specs.Sharp.{is_plain};
+ghost use Rattle.sk_nodes.specs.Rare.{Rare};
 ghost use Rattle.sk_nodes.specs.Built.{left, scored, IsTree, Built};
 ghost use Rattle.sk_collapse.specs.Collapsed.{group_of};
 ghost use Rattle.sk_base.specs.declared.rank.Rank as RankView;
@@ -226,6 +227,7 @@ impl Search {
         ensures built { (query : QueryTree.Tree) (scheme : Scheme) → Built self.old.tree index.now query scheme → Built self.new.tree index.now query scheme }
         ensures need { self.new.need ≡ self.new.tree.need }
         ensures stops { KeepsStops index.now id self.new.need self.old.tree self.new.tree }
+        ensures rare { (most : ℕ) → Rare index.now self.old.tree most → Rare index.now self.new.tree most }
         ensures asked { ((self.new.need ≡ self.old.need) × (id ≡ last_id) × (left index.now self.new.tree ≡ [])) ⊎ (self.new.need ≡ max self.old.need (need_for self.old.options self.old.seen self.old.heap self.old.tree.top.greatest)) }
         ensures rest { (self.new.seen ≡ self.old.seen) × (self.new.read ≡ self.old.read) × (self.new.heap ≡ self.old.heap) × (self.new.collapser ≡ self.old.collapser) }
         ensures same { IsSamePage self.old self.new }

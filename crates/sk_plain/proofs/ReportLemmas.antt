@@ -10,12 +10,12 @@ use Rattle.sk_query.specs.Trees.{Tree}
 use Rattle.sk_query.specs.Fits.{is_sound}
 use Rattle.sk_model.specs.Matches.{rank_of, matches, found_by, key_of}
 use Rattle.sk_model.specs.Counts.{kept_by}
-use Rattle.sk_model.specs.Sharp.{stop_number}
+use Rattle.sk_model.specs.Sharp.{stop_number, rare_number}
 use Rattle.sk_report.specs.Reports.{ReportsFor}
 use Rattle.sk_model.proofs.KeptLaws.{kept_few}
 use Rattle.sk_model.proofs.CountLaws.{within}
 use Rattle.sk_report.proofs.ReportLaws.{exact_is}
-use Rattle.sk_model.proofs.SettledLaws.{sharp_allowed, sharp_stop, sharp_hits}
+use Rattle.sk_model.proofs.SettledLaws.{sharp_allowed, sharp_stop, sharp_rare, sharp_hits}
 use Rattle.sk_plain.specs.Pages.{hits_of, count_of, report_for}
 
 half : (n : ℕ) → n ≡ (n + n) / 2
@@ -37,6 +37,7 @@ exact_reports query find above docs e =
       least_steps = sharp_hits find docs (length (hits_of query find docs)) query;
       most_steps = sharp_allowed query find docs (length (hits_of query find docs));
       stop_steps = each (stop_number query find docs (length (hits_of query find docs))) (λ n is. sharp_stop query find docs (length (hits_of query find docs)) n is);
+      rare_steps = each (rare_number query find docs (length (found_by query find docs)) (length (hits_of query find docs))) (λ n is. sharp_rare query find docs (length (hits_of query find docs)) n is);
     }
 
 step_few : (o : Option Rank) (xs : List Rank) (n : ℕ) → length xs ≤ n → length (cons_option o xs) ≤ n + 1

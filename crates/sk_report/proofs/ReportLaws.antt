@@ -13,7 +13,8 @@ use Rattle.sk_model.specs.Matches.{found_by, key_of}
 use Rattle.sk_model.specs.Bounds.{ceil}
 use Rattle.sk_model.specs.Counts.{kept_by, dropped_by}
 use Rattle.sk_model.specs.Settled.{stop_point}
-use Rattle.sk_model.specs.Sharp.{is_plain, flat_lists, ups, stop_number}
+use Rattle.sk_model.specs.Sharp.{is_plain, flat_lists, ups, stop_number, rare_lists, rare_readings, rare_number}
+use Rattle.sk_model.specs.Allowance.{extra}
 use Rattle.sk_model.specs.Reports.{payload_of, page_of, IsHit}
 use Rattle.sk_report.specs.Reports.{ReportsFor}
 use Rattle.sk_model.proofs.CountLaws.{found_counts, true_collapse}
@@ -26,6 +27,14 @@ stop_least query find docs hits = by_plain (is_plain find) (flat_lists query doc
     by_plain true (Some lists) = omega arith
     by_plain true None = cc
     by_plain false o = cc
+
+-- and within the rare number
+pub rare_least : (query : Tree) (find : Find) (docs : Docs) (matching hits : ℕ) → IfSome (rare_number query find docs matching hits) (λ n. hits ≤ n)
+rare_least query find docs matching hits = by_lists (rare_lists query docs)
+  where
+    by_lists : (o : Option (List (List ℕ) × ℕ)) → IfSome (option_map (λ p. rare_readings p.0 p.1 docs + extra find matching hits) o) (λ n. hits ≤ n)
+    by_lists (Some p) = omega arith
+    by_lists None = cc
 
 module _ (query : Tree) (find : Find) (docs : Docs) where
   abbrev hit : Rank → Ranked
@@ -56,6 +65,7 @@ module _ (query : Tree) (find : Find) (docs : Docs) where
     least_steps = omega arith;
     most_steps = omega arith;
     stop_steps = stop_least query find docs (length exact.hits);
+    rare_steps = rare_least query find docs (length (found_by query find docs)) (length exact.hits);
   }
 
 pub report_there : (query : Tree) (find : Find) (above : ℕ) (docs : Docs) → is_sound above query ≡ true → (report : Report) × ReportsFor query find docs report

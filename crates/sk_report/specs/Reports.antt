@@ -11,9 +11,9 @@ use Rattle.sk_model.specs.Bounds.{ceil, static_count}
 use Rattle.sk_model.specs.Counts.{Counts}
 use Rattle.sk_model.specs.Matches.{found_by}
 use Rattle.sk_model.specs.Reports.{page_of, IsHit}
-use Rattle.sk_model.specs.Sharp.{stop_number}
+use Rattle.sk_model.specs.Sharp.{stop_number, rare_number}
 
--- The hits are the asked page of all matching live documents, in order; the counts enclose the true one; the steps are within the allowance, and within the stop number where that applies.
+-- The hits are the asked page of all matching live documents, in order; the counts enclose the true one; the steps are within the allowance, and within the stop number and the rare number where they apply.
 pub record ReportsFor (query : Tree) (find : Find) (docs : Docs) (report : Report) : Type 0 where
   pub hits : AllZip (IsHit query find docs) (page_of query find docs) report.hits
   pub counts : Counts find docs (found_by query find docs) (ceil query find.options.scheme 1 docs) (static_count query docs) report.lower report.upper
@@ -22,3 +22,4 @@ pub record ReportsFor (query : Tree) (find : Find) (docs : Docs) (report : Repor
   pub least_steps : length report.hits ≤ report.steps
   pub most_steps : report.steps ≤ allowance query find docs (length (found_by query find docs)) (length report.hits)
   pub stop_steps : IfSome (stop_number query find docs (length report.hits)) (λ n. report.steps ≤ n)
+  pub rare_steps : IfSome (rare_number query find docs (length (found_by query find docs)) (length report.hits)) (λ n. report.steps ≤ n)

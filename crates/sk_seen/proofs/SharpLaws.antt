@@ -7,9 +7,9 @@ use Rattle.sk_base.specs.declared.rank.OrderBy.{OrderBy}
 use Rattle.sk_base.specs.declared.rank.OrderBy.TheVariants as OrderBy
 use Rattle.sk_base.specs.Numbers.{Docs}
 use Rattle.sk_query.specs.Trees.{Tree}
-use Rattle.sk_model.specs.Allowance.{key_readings, value_readings}
+use Rattle.sk_model.specs.Allowance.{key_readings, value_readings, extra}
 use Rattle.sk_model.specs.Settled.{stop_point}
-use Rattle.sk_model.specs.Sharp.{is_plain, flat_lists, ups, stop_number}
+use Rattle.sk_model.specs.Sharp.{is_plain, flat_lists, ups, stop_number, rare_lists, rare_readings, rare_number}
 use Rattle.sk_seen.specs.Told.{IsSpent}
 
 -- a plain find goes by relevance and does not collapse
@@ -45,3 +45,11 @@ within_stop query find docs spent seen hits steps within most = by_plain (is_pla
         omega (arith, few, most, plain_free find seen e)
     by_plain true e None f = cc
     by_plain false e o f = cc
+
+pub within_rare : (query : Tree) (find : Find) (docs : Docs) (spent matching hits steps : ℕ) → IsSpent query find docs spent → steps ≤ spent + (key_readings find.collapse matching + value_readings find.order.by matching + hits)
+    → IfSome (rare_number query find docs matching hits) (λ n. steps ≤ n)
+within_rare query find docs spent matching hits steps within most = by_lists (rare_lists query docs) refl
+  where
+    by_lists : (o : Option (List (List ℕ) × ℕ)) → rare_lists query docs ≡ o → IfSome (option_map (λ p. rare_readings p.0 p.1 docs + extra find matching hits) o) (λ n. steps ≤ n)
+    by_lists (Some p) f = let few = within.rare p.0 p.1 f in omega (arith, few, most)
+    by_lists None f = cc

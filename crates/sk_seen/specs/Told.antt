@@ -15,7 +15,7 @@ use Rattle.sk_model.specs.Edits.{document_at}
 use Rattle.sk_model.specs.Matches.{found_by, key_of}
 use Rattle.sk_model.specs.Reports.{payload_of}
 use Rattle.sk_model.specs.Settled.{stop_point}
-use Rattle.sk_model.specs.Sharp.{is_plain, flat_lists, ups}
+use Rattle.sk_model.specs.Sharp.{is_plain, flat_lists, ups, rare_lists, rare_readings}
 use Rattle.sk_seen.specs.Walks.{held_by}
 
 -- A hit is a match of the page; of those that were seen so many were collapsed into it.
@@ -34,6 +34,7 @@ IsUpper query find docs seen upper =
 -- So many readings of lists are within each of the bounds that apply.
 pub record IsSpent (query : Tree) (find : Find) (docs : Docs) (spent : ℕ) : Type 0 where
   pub lists : spent ≤ leaf_readings query docs
+  pub rare : (lists : List (List ℕ)) (m : ℕ) → rare_lists query docs ≡ Some (lists, m) → spent ≤ rare_readings lists m docs
   pub stop : is_plain find ≡ true → (lists : List (List ℕ)) → flat_lists query docs ≡ Some lists → spent ≤ ups lists (stop_point query find docs) docs
 
 -- The report of a search that saw these matches: the page of them, what they say of the number of all, and the readings: of lists, of keys and values, and of payloads.

@@ -55,6 +55,7 @@ passes_of g c = record {
   need = c.pass.ensures.need;
   asked = asked_of c.pass.ensures.asked;
   stops = c.pass.ensures.stops;
+  rare = c.pass.ensures.rare;
   rest = c.pass.ensures.rest;
   same = c.pass.ensures.same;
 }
