@@ -7,6 +7,7 @@ ghost use Rattle.sk_model.specs.Covers.{Covers};
 ghost use Rattle.sk_index.specs.Indexed.{Indexed, runs_in};
 ghost use Rattle.sk_nodes.specs.Leaves.{list_in, weighed, leaf_rest, leaf_unread, leaf_greatest, IsThere, entries_of, head_of, IsLeafOn, AreLight, IsLeafTop};
 ghost use Rattle.sk_nodes.specs.Left.{from_on};
+ghost use Rattle.sk_nodes.specs.Led.{Walks};
 
 use crate::top::{END, Top};
 use sk_base::Scheme;
@@ -89,6 +90,8 @@ impl Leaf {
         ensures top { IsLeafTop index.now top.new self.new }
         ensures covers { Covers (from_on target (leaf_rest index.now self.old)) (leaf_rest index.now self.new) need }
         ensures reached { target ≤ top.new.head }
+        ensures at { top.new.head ≡ head_of (entries_of index.now self.new) }
+        ensures walks { Walks index.now target spent.old spent.new self.old self.new }
         ensures falls { top.new.greatest ≤ self.old.greatest }
         ensures moves { (point : ℕ) → target ≤ point + 1 → spent.new + count_to point (entries_of index.now self.new) ≤ spent.old + count_to point (entries_of index.now self.old) }
         ensures paid { spent.new + leaf_unread index.now self.new ≤ spent.old + leaf_unread index.now self.old }
