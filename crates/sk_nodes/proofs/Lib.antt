@@ -14,3 +14,4 @@ pub mod StopLaws
 pub mod NestLaws
 pub mod RareLaws
 pub mod WalkLaws
+pub mod LedLaws

@@ -21,7 +21,7 @@ use Rattle.sk_nodes.proofs.StopLaws.{decayed_leads, no_or}
 
 -- ---- what a list that follows is owed
 
-owed_le : (head own : ℕ) → owed head own ≤ 128
+pub owed_le : (head own : ℕ) → owed head own ≤ 128
 owed_le head own = grind (arith, nat_tests)
 
 owed_none : (head own : ℕ) → head ≤ own → owed head own ≡ 0
@@ -29,6 +29,9 @@ owed_none head own le = grind (arith, nat_tests)
 
 owed_end : (own : ℕ) → owed (2 ^ 32) own ≡ 0
 owed_end own = grind (arith, nat_tests)
+
+pub owed_past : (head own : ℕ) → 2 ^ 32 ≤ head → owed head own ≡ 0
+owed_past head own up = grind (arith, nat_tests)
 
 owed_some : (head own : ℕ) → own < head → head < 2 ^ 32 → owed head own ≡ 128
 owed_some head own lt small = grind (arith, nat_tests)

@@ -8,7 +8,7 @@ ghost use Rattle.sk_query.specs.Fits.{fits_tree};
 ghost use Rattle.sk_model.specs.Covers.{Covers};
 ghost use Rattle.sk_model.specs.Bounds.{ceil};
 ghost use Rattle.sk_model.specs.Allowance.{leaf_readings};
-ghost use Rattle.sk_model.specs.Sharp.{flat_lists, ups};
+ghost use Rattle.sk_model.specs.Sharp.{flat_lists, ups, rare_lists, rare_readings};
 ghost use Rattle.sk_index.specs.Indexed.{Indexed};
 ghost use Rattle.sk_nodes.specs.Left.{from_on};
 ghost use Rattle.sk_nodes.specs.Leaves.{AtMost};
@@ -54,6 +54,9 @@ impl Tree {
 
         // Of terms alone it stops at any point: it read one entry of each list.
         ensures stops { IfOk result (λ tree. (lists : List (List ℕ)) → flat_lists (query_view query.now) index.now.live.documents ≡ Some lists → (point : ℕ) → Stops index.now tree point (ups lists point index.now.live.documents)) }
+
+        // Where a list leads, it reads the others with it.
+        ensures rare { IfOk result (λ tree. (lists : List (List ℕ)) (m : ℕ) → rare_lists (query_view query.now) index.now.live.documents ≡ Some (lists, m) → Rare index.now tree (rare_readings lists m index.now.live.documents)) }
 
         ensures cost { IfOk result (λ tree. steps.new ≡ steps.old + tree.spent) }
         ensures later { steps.old ≤ steps.new }
