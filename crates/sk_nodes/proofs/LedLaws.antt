@@ -1,7 +1,7 @@
 -- How nodes in which a list leads are opened.
-use Rattle.std.proofs.Common.{◌≡◌, ◌≤◌, ◌<◌, ◌+◌, ◌-◌, ◌*◌, ◌^◌, ◌⊎◌, ◌++◌, ℕ, zero, suc, min, nat_lt, Bool, true, false, List, [], ◌∷◌, length, drop, slice_index_or, Option, None, Some, inl, inr, refl, sym, subst, ap, ◌∙◌, arith, le_refl}
+use Rattle.std.proofs.Common.{◌≡◌, ◌≤◌, ◌<◌, ◌+◌, ◌*◌, ◌^◌, ◌⊎◌, ◌++◌, ℕ, zero, suc, min, false, List, [], ◌∷◌, length, drop, slice_index_or, Option, None, Some, inl, inr, refl, sym, subst, ap, ◌∙◌, arith, le_refl}
 use Rattle.std.specs.Option.{option_map}
-use Rattle.std.proofs.lemmas.Bool.{cases_lt, ltb-true, ltb-false}
+use Rattle.std.proofs.lemmas.Bool.{cases_lt}
 use Rattle.std.proofs.lemmas.List.{length-append}
 use Rattle.sk_base.specs.Numbers.{Docs, length_of}
 use Rattle.sk_query.specs.declared.form.Form.{Form}
@@ -13,10 +13,10 @@ use Rattle.sk_model.specs.Bounds.{least_length, static_count}
 use Rattle.sk_model.specs.Sharp.{terms_in, led_by_first, of_two, rare_lists, rare_readings}
 use Rattle.sk_index.specs.Indexed.{Indexed}
 use Rattle.sk_nodes.specs.declared.top.Top.{Top}
-use Rattle.sk_nodes.specs.Leaves.{entries_of, head_of, leaf_unread}
+use Rattle.sk_nodes.specs.Leaves.{entries_of, head_of}
 use Rattle.sk_nodes.specs.Shapes.{Shape, ended, leaf, span, pair, odd, tested}
 use Rattle.sk_chunks.specs.Postings.{Postings}
-use Rattle.sk_nodes.specs.Opened.{count_in, others_of}
+use Rattle.sk_nodes.specs.Opened.{count_in, is_nest, others_of}
 use Rattle.sk_nodes.specs.Flat.{IsNest, SplitsTerms}
 use Rattle.sk_nodes.specs.Led.{IsLone, lead_head, lead_unread, owed, follow_room, led_room, IsAtLead, MayFollow, IsLed, Advances, Leads}
 use Rattle.sk_nodes.specs.OpenedLed.{first_length, last_length, lead_length, CanLead, SplitsOff, IsOrdered, SplitsLed, OpensLone, OpensFollowing, OpensLed, OpensRare}
@@ -124,8 +124,8 @@ splits_led form whole fs bs lists docs n parts terms small is some more off can 
         let two = terms_count bs split.second split.back_is in
         let long = ap length split.whole ∙ length-append split.first split.second in
         let led = ordered_led form split.first split.second docs (omega (arith, one.0, some)) (omega (arith, two.0, more)) (omega (arith, long, all.1, small))
-            (subst (λ m. SplitsOff form m (length split.first)) long (subst (λ m. SplitsOff form (length lists) m) (sym is ∙ one.0) (subst (λ m. SplitsOff form m n) all.0 off)))
-            (subst (λ ts. CanLead form ts) split.whole can) (subst (λ ts. IsOrdered form ts docs) split.whole ordered) in
+        (subst (λ m. SplitsOff form m (length split.first)) long (subst (λ m. SplitsOff form (length lists) m) (sym is ∙ one.0) (subst (λ m. SplitsOff form m n) all.0 off)))
+        (subst (λ ts. CanLead form ts) split.whole can) (subst (λ ts. IsOrdered form ts docs) split.whole ordered) in
         record {
           first = split.first;
           second = split.second;
@@ -442,3 +442,20 @@ split_follows i form other ta a tb b s fs bs lists s0 s1 s2 s3 so is some more o
         pair_following i form ta a tb b s lists split.first split.second s0 s1 s2 s3 e first_some second_some split.whole
         (one split.first (inl e) split.front_is) (two split.second (inl (is ∙ ap others_of e)) split.back_is) leads
     by (inr e) = absurd (long split.whole e)
+
+-- an xor of three parts or more follows nothing
+pub odd_follows : (form : Form) (ts : Trees.Trees) (lists : List (List ℕ)) → is_nest form (count_in ts) ≡ false → (form ≡ Form.Or) ⊎ (length lists ≡ 1) → terms_in ts ≡ Some lists → ⊥
+odd_follows form ts lists three (inl is) terms = other (ap (λ f. is_nest f (count_in ts)) (sym is) ∙ three)
+  where
+    other : is_nest Form.Or (count_in ts) ≡ false → ⊥
+    other e = cc
+odd_follows form ts lists three (inr one) terms = alone form (ap (is_nest form) (sym one ∙ sym (terms_count ts lists terms).0) ∙ three)
+  where
+    alone : (form : Form) → is_nest form 1 ≡ false → ⊥
+    alone Form.And e = cc
+    alone Form.Or e = cc
+    alone Form.Xor e = cc
+    alone Form.Max e = cc
+    alone Form.AndNot e = cc
+    alone Form.AndMaybe e = cc
+    alone Form.Filter e = cc

@@ -1,5 +1,5 @@
 -- What a node reads in which one list leads.
-use Rattle.std.proofs.Common.{◌≡◌, ◌≤◌, ◌<◌, ◌+◌, ◌-◌, ◌*◌, ◌^◌, ◌⊎◌, ◌&&◌, ◌==◌, ℕ, min, nat_lt, Bool, true, false, if◌then◌else◌, inl, inr, refl, sym, subst, ap, ◌∙◌, arith, le_refl}
+use Rattle.std.proofs.Common.{◌≡◌, ◌≤◌, ◌<◌, ◌+◌, ◌*◌, ◌^◌, ◌==◌, ℕ, min, Bool, true, false, if◌then◌else◌, inl, inr, refl, sym, subst, ap, ◌∙◌, arith, le_refl}
 use Rattle.std.proofs.lemmas.Bool.{cases_lt}
 use Rattle.std.proofs.lemmas.Bool.Decides.{nat_tests}
 use Rattle.sk_query.specs.declared.form.Form.{Form}
@@ -61,9 +61,9 @@ sought_by target head u own own2 un un2 before after follows small paid few stil
     elim (cases_lt own target) as (λ _. after + min un2 (owed head own2 + 128 * u) ≤ before + min un (owed head own + 128 * u)) [
       | inl lt ↦ moved lt follows
       | inr le ↦
-        let same = still le in
-        let owed_same : owed head own2 ≡ owed head own = ap (owed head) same.1 in
-        omega (arith, same.0, owed_same, paid)
+          let same = still le in
+          let owed_same : owed head own2 ≡ owed head own = ap (owed head) same.1 in
+          omega (arith, same.0, owed_same, paid)
     ]
   where
     moved : own < target → IsFollowing target head → after + min un2 (owed head own2 + 128 * u) ≤ before + min un (owed head own + 128 * u)

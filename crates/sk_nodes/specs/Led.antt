@@ -1,7 +1,6 @@
 -- Nodes in which one list leads: what the lists that follow may still read.
-use Rattle.std.specs.Prelude.{◌≡◌, ◌≤◌, ◌<◌, ◌+◌, ◌*◌, ◌^◌, ◌⊎◌, ◌&&◌, ℕ, min, nat_lt, List, Option, Some, if◌then◌else◌}
+use Rattle.std.specs.Prelude.{◌≡◌, ◌≤◌, ◌<◌, ◌+◌, ◌*◌, ◌^◌, ◌⊎◌, ◌&&◌, ℕ, min, nat_lt, if◌then◌else◌}
 use Rattle.sk_query.specs.declared.form.Form.{Form}
-use Rattle.sk_model.specs.Sharp.{rare_readings}
 use Rattle.sk_index.specs.Indexed.{Indexed}
 use Rattle.sk_nodes.specs.declared.top.Top.{Top}
 use Rattle.sk_nodes.specs.declared.leaf.Leaf.{Leaf}

@@ -18,7 +18,7 @@ use Rattle.sk_nodes.proofs.NodeLaws.{pair_covers, odd_shape, odd_written}
 use Rattle.sk_nodes.proofs.StopLaws.{stays_same, stays_decayed, stays_along, stays_begun, stays_then, stays_on, stays_other, round_stays, round_ended}
 use Rattle.std.proofs.Common.{inr}
 use Rattle.sk_nodes.specs.Led.{IsLed, Leads}
-use Rattle.sk_nodes.proofs.RareLaws.{leads_same, leads_gone, leads_decayed, leads_along, leads_other, leads_begun, leads_then, leads_on, led_round, led_round_ended, decayed_led, at_along, meets_lead}
+use Rattle.sk_nodes.proofs.RareLaws.{leads_same, leads_decayed, leads_along, leads_other, leads_begun, leads_then, leads_on, led_round, led_round_ended, decayed_led, at_along, meets_lead}
 use Rattle.sk_nodes.proofs.moves.+seek.Goals as goal
 
 pub reach-returns-clause-covers : goal.reach-returns-clause-covers

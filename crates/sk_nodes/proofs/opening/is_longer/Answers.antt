@@ -1,5 +1,5 @@
 -- What is counted of terms is how long their lists are.
-use Rattle.std.proofs.Common.{◌+◌, ◌-◌, arith}
+use Rattle.std.proofs.Common.{arith}
 use Rattle.std.proofs.lemmas.Bool.{ltb-true, ltb-false}
 use Rattle.sk_nodes.proofs.LedLaws.{static_first, static_last}
 use Rattle.sk_nodes.proofs.opening.is_longer.Goals as goal

@@ -2,7 +2,7 @@
 use Rattle.std.proofs.Common.{ℕ, Option, ap, sym, ◌∙◌, refl, arith}
 use Rattle.sk_model.proofs.CoverLaws.{covers_exactly}
 use Rattle.sk_decay.specs.Sides.{paired}
-use Rattle.sk_nodes.specs.Shapes.{shape_of}
+use Rattle.sk_nodes.specs.Shapes.{pair, shape_of}
 use Rattle.sk_nodes.specs.Left.{rest, from_on}
 use Rattle.sk_nodes.proofs.LeafLaws.{from_on-at}
 use Rattle.sk_nodes.proofs.NodeLaws.{pair_shape}
@@ -29,4 +29,4 @@ pub returns-clause-leads : goal.returns-clause-leads
 returns-clause-leads g c =
     let i = c.args.index.now in
     let shape = pair_shape _ c.args.form c.seek_pair.new.ta c.seek_pair.new.tb c.in_ok-a.a c.in_ok-b.b c.seek_pair.new.a c.seek_pair.new.b refl (sym c.in_ok-a.ensures.ok) (sym c.in_ok-b.ensures.ok) in
-    (leads_along i 0 0 _ _ _ _ _ _ refl shape c.seek_pair.ensures.leads, at_along i c.seek_pair.new.top _ _ _ _ refl shape c.seek_pair.ensures.at)
+    (leads_along i 0 0 _ _ _ _ _ _ refl shape c.seek_pair.ensures.leads, at_along i c.seek_pair.new.top (pair c.args.form c.args.ta (shape_of c.args.a) c.args.tb (shape_of c.args.b)) _ (pair c.args.form c.args.ta (shape_of c.args.a) c.args.tb (shape_of c.args.b)) (pair c.args.form c.seek_pair.new.ta (shape_of c.seek_pair.new.a) c.seek_pair.new.tb (shape_of c.seek_pair.new.b)) refl shape c.seek_pair.ensures.at)
