@@ -12,3 +12,6 @@ pub mod StandingLaws
 pub mod WordLaws
 pub mod StopLaws
 pub mod NestLaws
+pub mod RareLaws
+pub mod WalkLaws
+pub mod LedLaws

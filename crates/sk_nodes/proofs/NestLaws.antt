@@ -187,14 +187,14 @@ term_nest i form s number before after nest begins = record {
 -- ---- the terms of parts
 
 -- the terms of parts that stand one behind the other
-record InOrder (lists : List (List ℕ)) (front back : Option (List (List ℕ))) : Type 0 where
-  first : List (List ℕ)
-  second : List (List ℕ)
-  front_is : front ≡ Some first
-  back_is : back ≡ Some second
-  whole : lists ≡ first ++ second
+pub record InOrder (lists : List (List ℕ)) (front back : Option (List (List ℕ))) : Type 0 where
+  pub first : List (List ℕ)
+  pub second : List (List ℕ)
+  pub front_is : front ≡ Some first
+  pub back_is : back ≡ Some second
+  pub whole : lists ≡ first ++ second
 
-in_order : (ts us : Trees.Trees) (lists : List (List ℕ)) → terms_in (joined ts us) ≡ Some lists → InOrder lists (terms_in ts) (terms_in us)
+pub in_order : (ts us : Trees.Trees) (lists : List (List ℕ)) → terms_in (joined ts us) ≡ Some lists → InOrder lists (terms_in ts) (terms_in us)
 in_order Trees.no_trees us lists e = record { first = []; second = lists; front_is = refl; back_is = e; whole = refl }
 in_order (Trees.tree (Trees.term t) ts) us lists e = by (terms_in (joined ts us)) refl e (in_order ts us)
   where

@@ -306,7 +306,7 @@ needed_by : (a need : ℕ) → nat_lt a need ≡ true → 0 < need
 needed_by a need e = let lt = ltb-true a need e in omega (arith, lt)
 
 -- the tables lead by need
-decayed_leads : (form : Form) (a b : ℕ) (a_ended b_ended : Bool) (need : ℕ) → LeadsByNeed (change_of form a b a_ended b_ended need) form need
+pub decayed_leads : (form : Form) (a b : ℕ) (a_ended b_ended : Bool) (need : ℕ) → LeadsByNeed (change_of form a b a_ended b_ended need) form need
 decayed_leads Form.Or a b a_ended b_ended need =
     let P : Change → Type 0 = λ c. LeadsByNeed c Form.Or need in
     if_so P (a_ended && b_ended) _ _ (λ e. tt) (λ e. if_so P a_ended _ _ (λ e. refl) (λ e. if_so P b_ended _ _ (λ e. tt) (λ e.
@@ -536,7 +536,7 @@ stays_then i form target need from before spent after ta0 a0 tb0 b0 ta a tb b ua
 }
 
 -- an or and a max do not go on
-no_or : (form : Form) (next : ℕ) → GoesOnOnly form (Meeting.Behind next) → form ≡ Form.Or → ⊥
+pub no_or : (form : Form) (next : ℕ) → GoesOnOnly form (Meeting.Behind next) → form ≡ Form.Or → ⊥
 no_or form next on is = subst (λ (f : Form). GoesOnOnly f (Meeting.Behind next)) is on
 
 no_max : (form : Form) (next : ℕ) → GoesOnOnly form (Meeting.Behind next) → form ≡ Form.Max → ⊥

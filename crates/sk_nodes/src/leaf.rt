@@ -7,6 +7,9 @@ ghost use Rattle.sk_model.specs.Covers.{Covers};
 ghost use Rattle.sk_index.specs.Indexed.{Indexed, runs_in};
 ghost use Rattle.sk_nodes.specs.Leaves.{list_in, weighed, leaf_rest, leaf_unread, leaf_greatest, IsThere, entries_of, head_of, IsLeafOn, AreLight, IsLeafTop};
 ghost use Rattle.sk_nodes.specs.Left.{from_on};
+ghost use Rattle.sk_nodes.specs.Shapes.{leaf};
+ghost use Rattle.sk_nodes.specs.Led.{Walks};
+ghost use Rattle.sk_nodes.specs.OpenedLed.{OpensLone};
 
 use crate::top::{END, Top};
 use sk_base::Scheme;
@@ -50,6 +53,7 @@ impl Leaf {
         ensures top { IsLeafTop index.now top.new result }
         ensures gives { (id : ℕ) → leaf_rest index.now result id ≡ weighed factor scheme (list_in index.now number) id }
         ensures ceiling { top.new.greatest ≤ leaf_greatest factor scheme (list_in index.now number) }
+        ensures lone { OpensLone index.now top.new (leaf result) (length (list_in index.now number)) spent.old spent.new }
         ensures begins { (point : ℕ) → spent.new + count_to point (entries_of index.now result) ≤ spent.old + (min 1 (length (list_in index.now number)) + count_to point (list_in index.now number)) }
         ensures paid { spent.new + leaf_unread index.now result ≤ spent.old + length (list_in index.now number) }
         ensures counted { steps.new + spent.old ≡ steps.old + spent.new }
@@ -89,6 +93,8 @@ impl Leaf {
         ensures top { IsLeafTop index.now top.new self.new }
         ensures covers { Covers (from_on target (leaf_rest index.now self.old)) (leaf_rest index.now self.new) need }
         ensures reached { target ≤ top.new.head }
+        ensures at { top.new.head ≡ head_of (entries_of index.now self.new) }
+        ensures walks { Walks index.now target spent.old spent.new self.old self.new }
         ensures falls { top.new.greatest ≤ self.old.greatest }
         ensures moves { (point : ℕ) → target ≤ point + 1 → spent.new + count_to point (entries_of index.now self.new) ≤ spent.old + count_to point (entries_of index.now self.old) }
         ensures paid { spent.new + leaf_unread index.now self.new ≤ spent.old + leaf_unread index.now self.old }

@@ -1,5 +1,5 @@
 //! How the node of a query is opened.
-ghost use Rattle.std.specs.Prelude.{◌≡◌, ◌≤◌, ◌<◌, ◌+◌, ◌^◌, ◌&&◌, ℕ, min, true, false, List, [], ◌∷◌, ◌++◌, All, IfOk, IfSome, IfNone, length, Option, Some};
+ghost use Rattle.std.specs.Prelude.{◌≡◌, ◌≤◌, ◌<◌, ◌+◌, ◌^◌, ◌&&◌, ◌⊎◌, ℕ, min, true, false, List, [], ◌∷◌, ◌++◌, All, IfOk, IfSome, IfNone, length, Option, Some};
 ghost use Rattle.sk_base.specs.declared.find.Scheme.{Scheme};
 ghost use Rattle.sk_base.specs.Loads.{IsLight};
 ghost use Rattle.sk_base.specs.Numbers.{Docs, length_of};
@@ -13,14 +13,16 @@ ghost use Rattle.sk_model.specs.Documents.{Document};
 ghost use Rattle.sk_model.specs.Combining.{combined, where_so};
 ghost use Rattle.sk_model.specs.Bounds.{sum_in, ceil, ceils, ceil_of, term_ceil, terms_ceil, lengths_of};
 ghost use Rattle.sk_model.specs.Allowance.{leaf_readings, leaves_readings};
-ghost use Rattle.sk_model.specs.Sharp.{terms_in, flat_lists};
+ghost use Rattle.sk_model.specs.Sharp.{terms_in, flat_lists, rare_lists, rare_readings};
 ghost use Rattle.sk_lists.specs.Seeks.{count_to};
 ghost use Rattle.sk_decay.specs.Sides.{paired, greatest_under};
 ghost use Rattle.sk_nodes.specs.Leaves.{IsThere, list_in, weighed, leaf_greatest};
-ghost use Rattle.sk_nodes.specs.Shapes.{odd, no_sides, side, shape_of, sides_on};
+ghost use Rattle.sk_nodes.specs.Shapes.{pair, odd, no_sides, side, shape_of, sides_on};
 ghost use Rattle.sk_nodes.specs.Left.{rest, rests, unread_of, unread_in, greatest_sum};
 ghost use Rattle.sk_nodes.specs.Sound.{IsTop, IsOdd, IsTested, Sound, AreSound};
 ghost use Rattle.sk_nodes.specs.Flat.{room_to, IsNest, IsJoint, PairsNest, OpensNest, OpensFlat, SplitsTerms};
+ghost use Rattle.sk_nodes.specs.Led.{IsLed, IsAtLead, Leads};
+ghost use Rattle.sk_nodes.specs.OpenedLed.{first_length, last_length, CanLead, SplitsOff, IsOrdered, SplitsLed, OpensLone, OpensFollowing, OpensLed, OpensRare};
 ghost use Rattle.sk_nodes.specs.Odd.{followed_by};
 ghost use Rattle.sk_nodes.specs.Proximity.{standing_query, holds, entries_from};
 ghost use Rattle.sk_nodes.specs.Opened.{count_in, score_of, part_scores, is_nest, OpensSides, joint_score_of, others_of, query_size, parts_size, AreParts, Opens};
@@ -72,6 +74,8 @@ pub(crate) fn open_node<L: Ledger>(
     ensures small { most.new < 2 ^ 128 }
     ensures alone { IfOk result (λ p. (t : List ℕ) (form : Form) → query_view query.now ≡ QueryTree.term t → OpensNest index.now form (shape_of p.1) (t ∷ []) spent.old spent.new) }
     ensures flat { IfOk result (λ p. (lists : List (List ℕ)) → flat_lists (query_view query.now) index.now.live.documents ≡ Some lists → OpensFlat index.now (shape_of p.1) lists spent.old spent.new) }
+    ensures lone { IfOk result (λ p. (t : List ℕ) → query_view query.now ≡ QueryTree.term t → OpensLone index.now p.0 (shape_of p.1) (length_of t index.now.live.documents) spent.old spent.new) }
+    ensures rare { IfOk result (λ p. (lists : List (List ℕ)) (m : ℕ) → rare_lists (query_view query.now) index.now.live.documents ≡ Some (lists, m) → OpensRare index.now p.0 (shape_of p.1) (rare_readings lists m index.now.live.documents) spent.old spent.new) }
 {
     if let Some((form, parts)) = parts_of(query, factor) {
         return open_parts(
@@ -265,6 +269,8 @@ fn open_parts<L: Ledger>(
     ensures room { IfOk result (λ p. spent.new ≤ most.new) }
     ensures small { most.new < 2 ^ 128 }
     ensures nest { IfOk result (λ p. (lists : List (List ℕ)) → IsJoint form → terms_in (queries_view parts.now) ≡ Some lists → OpensNest index.now form (shape_of p.1) lists spent.old spent.new) }
+    ensures led { IfOk result (λ p. (lists : List (List ℕ)) → CanLead form lists → terms_in (queries_view parts.now) ≡ Some lists → OpensLed index.now form p.0 (shape_of p.1) lists spent.old spent.new) }
+    ensures follows { IfOk result (λ p. (lists : List (List ℕ)) → (form ≡ Form.Or) ⊎ (length lists ≡ 1) → terms_in (queries_view parts.now) ≡ Some lists → OpensFollowing index.now (shape_of p.1) lists spent.old spent.new) }
 {
     if let Some(part) = only_part(form, parts, factor) {
         return open_node(alloc, index, part, scheme, factor, most, spent, steps);
@@ -467,6 +473,7 @@ fn split_parts<'a>(
     ensures fits { (scheme : Scheme) (docs : Docs) → All IsLight docs → ceil_of form (ceils (queries_view result.0.now) scheme _factor docs) + ceil_of (others_of form) (ceils (queries_view result.1.now) scheme _factor docs) < 2 ^ 63 }
     ensures readings { (docs : Docs) → leaves_readings (queries_view parts.now) docs ≡ leaves_readings (queries_view result.0.now) docs + leaves_readings (queries_view result.1.now) docs }
     ensures terms { (lists : List (List ℕ)) → terms_in (queries_view parts.now) ≡ Some lists → SplitsTerms lists (terms_in (queries_view result.0.now)) (terms_in (queries_view result.1.now)) }
+    ensures led { (lists : List (List ℕ)) → CanLead form lists → terms_in (queries_view parts.now) ≡ Some lists → SplitsLed form lists index.now.live.documents (terms_in (queries_view result.0.now)) (terms_in (queries_view result.1.now)) }
 {
     match form {
         Form::And => split_and(index, parts, _factor),
@@ -494,6 +501,7 @@ fn split_and<'a>(index: &Index, parts: &'a [Query], _factor: u64) -> (&'a [Query
     ensures fits { (scheme : Scheme) (docs : Docs) → All IsLight docs → ceil_of Form.And (ceils (queries_view result.0.now) scheme _factor docs) + ceil_of (others_of Form.And) (ceils (queries_view result.1.now) scheme _factor docs) < 2 ^ 63 }
     ensures readings { (docs : Docs) → leaves_readings (queries_view parts.now) docs ≡ leaves_readings (queries_view result.0.now) docs + leaves_readings (queries_view result.1.now) docs }
     ensures terms { (lists : List (List ℕ)) → terms_in (queries_view parts.now) ≡ Some lists → SplitsTerms lists (terms_in (queries_view result.0.now)) (terms_in (queries_view result.1.now)) }
+    ensures led { (lists : List (List ℕ)) → terms_in (queries_view parts.now) ≡ Some lists → SplitsLed Form.And lists index.now.live.documents (terms_in (queries_view result.0.now)) (terms_in (queries_view result.1.now)) }
 {
     if is_longer(index, parts) {
         let (first, others) = parts.split_at(1);
@@ -504,7 +512,9 @@ fn split_and<'a>(index: &Index, parts: &'a [Query], _factor: u64) -> (&'a [Query
 
 /// Whether more documents may match the first part than the last.
 fn is_longer(index: &Index, parts: &[Query]) -> bool
-    requires { 2 ≤ length parts.now }
+    requires many { 2 ≤ length parts.now }
+    ensures longer { result ≡ true → (lists : List (List ℕ)) → terms_in (queries_view parts.now) ≡ Some lists → last_length lists index.now.live.documents < first_length lists index.now.live.documents }
+    ensures ordered { result ≡ false → length parts.now ≤ 1024 → (lists : List (List ℕ)) → terms_in (queries_view parts.now) ≡ Some lists → first_length lists index.now.live.documents ≤ last_length lists index.now.live.documents }
 {
     let last = parts.len() - 1;
     last < MOST_NESTED && static_count(index, &parts[last]) < static_count(index, &parts[0])
@@ -525,6 +535,7 @@ fn split_in_order(form: Form, parts: &[Query], _factor: u64) -> (&[Query], &[Que
     ensures fits { (scheme : Scheme) (docs : Docs) → All IsLight docs → ceil_of form (ceils (queries_view result.0.now) scheme _factor docs) + ceil_of (others_of form) (ceils (queries_view result.1.now) scheme _factor docs) < 2 ^ 63 }
     ensures readings { (docs : Docs) → leaves_readings (queries_view parts.now) docs ≡ leaves_readings (queries_view result.0.now) docs + leaves_readings (queries_view result.1.now) docs }
     ensures terms { (lists : List (List ℕ)) → terms_in (queries_view parts.now) ≡ Some lists → SplitsTerms lists (terms_in (queries_view result.0.now)) (terms_in (queries_view result.1.now)) }
+    ensures led { (lists : List (List ℕ)) (docs : Docs) → CanLead form lists → IsOrdered form lists docs → terms_in (queries_view parts.now) ≡ Some lists → SplitsLed form lists docs (terms_in (queries_view result.0.now)) (terms_in (queries_view result.1.now)) }
 {
     let count = parts.len();
     parts.split_at(split_of(form, count))
@@ -535,6 +546,7 @@ fn split_of(form: Form, count: usize) -> usize
     requires some { 2 ≤ count }
     ensures begun { 1 ≤ result }
     ensures within { result < count }
+    ensures off { SplitsOff form count result }
 {
     match form {
         Form::Or | Form::Xor | Form::Max => count / 2,
@@ -606,6 +618,7 @@ fn open_term<L: Ledger>(
     ensures room { IfOk result (λ p. spent.new ≤ most.new) }
     ensures small { most.new < 2 ^ 128 }
     ensures nest { IfOk result (λ p. (form : Form) → OpensNest index.now form (shape_of p.1) (word.now ∷ []) spent.old spent.new) }
+    ensures lone { IfOk result (λ p. OpensLone index.now p.0 (shape_of p.1) (length_of word.now index.now.live.documents) spent.old spent.new) }
 {
     match index.number_of(word.as_str().as_bytes()) {
         None => Ok((Top::ended(), Node::Nothing)),
@@ -639,6 +652,7 @@ pub(crate) fn open_numbered<L: Ledger>(
     ensures room { IfOk result (λ p. spent.new ≤ most.new) }
     ensures small { most.new < 2 ^ 128 }
     ensures nest { IfOk result (λ p. (form : Form) → OpensNest index.now form (shape_of p.1) (term_at index.now.terms number ∷ []) spent.old spent.new) }
+    ensures lone { IfOk result (λ p. OpensLone index.now p.0 (shape_of p.1) (length_of (term_at index.now.terms number) index.now.live.documents) spent.old spent.new) }
 {
     let (top, node) = open_leaf(index, Some(number), scheme, factor, most, spent, steps)?;
     Ok((top, node))
@@ -671,6 +685,7 @@ fn open_leaf<L: Ledger>(
     ensures small { most.new < 2 ^ 128 }
     ensures alone { IfOk result (λ p. (form : Form) → IsNest form (shape_of p.1)) }
     ensures begins { IfOk result (λ p. (point : ℕ) → spent.new + room_to index.now point (shape_of p.1) ≤ spent.old + (min 1 (length (list_in index.now number)) + count_to point (list_in index.now number))) }
+    ensures lone { IfOk result (λ p. OpensLone index.now p.0 (shape_of p.1) (length (list_in index.now number)) spent.old spent.new) }
 {
     let length = list_length(index, number);
     raise(most, length)?;
@@ -706,6 +721,7 @@ pub(crate) fn pair_of<L: Ledger>(
     ensures counted { steps.new + spent.old ≡ steps.old + spent.new }
     ensures later { spent.old ≤ spent.new }
     ensures nest { IfOk result (λ p. IsJoint form → IsNest form (shape_of a) → IsNest form (shape_of b) → PairsNest index.now form (shape_of a) (shape_of b) (shape_of p.1) spent.old spent.new) }
+    ensures leads { IfOk result (λ p. Leads index.now 0 0 spent.old spent.new (pair form ta (shape_of a) tb (shape_of b)) (shape_of p.1) × (IsLed index.now (pair form ta (shape_of a) tb (shape_of b)) → IsAtLead index.now p.0 (shape_of p.1))) }
 {
     let mut top = Top::ended();
     seek_pair(

@@ -8,12 +8,13 @@ ghost use Rattle.sk_query.specs.Fits.{fits_tree};
 ghost use Rattle.sk_model.specs.Covers.{Covers};
 ghost use Rattle.sk_model.specs.Bounds.{ceil};
 ghost use Rattle.sk_model.specs.Allowance.{leaf_readings};
-ghost use Rattle.sk_model.specs.Sharp.{flat_lists, ups};
+ghost use Rattle.sk_model.specs.Sharp.{flat_lists, ups, rare_lists, rare_readings};
 ghost use Rattle.sk_index.specs.Indexed.{Indexed};
 ghost use Rattle.sk_nodes.specs.Left.{from_on};
 ghost use Rattle.sk_nodes.specs.Leaves.{AtMost};
 ghost use Rattle.sk_nodes.specs.Built.{gives, left, scored, first_weight, IsTree, Built};
 ghost use Rattle.sk_nodes.specs.Stops.{Stops, MayMove};
+ghost use Rattle.sk_nodes.specs.Rare.{Rare};
 
 use crate::moves::reach;
 use crate::node::Node;
@@ -54,6 +55,9 @@ impl Tree {
         // Of terms alone it stops at any point: it read one entry of each list.
         ensures stops { IfOk result (λ tree. (lists : List (List ℕ)) → flat_lists (query_view query.now) index.now.live.documents ≡ Some lists → (point : ℕ) → Stops index.now tree point (ups lists point index.now.live.documents)) }
 
+        // Where a list leads, it reads the others with it.
+        ensures rare { IfOk result (λ tree. (lists : List (List ℕ)) (m : ℕ) → rare_lists (query_view query.now) index.now.live.documents ≡ Some (lists, m) → Rare index.now tree (rare_readings lists m index.now.live.documents)) }
+
         ensures cost { IfOk result (λ tree. steps.new ≡ steps.old + tree.spent) }
         ensures later { steps.old ≤ steps.new }
     {
@@ -92,6 +96,7 @@ impl Tree {
 
         // It goes on to stop at a point up to which it may go.
         ensures stops { (point most : ℕ) → Stops index.now self.old point most → MayMove point target need self.old.top.greatest (gives index.now self.old point) → Stops index.now self.new point most }
+        ensures rare { (most : ℕ) → Rare index.now self.old most → Rare index.now self.new most }
 
         ensures cost { steps.new + self.old.spent ≡ steps.old + self.new.spent }
         ensures later { steps.old ≤ steps.new }
@@ -145,6 +150,7 @@ impl Tree {
         ensures value { result ≡ self.now.spent }
         ensures within { (i : Indexed) (query : QueryTree.Tree) (scheme : Scheme) → Built self.now i query scheme → result ≤ leaf_readings query i.live.documents }
         ensures stops { (i : Indexed) (point most : ℕ) → Stops i self.now point most → result ≤ most }
+        ensures rare { (i : Indexed) (most : ℕ) → Rare i self.now most → result ≤ most }
     {
         self.spent
     }
@@ -157,6 +163,7 @@ impl Tree {
         ensures spent { self.new.spent ≡ self.old.spent }
         ensures need { self.new.need ≡ self.old.need }
         ensures stops { (i : Indexed) (point most : ℕ) → Stops i self.old point most → Stops i self.new point most }
+        ensures rare { (i : Indexed) (most : ℕ) → Rare i self.old most → Rare i self.new most }
     {
         self.node = Node::Nothing;
         self.top = Top::ended();

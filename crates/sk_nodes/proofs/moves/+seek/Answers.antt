@@ -16,6 +16,9 @@ use Rattle.sk_nodes.proofs.ProximityLaws.{test_begun, moved_all, moved_covers, p
 use Rattle.sk_nodes.specs.Flat.{Stays}
 use Rattle.sk_nodes.proofs.NodeLaws.{pair_covers, odd_shape, odd_written}
 use Rattle.sk_nodes.proofs.StopLaws.{stays_same, stays_decayed, stays_along, stays_begun, stays_then, stays_on, stays_other, round_stays, round_ended}
+use Rattle.std.proofs.Common.{inr}
+use Rattle.sk_nodes.specs.Led.{IsLed, Leads}
+use Rattle.sk_nodes.proofs.RareLaws.{leads_same, leads_decayed, leads_along, leads_other, leads_begun, leads_then, leads_on, led_round, led_round_ended, decayed_led, at_along, meets_lead}
 use Rattle.sk_nodes.proofs.moves.+seek.Goals as goal
 
 pub reach-returns-clause-covers : goal.reach-returns-clause-covers
@@ -141,6 +144,14 @@ seek_pair-sides-preserved g t c =
           (subst (λ n. Covers (from_on c.second_target-next.result (rest i (shape_of c.sides.b))) (rest i (shape_of c.reach-in-sides.new.node)) n) c.second_need.ensures c.reach-in-sides.ensures.covers)
           c.second_target-next.ensures)
           c.in-Behind.ensures.on on.below;
+      leads = leads_on i c.args.form c.args.target c.args.need c.sides.from c.in-Behind.further c.args.spent.now c.sides.spent c.reach-in-sides.new.spent c.args.ta.now (shape_of c.args.a.now) c.args.tb.now (shape_of c.args.b.now)
+          c.sides.ta (shape_of c.sides.a) c.sides.tb (shape_of c.sides.b) c.reach.new.top (shape_of c.reach.new.node) c.reach-in-sides.new.top (shape_of c.reach-in-sides.new.node)
+          c.sides.invariant.leads
+          (led_round i c.args.form c.sides.from c.args.need c.sides.spent c.reach.new.spent c.reach-in-sides.new.spent c.sides.ta (shape_of c.sides.a) c.sides.tb (shape_of c.sides.b) c.reach.new.top (shape_of c.reach.new.node) c.reach-in-sides.new.top (shape_of c.reach-in-sides.new.node)
+          (subst (λ n. Leads i c.sides.from n c.sides.spent c.reach.new.spent (shape_of c.sides.a) (shape_of c.reach.new.node)) c.first_need.ensures c.reach.ensures.leads) c.reach.ensures.at
+          c.second_target-next.result c.second_target-next.ensures c.if-next-ge-END.false
+          (subst (λ n. Leads i c.second_target-next.result n c.reach.new.spent c.reach-in-sides.new.spent (shape_of c.sides.b) (shape_of c.reach-in-sides.new.node)) c.second_need.ensures c.reach-in-sides.ensures.leads))
+          c.in-Behind.ensures.on;
       paid = omega (arith, c.reach.ensures.paid, c.reach-in-sides.ensures.paid, c.sides.invariant.paid);
       counted = omega (arith, c.reach.ensures.counted, c.reach-in-sides.ensures.counted, c.sides.invariant.counted);
       later = omega (arith, c.reach.ensures.later, c.reach-in-sides.ensures.later, c.sides.invariant.later);
@@ -190,6 +201,7 @@ seek_pair-sides-init g t c =
     let i = c.args.index.now in
     record {
       far = sides_begun i c.args.form c.args.target c.args.need c.args.ta.now (shape_of c.args.a.now) c.args.tb.now (shape_of c.args.b.now) c.requires.pair c.requires.target;
+      leads = leads_begun i c.args.form c.args.target c.args.spent.now c.args.ta.now (shape_of c.args.a.now) c.args.tb.now (shape_of c.args.b.now);
       stays = stays_begun i c.args.form c.args.target c.args.need c.args.spent.now c.args.ta.now (shape_of c.args.a.now) c.args.tb.now (shape_of c.args.b.now);
       paid = omega arith;
       counted = omega arith;
@@ -409,3 +421,72 @@ seek_pair-returns-then-next-ge-END-clause-stays g t c =
     (subst (λ n. Covers (from_on c.sides.from (rest i (shape_of c.sides.a))) (rest i (shape_of c.reach.new.node)) n) c.first_need.ensures c.reach.ensures.covers)
     (subst (λ n. Stays i c.sides.from n c.sides.spent c.reach.new.spent (shape_of c.sides.a) (shape_of c.reach.new.node)) c.first_need.ensures c.reach.ensures.stays)
     at_end.0)
+
+-- ---- nodes in which a list leads
+
+pub reach-returns-then-target-top-clause-leads : goal.reach-returns-then-target-top-clause-leads
+reach-returns-then-target-top-clause-leads g t c = leads_same c.args.index.now c.args.target c.args.need c.args.spent.now (shape_of c.args.node.now)
+
+pub reach-returns-clause-leads : goal.reach-returns-clause-leads
+reach-returns-clause-leads g t c =
+    let i = c.args.index.now in
+    leads_decayed i c.args.target c.args.need c.args.spent.now c.seek.new.spent (shape_of c.args.node.now) (shape_of c.seek.new.node)
+    (subst (λ (s : Shape). Leads i c.args.target c.args.need c.args.spent.now c.seek.new.spent s (shape_of c.seek.new.node)) c.settle.ensures.stands c.seek.ensures.leads)
+
+pub reach-returns-clause-at : goal.reach-returns-clause-at
+reach-returns-clause-at g t c led at =
+    let i = c.args.index.now in
+    c.seek.ensures.at (subst (λ (s : Shape). IsLed i s) (sym c.settle.ensures.stands) (decayed_led i (shape_of c.args.node.now) c.args.need led))
+
+pub seek_inner-returns-in-Pair-clause-leads : goal.seek_inner-returns-in-Pair-clause-leads
+seek_inner-returns-in-Pair-clause-leads g t c =
+    leads_along c.args.index.now c.args.target c.args.need c.args.spent.now c.seek_pair.new.spent _ _ _ _
+    (parts_shape c.args.node.now c.in-Pair.form c.in-Pair.ta c.in-Pair.tb c.in-Pair.a c.in-Pair.b _ _ _ _ _ c.in-Pair.is c.in-Pair.form-is c.in-Pair.ta-is c.in-Pair.tb-is (c.deref_mut.ensures.value ∙ ap (λ (x : Box Node Global). x.value) c.in-Pair.a-is) (c.deref_mut-in-Pair.ensures.value ∙ ap (λ (x : Box Node Global). x.value) c.in-Pair.b-is))
+    (shape_of-Pair _ _ _ _ _) c.seek_pair.ensures.leads
+
+pub seek_inner-returns-in-Pair-clause-at : goal.seek_inner-returns-in-Pair-clause-at
+seek_inner-returns-in-Pair-clause-at g t c led =
+    at_along c.args.index.now c.seek_pair.new.top _ _ _ _
+    (parts_shape c.args.node.now c.in-Pair.form c.in-Pair.ta c.in-Pair.tb c.in-Pair.a c.in-Pair.b _ _ _ _ _ c.in-Pair.is c.in-Pair.form-is c.in-Pair.ta-is c.in-Pair.tb-is (c.deref_mut.ensures.value ∙ ap (λ (x : Box Node Global). x.value) c.in-Pair.a-is) (c.deref_mut-in-Pair.ensures.value ∙ ap (λ (x : Box Node Global). x.value) c.in-Pair.b-is))
+    (shape_of-Pair _ _ _ _ _) c.seek_pair.ensures.at led
+
+pub seek_inner-returns-in-Odd-clause-leads : goal.seek_inner-returns-in-Odd-clause-leads
+seek_inner-returns-in-Odd-clause-leads g t c =
+    leads_along c.args.index.now c.args.target c.args.need c.args.spent.now c.seek_odd.new.spent _ _ _ _
+    (odd_shape c.args.node.now c.in-Odd.tops c.in-Odd.nodes _ _ c.in-Odd.is (c.deref_mut-in-Odd.ensures.value ∙ ap (λ (v : Vec Top Global). v.items) c.in-Odd.tops-is) (c.deref_mut-in-Odd-2.ensures.value ∙ ap (λ (v : Vec Node Global). v.items) c.in-Odd.nodes-is))
+    (odd_written _ _ c.seek_odd.new.tops c.seek_odd.new.nodes (search (rules, places)) (search (rules, places)))
+    (leads_other c.args.index.now c.args.target c.args.need c.args.spent.now c.seek_odd.new.spent (odd _) (odd _) (λ h. h) (λ h. h) (λ h. h))
+
+pub seek_inner-returns-in-Odd-clause-at : goal.seek_inner-returns-in-Odd-clause-at
+seek_inner-returns-in-Odd-clause-at g t c led =
+    absurd (subst (λ (s : Shape). IsLed c.args.index.now s)
+    (odd_shape c.args.node.now c.in-Odd.tops c.in-Odd.nodes _ _ c.in-Odd.is (c.deref_mut-in-Odd.ensures.value ∙ ap (λ (v : Vec Top Global). v.items) c.in-Odd.tops-is) (c.deref_mut-in-Odd-2.ensures.value ∙ ap (λ (v : Vec Node Global). v.items) c.in-Odd.nodes-is)) led)
+
+pub seek_pair-returns-then-next-ge-END-clause-leads : goal.seek_pair-returns-then-next-ge-END-clause-leads
+seek_pair-returns-then-next-ge-END-clause-leads g t c =
+    let i = c.args.index.now in
+    let at_end = target_ended c.args.form c.sides.from c.reach.new.top.head c.sides.invariant.far.within (omega (arith, c.if-next-ge-END.true, c.second_target-next.ensures)) in
+    leads_then i c.args.form c.args.target c.args.need c.sides.from c.args.spent.now c.sides.spent c.reach.new.spent c.args.ta.now (shape_of c.args.a.now) c.args.tb.now (shape_of c.args.b.now)
+    c.sides.ta (shape_of c.sides.a) c.sides.tb (shape_of c.sides.b) c.reach.new.top (shape_of c.reach.new.node) c.sides.tb (shape_of c.sides.b) c.sides.invariant.leads
+    (led_round_ended i c.args.form c.sides.from c.args.need c.sides.spent c.reach.new.spent c.reach.new.spent c.sides.ta (shape_of c.sides.a) c.sides.tb (shape_of c.sides.b) c.reach.new.top (shape_of c.reach.new.node) c.sides.tb (shape_of c.sides.b)
+    (subst (λ n. Leads i c.sides.from n c.sides.spent c.reach.new.spent (shape_of c.sides.a) (shape_of c.reach.new.node)) c.first_need.ensures c.reach.ensures.leads) c.reach.ensures.at at_end.0)
+
+pub seek_pair-returns-then-next-ge-END-clause-at : goal.seek_pair-returns-then-next-ge-END-clause-at
+seek_pair-returns-then-next-ge-END-clause-at g t c led = inr (ap (λ (u : Top). u.head) c.ended.ensures)
+
+pub seek_pair-returns-in-At-clause-leads : goal.seek_pair-returns-in-At-clause-leads
+seek_pair-returns-in-At-clause-leads g t c =
+    let i = c.args.index.now in
+    leads_then i c.args.form c.args.target c.args.need c.sides.from c.args.spent.now c.sides.spent c.reach-in-sides.new.spent c.args.ta.now (shape_of c.args.a.now) c.args.tb.now (shape_of c.args.b.now)
+    c.sides.ta (shape_of c.sides.a) c.sides.tb (shape_of c.sides.b) c.reach.new.top (shape_of c.reach.new.node) c.reach-in-sides.new.top (shape_of c.reach-in-sides.new.node) c.sides.invariant.leads
+    (led_round i c.args.form c.sides.from c.args.need c.sides.spent c.reach.new.spent c.reach-in-sides.new.spent c.sides.ta (shape_of c.sides.a) c.sides.tb (shape_of c.sides.b) c.reach.new.top (shape_of c.reach.new.node) c.reach-in-sides.new.top (shape_of c.reach-in-sides.new.node)
+    (subst (λ n. Leads i c.sides.from n c.sides.spent c.reach.new.spent (shape_of c.sides.a) (shape_of c.reach.new.node)) c.first_need.ensures c.reach.ensures.leads) c.reach.ensures.at
+    c.second_target-next.result c.second_target-next.ensures c.if-next-ge-END.false
+    (subst (λ n. Leads i c.second_target-next.result n c.reach.new.spent c.reach-in-sides.new.spent (shape_of c.sides.b) (shape_of c.reach-in-sides.new.node)) c.second_need.ensures c.reach-in-sides.ensures.leads))
+
+pub seek_pair-returns-in-At-clause-at : goal.seek_pair-returns-in-At-clause-at
+seek_pair-returns-in-At-clause-at g t c led =
+    let i = c.args.index.now in
+    let now = c.sides.invariant.leads.led led in
+    meets_lead i c.args.form c.args.ta.now (shape_of c.args.a.now) c.args.tb.now (shape_of c.args.b.now) (record { head = c.in-At.head; weight = c.in-At.weight; greatest = 0 }) c.reach.new.top (shape_of c.reach.new.node) c.reach-in-sides.new.top (shape_of c.reach-in-sides.new.node) c.in-At.head c.in-At.weight
+    led (c.reach.ensures.at now.1.1 now.1.0) c.in-At.ensures.at refl

@@ -4,6 +4,7 @@ use Rattle.sk_nodes.specs.Shapes.{shape_of, size_of, sides_on, sizes_in}
 use Rattle.sk_nodes.specs.Left.{unread_of, unread_in}
 use Rattle.sk_nodes.proofs.NodeLaws.{SidesSoFar}
 use Rattle.sk_nodes.proofs.StopLaws.{StaysSoFar}
+use Rattle.sk_nodes.proofs.RareLaws.{LeadsSoFar}
 use Rattle.sk_nodes.specs.Proximity.{entries_from}
 use Rattle.sk_nodes.proofs.OddLaws.{OddSoFar}
 use Rattle.sk_nodes.proofs.ProximityLaws.{TestSoFar}
@@ -25,6 +26,7 @@ abbrev pub invariant-seek_pair-sides : goal.invariant-seek_pair-sides
 invariant-seek_pair-sides g l = record {
   far : SidesSoFar l.index l.form l.target l.need l.from l.fn.ta (shape_of l.fn.a) l.fn.tb (shape_of l.fn.b) l.ta (shape_of l.a) l.tb (shape_of l.b);
   stays : StaysSoFar l.index l.form l.target l.need l.from l.fn.spent l.spent l.fn.ta (shape_of l.fn.a) l.fn.tb (shape_of l.fn.b) l.ta (shape_of l.a) l.tb (shape_of l.b);
+  leads : LeadsSoFar l.index l.form l.target l.from l.fn.spent l.spent l.fn.ta (shape_of l.fn.a) l.fn.tb (shape_of l.fn.b) l.ta (shape_of l.a) l.tb (shape_of l.b);
   paid : l.spent + (unread_of l.index (shape_of l.a) + unread_of l.index (shape_of l.b)) ≤ l.fn.spent + (unread_of l.index (shape_of l.fn.a) + unread_of l.index (shape_of l.fn.b));
   counted : l.steps + l.fn.spent ≡ l.fn.steps + l.spent;
   later : l.fn.spent ≤ l.spent;

@@ -17,6 +17,8 @@ use Rattle.sk_query.proofs.ViewLaws.{view-Term}
 use Rattle.sk_model.specs.Sharp.{terms_in}
 use Rattle.sk_nodes.specs.Flat.{OpensNest}
 use Rattle.sk_nodes.proofs.NestLaws.{parts_flat, nest_opens, split_nest, joint_others, one_term, term_opens, term_flat}
+use Rattle.sk_nodes.specs.OpenedLed.{CanLead, OpensLed, OpensFollowing}
+use Rattle.sk_nodes.proofs.LedLaws.{odd_follows, parts_rare, rare_opened, term_lone, lone_leads, lone_following, split_leads, split_follows}
 use Rattle.sk_nodes.proofs.opening.+open_node.Goals as goal
 
 pub open_sides-returns-clause-opens : goal.open_sides-returns-clause-opens
@@ -105,3 +107,50 @@ open_parts-returns-clause-nest g t c =
     (λ p h lists joint e.
     split_nest i c.args.form c.others_of.result (shape_of c.in_ok-ta.a) (shape_of c.in_ok-tb.b) (shape_of p.1) lists (terms_in (queries_view c.split_parts.result.0.now)) (terms_in (queries_view c.split_parts.result.1.now)) _ _ _ _
     joint (c.others_of.ensures ∙ joint_others c.args.form joint) (c.in_ok-ta.ensures.nest) (c.in_ok-tb.ensures.nest) h (c.split_parts.ensures.terms lists e)) c.pair_of.ensures.nest
+
+pub open_node-returns-in-Some-clause-rare : goal.open_node-returns-in-Some-clause-rare
+open_node-returns-in-Some-clause-rare g t c =
+    let i = c.args.index.now in
+    IfOk-weaker c.open_parts.result _ _
+    (λ p h lists m e.
+    let f = parts_rare (query_view c.args.query.now) c.in-Some.form (queries_view c.in-Some.parts.now) lists m i.live.documents c.in-Some.ensures.is e in
+    rare_opened i c.in-Some.form p.0 (shape_of p.1) lists m c.args.spent.now c.open_parts.new.spent f.1.1 (h lists f.0 f.1.0)) c.open_parts.ensures.led
+
+pub open_node-returns-in-Term-clause-lone : goal.open_node-returns-in-Term-clause-lone
+open_node-returns-in-Term-clause-lone g t c =
+    IfOk-weaker c.open_term.result _ _ (λ p h term e. term_lone c.args.index.now p.0 (shape_of p.1) (query_view c.args.query.now) _ term c.args.spent.now c.open_term.new.spent (ap query_view c.in-Term.is ∙ view-Term _) e h) c.open_term.ensures.lone
+
+pub open_parts-returns-in-Some-clause-led : goal.open_parts-returns-in-Some-clause-led
+open_parts-returns-in-Some-clause-led g t c =
+    let i = c.args.index.now in
+    IfOk-weaker c.open_node.result _ _
+    (λ p h lists can e.
+    one_term (queries_view c.args.parts.now) (query_view c.in-Some.part.now) lists (λ ts. CanLead c.args.form ts → OpensLed i c.args.form p.0 (shape_of p.1) ts c.args.spent.now c.open_node.new.spent) c.in-Some.ensures.alone e
+    (λ term is can. lone_leads i c.args.form p.0 (shape_of p.1) term c.args.spent.now c.open_node.new.spent can (h term is)) can) c.open_node.ensures.lone
+
+pub open_parts-returns-in-Some-clause-follows : goal.open_parts-returns-in-Some-clause-follows
+open_parts-returns-in-Some-clause-follows g t c =
+    let i = c.args.index.now in
+    IfOk-weaker c.open_node.result _ _
+    (λ p h lists so e.
+    one_term (queries_view c.args.parts.now) (query_view c.in-Some.part.now) lists (λ ts. OpensFollowing i (shape_of p.1) ts c.args.spent.now c.open_node.new.spent) c.in-Some.ensures.alone e
+    (λ term is. lone_following i p.0 (shape_of p.1) term c.args.spent.now c.open_node.new.spent (h term is))) c.open_node.ensures.lone
+
+pub open_parts-returns-clause-led : goal.open_parts-returns-clause-led
+open_parts-returns-clause-led g t c =
+    let i = c.args.index.now in
+    IfOk-weaker c.pair_of.result _ _
+    (λ p h lists can e.
+    split_leads i c.args.form c.others_of.result c.in_ok-ta.ta (shape_of c.in_ok-ta.a) c.in_ok-tb.tb (shape_of c.in_ok-tb.b) p.0 (shape_of p.1) lists (terms_in (queries_view c.split_parts.result.0.now)) (terms_in (queries_view c.split_parts.result.1.now)) _ _ _ _
+    can c.others_of.ensures c.in_ok-ta.ensures.led c.in_ok-tb.ensures.follows h.0 h.1 (c.split_parts.ensures.led lists can e)) c.pair_of.ensures.leads
+
+pub open_parts-returns-clause-follows : goal.open_parts-returns-clause-follows
+open_parts-returns-clause-follows g t c =
+    let i = c.args.index.now in
+    IfOk-weaker c.pair_of.result _ _
+    (λ p h lists so e.
+    split_follows i c.args.form c.others_of.result c.in_ok-ta.ta (shape_of c.in_ok-ta.a) c.in_ok-tb.tb (shape_of c.in_ok-tb.b) (shape_of p.1) (queries_view c.split_parts.result.0.now) (queries_view c.split_parts.result.1.now) lists _ _ _ _
+    so c.others_of.ensures c.split_parts.ensures.front.some c.split_parts.ensures.back.some c.in_ok-ta.ensures.follows c.in_ok-tb.ensures.follows h.0 (c.split_parts.ensures.terms lists e)) c.pair_of.ensures.leads
+
+pub open_parts-returns-in-Some-odd_parts-clause-follows : goal.open_parts-returns-in-Some-odd_parts-clause-follows
+open_parts-returns-in-Some-odd_parts-clause-follows g t c lists so e = absurd (odd_follows c.args.form (queries_view c.args.parts.now) lists c.in-Some-odd_parts.ensures.odd so e)

@@ -4,6 +4,7 @@ use Rattle.sk_dict.specs.Terms.{term_at}
 use Rattle.sk_nodes.proofs.ListLaws.{weighed-term, greatest-term, length-postings}
 use Rattle.sk_nodes.specs.Shapes.{shape_of}
 use Rattle.sk_nodes.proofs.NestLaws.{term_nest}
+use Rattle.sk_nodes.proofs.LedLaws.{named_lone}
 use Rattle.sk_nodes.proofs.opening.open_numbered.Goals as goal
 
 pub returns-clause-opens : goal.returns-clause-opens
@@ -24,3 +25,8 @@ returns-clause-within g c =
 
 pub returns-clause-nest : goal.returns-clause-nest
 returns-clause-nest g c form = term_nest c.args.index.now form (shape_of c.in_ok-top.node) c.args.number _ _ (c.in_ok-top.ensures.alone form) c.in_ok-top.ensures.begins
+
+pub returns-clause-lone : goal.returns-clause-lone
+returns-clause-lone g c =
+    let i = c.args.index.now in
+    named_lone i c.in_ok-top.top (shape_of c.in_ok-top.node) _ _ _ _ (length-postings (term_at i.terms c.args.number) i.live.documents) c.in_ok-top.ensures.lone

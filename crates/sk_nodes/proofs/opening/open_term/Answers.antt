@@ -9,6 +9,8 @@ use Rattle.sk_nodes.specs.Opened.{score_of, Opens}
 use Rattle.sk_nodes.proofs.NodeLaws.{shape_of-Nothing}
 use Rattle.sk_nodes.proofs.ListLaws.{term-none, nothing_opened}
 use Rattle.sk_nodes.proofs.NestLaws.{named_nest}
+use Rattle.sk_nodes.specs.declared.top.Top.{Top}
+use Rattle.sk_nodes.proofs.LedLaws.{named_lone, none_lone}
 use Rattle.sk_nodes.proofs.opening.open_term.Goals as goal
 
 pub returns-in-None-clause-opens : goal.returns-in-None-clause-opens
@@ -34,3 +36,12 @@ returns-in_ok-top-in-Some-clause-within g c =
 pub returns-in_ok-top-in-Some-clause-nest : goal.returns-in_ok-top-in-Some-clause-nest
 returns-in_ok-top-in-Some-clause-nest g c form =
     named_nest c.args.index.now form (shape_of c.in_ok-top-in-Some.node) _ _ _ _ (c.in-Some.ensures.found.1 ∙ c.as_bytes.ensures.value ∙ c.as_str.ensures) (c.in_ok-top-in-Some.ensures.nest form)
+
+pub returns-in_ok-top-in-Some-clause-lone : goal.returns-in_ok-top-in-Some-clause-lone
+returns-in_ok-top-in-Some-clause-lone g c =
+    let i = c.args.index.now in
+    let named = c.in-Some.ensures.found.1 ∙ c.as_bytes.ensures.value ∙ c.as_str.ensures in
+    named_lone i c.in_ok-top-in-Some.top (shape_of c.in_ok-top-in-Some.node) _ _ _ _ (ap (λ t. length_of t i.live.documents) named) c.in_ok-top-in-Some.ensures.lone
+
+pub returns-in-None-clause-lone : goal.returns-in-None-clause-lone
+returns-in-None-clause-lone g c = none_lone c.args.index.now c.ended.result _ _ _ (ap (λ (u : Top). u.head) c.ended.ensures) shape_of-Nothing

@@ -2,12 +2,13 @@
 use Rattle.std.proofs.Common.{ℕ, Option, ap, sym, ◌∙◌, refl, arith}
 use Rattle.sk_model.proofs.CoverLaws.{covers_exactly}
 use Rattle.sk_decay.specs.Sides.{paired}
-use Rattle.sk_nodes.specs.Shapes.{shape_of}
+use Rattle.sk_nodes.specs.Shapes.{pair, shape_of}
 use Rattle.sk_nodes.specs.Left.{rest, from_on}
 use Rattle.sk_nodes.proofs.LeafLaws.{from_on-at}
 use Rattle.sk_nodes.proofs.NodeLaws.{pair_shape}
 use Rattle.sk_nodes.proofs.StopLaws.{stays_along}
 use Rattle.sk_nodes.proofs.NestLaws.{paired_nest}
+use Rattle.sk_nodes.proofs.RareLaws.{leads_along, at_along}
 use Rattle.sk_nodes.proofs.opening.pair_of.Goals as goal
 
 pub returns-clause-gives : goal.returns-clause-gives
@@ -23,3 +24,9 @@ returns-clause-nest g c joint first second =
     let i = c.args.index.now in
     let shape = pair_shape _ c.args.form c.seek_pair.new.ta c.seek_pair.new.tb c.in_ok-a.a c.in_ok-b.b c.seek_pair.new.a c.seek_pair.new.b refl (sym c.in_ok-a.ensures.ok) (sym c.in_ok-b.ensures.ok) in
     paired_nest i c.args.form _ _ c.args.ta (shape_of c.args.a) c.args.tb (shape_of c.args.b) _ (stays_along i 0 0 _ _ _ _ _ _ refl shape c.seek_pair.ensures.stays) first second joint
+
+pub returns-clause-leads : goal.returns-clause-leads
+returns-clause-leads g c =
+    let i = c.args.index.now in
+    let shape = pair_shape _ c.args.form c.seek_pair.new.ta c.seek_pair.new.tb c.in_ok-a.a c.in_ok-b.b c.seek_pair.new.a c.seek_pair.new.b refl (sym c.in_ok-a.ensures.ok) (sym c.in_ok-b.ensures.ok) in
+    (leads_along i 0 0 _ _ _ _ _ _ refl shape c.seek_pair.ensures.leads, at_along i c.seek_pair.new.top (pair c.args.form c.args.ta (shape_of c.args.a) c.args.tb (shape_of c.args.b)) _ (pair c.args.form c.args.ta (shape_of c.args.a) c.args.tb (shape_of c.args.b)) (pair c.args.form c.seek_pair.new.ta (shape_of c.seek_pair.new.a) c.seek_pair.new.tb (shape_of c.seek_pair.new.b)) refl shape c.seek_pair.ensures.at)

@@ -5,6 +5,7 @@ use Rattle.sk_query.specs.Trees.{queries_view}
 use Rattle.sk_nodes.specs.Opened.{count_in}
 use Rattle.sk_nodes.proofs.CountLaws.{counted}
 use Rattle.sk_nodes.proofs.OpenLaws.{joined, parts_joined, split_back, split_front_size, turned_fits}
+use Rattle.sk_nodes.proofs.LedLaws.{turns_led, terms_count}
 use Rattle.sk_nodes.proofs.opening.split_and.Goals as goal
 
 whole : (c : goal.After-others-1) → queries_view c.args.parts.now ≡ joined (queries_view c.split_at.result.0.now) (queries_view c.split_at.result.1.now)
@@ -24,3 +25,13 @@ returns-then-is_longer-clause-back_size c = split_front_size Form.And c.args._fa
 
 pub returns-then-is_longer-clause-fits : goal.returns-then-is_longer-clause-fits
 returns-then-is_longer-clause-fits c = turned_fits c.args._factor _ _ _ (whole c) c.requires.parts (others_some c) (first_some c) c.requires.factor
+
+pub returns-then-is_longer-clause-led : goal.returns-then-is_longer-clause-led
+returns-then-is_longer-clause-led c lists terms =
+    turns_led (queries_view c.args.parts.now) (queries_view c.split_at.result.0.now) (queries_view c.split_at.result.1.now) lists c.args.index.now.live.documents (whole c) terms
+    (omega (arith, counted c.split_at.result.0.now, c.split_at.ensures.front_len)) (others_some c) (c.is_longer.ensures.longer c.if-is_longer.true lists terms)
+
+pub returns-clause-led : goal.returns-clause-led
+returns-clause-led c lists terms =
+    let count = terms_count (queries_view c.args.parts.now) lists terms in
+    c.split_in_order.ensures.led lists c.args.index.now.live.documents tt (c.is_longer.ensures.ordered c.if-is_longer.false (omega (arith, counted c.args.parts.now, count.0, count.1, c.requires.parts.leaves)) lists terms) terms

@@ -4,7 +4,10 @@ use Rattle.sk_query.specs.Trees.{queries_view}
 use Rattle.sk_nodes.specs.Opened.{count_in}
 use Rattle.sk_nodes.proofs.CountLaws.{counted}
 use Rattle.sk_nodes.proofs.OpenLaws.{joined, parts_joined, split_front, split_back, split_front_size, split_back_size, split_scores, split_ceiling, split_readings, split_fits}
+use Rattle.std.proofs.Common.{sym, subst}
+use Rattle.sk_nodes.specs.OpenedLed.{SplitsOff}
 use Rattle.sk_nodes.proofs.NestLaws.{split_terms}
+use Rattle.sk_nodes.proofs.LedLaws.{splits_led}
 use Rattle.sk_nodes.proofs.opening.split_in_order.Goals as goal
 
 whole : (c : goal.After-split_at) → queries_view c.args.parts.now ≡ joined (queries_view c.split_at.result.0.now) (queries_view c.split_at.result.1.now)
@@ -42,3 +45,9 @@ returns-clause-readings c = split_readings c.args.form c.args._factor _ _ _ (who
 
 pub returns-clause-terms : goal.returns-clause-terms
 returns-clause-terms c lists e = split_terms (queries_view c.args.parts.now) (queries_view c.split_at.result.0.now) (queries_view c.split_at.result.1.now) lists (whole c) e
+
+pub returns-clause-led : goal.returns-clause-led
+returns-clause-led c lists docs can ordered terms =
+    splits_led c.args.form (queries_view c.args.parts.now) (queries_view c.split_at.result.0.now) (queries_view c.split_at.result.1.now) lists docs c.split_of.result (whole c) terms c.requires.parts.leaves
+    (omega (arith, counted c.split_at.result.0.now, c.split_at.ensures.front_len)) (front_some c) (back_some c)
+    (subst (λ n. SplitsOff c.args.form n c.split_of.result) (sym (counted c.args.parts.now)) c.split_of.ensures.off) can ordered

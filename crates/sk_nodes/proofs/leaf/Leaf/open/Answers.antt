@@ -2,9 +2,12 @@
 use Rattle.std.proofs.Common.{◌≡◌, subst, refl, ap, ◌∙◌}
 use Rattle.sk_runs.specs.Runs.{flat, AreRuns}
 use Rattle.sk_lists.specs.Lists.{Runs}
-use Rattle.sk_lists.specs.Cursor.{left, IsOn}
+use Rattle.sk_lists.specs.Cursor.{left, unread, IsOn}
 use Rattle.sk_nodes.specs.Leaves.{leaf_greatest}
 use Rattle.sk_nodes.proofs.ListLaws.{leaf_opened}
+use Rattle.std.proofs.Common.{inl, drop, length, arith}
+use Rattle.sk_nodes.specs.Leaves.{list_in}
+use Rattle.sk_nodes.proofs.LedLaws.{begun_lone}
 use Rattle.sk_nodes.proofs.leaf.Leaf.open.Goals as goal
 
 pub returns-clause-sound : goal.returns-clause-sound
@@ -18,3 +21,20 @@ returns-clause-sound g c =
 
 pub returns-clause-top : goal.returns-clause-top
 returns-clause-top g c = c.show.ensures.top c.args.index.now (returns-clause-sound g c)
+
+pub returns-clause-lone : goal.returns-clause-lone
+returns-clause-lone g c =
+    let is = c.list_of-list.ensures.runs in
+    let list = ap flat (Rattle.std.proofs.Common.sym is) ∙ c.list_of-list.ensures.entries in
+    let entries = subst (λ (rs : Runs). left c.open.result rs ≡ flat rs) is c.open.ensures.left ∙ list in
+    let behind = subst (λ (rs : Runs). unread c.open.result rs ≡ drop 1 (flat rs)) is c.open.ensures.unread ∙ ap (drop 1) list in
+    let begun = begun_lone (list_in c.args.index.now c.args.number) _ _ entries behind in
+    let long = c.length-length.ensures.value ∙ ap length c.list_of-list.ensures.entries in
+    record {
+      lone = tt;
+      at = inl (c.show.ensures.at c.args.index.now (returns-clause-sound g c));
+      few = omega (arith, c.from.ensures, c.min.ensures);
+      paid = omega (arith, c.from.ensures, c.min.ensures, long, begun.0);
+      within = omega (arith, begun.0);
+      begun = begun.1;
+    }

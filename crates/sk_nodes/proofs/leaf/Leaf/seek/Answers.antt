@@ -4,6 +4,11 @@ use Rattle.sk_lists.specs.Seeks.{Passes}
 use Rattle.sk_lists.specs.Cursor.{left, IsOn}
 use Rattle.sk_index.specs.Indexed.{runs_in}
 use Rattle.sk_nodes.proofs.LeafLaws.{sought_covers, head_of-reached, leaf_moved}
+use Rattle.std.proofs.Common.{ap, ◌∙◌, arith}
+use Rattle.sk_chunks.specs.Postings.{is_below}
+use Rattle.sk_lists.specs.declared.cursor.Cursor.{Cursor}
+use Rattle.sk_nodes.specs.Leaves.{head_of}
+use Rattle.sk_nodes.proofs.WalkLaws.{head_below, goes_on}
 use Rattle.sk_nodes.proofs.leaf.Leaf.seek.Goals as goal
 
 pub returns-clause-covers : goal.returns-clause-covers
@@ -28,3 +33,22 @@ returns-clause-reached g c =
     let passes = subst (λ (rs : Runs). Passes c.args.target c.wdf_for-self.result (left c.args.self.now.cursor rs) (left c.seek-read.new.self rs)) c.list_of-list.ensures.runs c.seek-read.ensures.passes in
     subst (λ n. c.args.target ≤ n) (sym (c.show.ensures.at c.args.index.now (returns-clause-sound g c)))
     (head_of-reached c.args.target (left c.seek-read.new.self runs) c.requires.target passes.reached)
+
+pub returns-clause-at : goal.returns-clause-at
+returns-clause-at g c = c.show.ensures.at c.args.index.now (returns-clause-sound g c)
+
+pub returns-clause-walks : goal.returns-clause-walks
+returns-clause-walks g c =
+    let runs = runs_in c.args.index.now c.args.self.now.number in
+    let old = c.args.self.now.cursor in
+    let new = c.seek-read.new.self in
+    let is = c.list_of-list.ensures.runs in
+    let passes = subst (λ (rs : Runs). Passes c.args.target c.wdf_for-self.result (left old rs) (left new rs)) is c.seek-read.ensures.passes in
+    record {
+      few = omega (arith, c.seek-read.ensures.most, c.from.ensures);
+      still = λ le.
+          let same = c.seek-read.ensures.stays (ap (λ (rs : Runs). is_below c.args.target (left old rs)) is ∙ head_below c.args.target (left old runs) le) in
+          (omega (arith, same.0, c.from.ensures), ap (λ (cursor : Cursor). head_of (left cursor runs)) same.1);
+      reached = head_of-reached c.args.target (left new runs) c.requires.target passes.reached;
+      advances = goes_on runs old new c.args.target c.wdf_for-self.result c.requires.sound.on (subst (λ (rs : Runs). IsOn new rs) is c.seek-read.ensures.on) passes;
+    }

@@ -3,7 +3,15 @@ use Rattle.std.proofs.Common.{ap}
 use Rattle.sk_nodes.specs.Left.{rest}
 use Rattle.sk_nodes.proofs.NodeLaws.{shape_of-Nothing}
 use Rattle.sk_nodes.proofs.TreeLaws.{weighed_ids-none}
+use Rattle.sk_nodes.specs.declared.top.Top.{Top}
+use Rattle.sk_nodes.specs.Shapes.{shape_of}
+use Rattle.sk_nodes.proofs.RareLaws.{rare_closed}
 use Rattle.sk_nodes.proofs.tree.Tree.close.Goals as goal
 
 pub returns-clause-left : goal.returns-clause-left
 returns-clause-left c i = weighed_ids-none _ i.live.documents (λ id. ap (λ s. rest i s id) shape_of-Nothing)
+
+pub returns-clause-rare : goal.returns-clause-rare
+returns-clause-rare c i most rare =
+    let done = rare_closed i c.ended-self.result (shape_of c.args.self.now.node) _ c.args.self.now.spent most shape_of-Nothing (ap (λ (u : Top). u.head) c.ended-self.ensures) rare.account in
+    record { led = done.0; at = done.1.0; account = done.1.1 }

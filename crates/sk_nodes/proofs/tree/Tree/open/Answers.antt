@@ -43,3 +43,8 @@ pub returns-clause-stops : goal.returns-clause-stops
 returns-clause-stops g c lists e point =
     let flat = c.in_ok-top.ensures.flat lists e in
     record { shape = flat.shape; account = omega (arith, flat.account point) }
+
+pub returns-clause-rare : goal.returns-clause-rare
+returns-clause-rare g c lists m e =
+    let rare = c.in_ok-top.ensures.rare lists m e in
+    record { led = rare.led; at = rare.at; account = omega (arith, rare.account) }

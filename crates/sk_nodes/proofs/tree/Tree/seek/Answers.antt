@@ -7,6 +7,9 @@ use Rattle.sk_nodes.proofs.NodeLaws.{shape_of-Nothing, covers_gone}
 use Rattle.sk_nodes.proofs.TreeLaws.{weighed_ids-none, left_exact}
 use Rattle.sk_nodes.specs.Flat.{Stays}
 use Rattle.sk_nodes.proofs.StopLaws.{stops_closed, stops_sought}
+use Rattle.std.proofs.Common.{arith}
+use Rattle.sk_nodes.specs.declared.top.Top.{Top}
+use Rattle.sk_nodes.proofs.RareLaws.{rare_closed}
 use Rattle.sk_nodes.proofs.tree.Tree.seek.Goals as goal
 
 pub returns-then-self-need-clause-covers : goal.returns-then-self-need-clause-covers
@@ -37,3 +40,13 @@ returns-clause-stops g c point most stops may =
     c.requires.rising c.if-self-need.false c.ranges.target.fits
     (subst (λ n. Stays i n c.args.need c.args.self.now.spent c.reach.new.spent (shape_of c.args.self.now.node) (shape_of c.reach.new.node)) c.from.ensures c.reach.ensures.stays) stops.shape stops.account may in
     record { shape = done.0; account = done.1 }
+
+pub returns-then-self-need-clause-rare : goal.returns-then-self-need-clause-rare
+returns-then-self-need-clause-rare g c most rare =
+    let done = rare_closed c.args.index.now c.ended-self.result (shape_of c.args.self.now.node) _ c.args.self.now.spent most shape_of-Nothing (ap (λ (u : Top). u.head) c.ended-self.ensures) rare.account in
+    record { led = done.0; at = done.1.0; account = done.1.1 }
+
+pub returns-clause-rare : goal.returns-clause-rare
+returns-clause-rare g c most rare =
+    let paid = c.reach.ensures.leads.led_paid rare.led in
+    record { led = c.reach.ensures.leads.led rare.led; at = c.reach.ensures.at rare.led rare.at; account = omega (arith, paid, rare.account) }
