@@ -211,3 +211,19 @@ fn an_interrupted_call_is_tried_64_times(rt: HostRuntime) -> Result<(), Fail> {
     }
     Ok(())
 }
+
+#[test]
+fn a_file_is_opened_when_it_is_read(rt: HostRuntime) -> Result<(), Fail> {
+    for (path, wanted) in [
+        ("/dev/null", Ok(0)),
+        ("/no/such/file", Err(Failed)),
+        ("", Err(Failed)),
+        ("/", Err(Failed)),
+    ] {
+        let mut source = LazyFile::new(&rt, String::from_str(rt.alloc(), path)?);
+        let mut buf = [0u8; 4];
+        assert_eq!(rt; source.take(&mut buf), wanted, "{path}");
+        assert_eq!(rt; source.take(&mut buf), wanted, "{path}, again");
+    }
+    Ok(())
+}
