@@ -15,3 +15,6 @@ returns-then-id-eq4294967295-clause-stops g c point most stops may = c.close.ens
 pub returns-clause-stops : goal.returns-clause-stops
 returns-clause-stops g c point most stops (inl last) = absurd (c.if-id-eq4294967295.false last)
 returns-clause-stops g c point most stops (inr may) = c.seek.ensures.stops point most stops may
+
+pub returns-then-id-eq4294967295-clause-rare : goal.returns-then-id-eq4294967295-clause-rare
+returns-then-id-eq4294967295-clause-rare g c most rare = c.close.ensures.rare c.args.index.now most rare
