@@ -3,7 +3,7 @@
 printf '%s\n' '{"schema":[{"name":"title","kind":"text","step":3},{"name":"about","kind":"text"},{"name":"section","kind":"filter","prefix":"S"},{"name":"size","kind":"number","slot":0}]}'
 dpkg-query -W -f '${Package}\t${Section}\t${Installed-Size}\t${binary:Synopsis}\n' | awk -F '\t' '
 function text(s) {
-    gsub(/\\/, "\\\\", s)
+    gsub(/\\/, "\\\\&", s)
     gsub(/"/, "\\\"", s)
     gsub(/[[:cntrl:]]/, " ", s)
     return "\"" s "\""
