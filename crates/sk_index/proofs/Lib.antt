@@ -1,7 +1,7 @@
 mod ListedLemmas
 mod SlottedLemmas
 mod StandsLemmas
-mod NumberLemmas
+pub mod NumberLemmas
 mod WildLemmas
 mod PlaceLemmas
 mod AllWithLemmas

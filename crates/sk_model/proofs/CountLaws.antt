@@ -1,12 +1,12 @@
 -- There are bounds that a find may have.
-use Rattle.std.proofs.Common.{◌≡◌, ◌≤◌, ◌+◌, ◌-◌, ℕ, Bool, true, nat_le, List, length, filter, count_by, drop, min, refl, arith, length-take, length-drop}
+use Rattle.std.proofs.Common.{◌≡◌, ◌≤◌, ◌+◌, ◌-◌, ℕ, Bool, true, nat_le, List, length, filter, drop, min, refl, arith, length-take, length-drop}
 use Rattle.std.proofs.lemmas.List.Sums.{length-filter, count_by-le-length}
 use Rattle.sk_base.specs.declared.find.Find.{Find}
 use Rattle.sk_base.specs.declared.rank.Rank.{Rank}
 use Rattle.sk_base.specs.Numbers.{Docs}
 use Rattle.sk_query.specs.Trees.{Tree}
 use Rattle.sk_query.specs.Fits.{is_sound}
-use Rattle.sk_model.specs.Matches.{key_of, matches, at_least, found_by}
+use Rattle.sk_model.specs.Matches.{key_of, matches, found_by}
 use Rattle.sk_model.specs.Bounds.{static_count}
 use Rattle.sk_model.specs.Counts.{Counts, CollapseCount, wanted, seen, kept_by, dropped_by}
 use Rattle.sk_model.proofs.KeptLaws.{kept_front, kept_others, dropped_front, kept_few}

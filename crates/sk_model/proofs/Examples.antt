@@ -15,7 +15,6 @@ use Rattle.sk_base.specs.declared.find.Join.TheVariants as Join
 use Rattle.sk_base.specs.declared.find.Scheme.{Scheme}
 use Rattle.sk_base.specs.declared.rank.Order.{Order}
 use Rattle.sk_base.specs.declared.rank.OrderBy.{OrderBy}
-use Rattle.sk_base.specs.declared.rank.OrderBy.TheVariants as OrderBy
 use Rattle.sk_base.specs.declared.rank.Rank.{Rank}
 use Rattle.sk_base.specs.Numbers.{Docs, wild_length_of, wild_greatest_of, slot_length_of}
 use Rattle.sk_model.specs.Documents.{Occurrence, placed_from, terms_of, document_of}

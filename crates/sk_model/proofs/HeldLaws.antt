@@ -53,7 +53,7 @@ abbrev pub is_in : List ℕ → List (List ℕ) → Bool
 is_in t us = list_any (λ u. bytes_eq u t) us
 
 -- without the first that is this one
-abbrev without : List ℕ → List (List ℕ) → List (List ℕ)
+abbrev pub without : List ℕ → List (List ℕ) → List (List ℕ)
 without t [] = []
 without t (u ∷ us) = cond (bytes_eq u t) us (u ∷ without t us)
 
@@ -71,7 +71,7 @@ still_step : (t j u : List ℕ) (us less : List (List ℕ)) (same : Bool) → by
 still_step t j u us less true e apart some h = sym (ap (λ v. bytes_eq v j || is_in j us) ((bytes_decides u t).0 e) ∙ ap (λ b. b || is_in j us) apart) ∙ some
 still_step t j u us less false e apart some h = or_step (bytes_eq u j) (is_in j us) (is_in j less) some h
 
-still : (t j : List ℕ) (us : List (List ℕ)) → bytes_eq t j ≡ false → is_in j us ≡ true → is_in j (without t us) ≡ true
+pub still : (t j : List ℕ) (us : List (List ℕ)) → bytes_eq t j ≡ false → is_in j us ≡ true → is_in j (without t us) ≡ true
 still t j [] apart some = some
 still t j (u ∷ us) apart some = still_step t j u us (without t us) (bytes_eq u t) refl apart some (still t j us apart)
 

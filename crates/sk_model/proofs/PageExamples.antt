@@ -7,7 +7,6 @@ use Rattle.sk_base.specs.declared.find.Join.TheVariants as Join
 use Rattle.sk_base.specs.declared.find.Scheme.{Scheme}
 use Rattle.sk_base.specs.declared.rank.Order.{Order}
 use Rattle.sk_base.specs.declared.rank.OrderBy.{OrderBy}
-use Rattle.sk_base.specs.declared.rank.OrderBy.TheVariants as OrderBy
 use Rattle.sk_base.specs.declared.rank.SortKey.{SortKey}
 use Rattle.sk_base.specs.Numbers.{Docs}
 use Rattle.sk_query.specs.declared.form.Form.{Form}

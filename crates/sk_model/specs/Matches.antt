@@ -8,7 +8,6 @@ use Rattle.sk_base.specs.declared.find.Find.{Find}
 use Rattle.sk_base.specs.declared.find.Scheme.{Scheme}
 use Rattle.sk_base.specs.declared.rank.Order.{Order}
 use Rattle.sk_base.specs.declared.rank.OrderBy.{OrderBy}
-use Rattle.sk_base.specs.declared.rank.OrderBy.TheVariants as OrderBy
 use Rattle.sk_base.specs.declared.rank.Rank.{Rank}
 use Rattle.sk_base.specs.Documents.{value_in}
 use Rattle.sk_base.specs.Numbers.{Docs}

@@ -1,21 +1,16 @@
 -- The page that a find asks for, and what a hit of it tells.
 -- Source: Xapian's API documentation (`MSet`).
-use Rattle.std.specs.Prelude.{◌≡◌, ◌≤◌, ◌+◌, ◌/◌, ℕ, List, [], length, Option, Some, None, IfSome}
-use Rattle.std.specs.List.{AllZip}
+use Rattle.std.specs.Prelude.{◌≡◌, ℕ, List, [], Option, Some, None}
 use Rattle.sk_base.specs.declared.find.Find.{Find}
 use Rattle.sk_base.specs.declared.rank.Rank.{Rank}
 use Rattle.sk_base.specs.declared.report.Ranked.{Ranked}
-use Rattle.sk_base.specs.declared.report.Report.{Report}
 use Rattle.sk_base.specs.Numbers.{Docs}
 use Rattle.sk_query.specs.Trees.{Tree}
 use Rattle.sk_model.specs.Documents.{Document}
 use Rattle.sk_model.specs.Edits.{document_at}
 use Rattle.sk_model.specs.Matches.{found_by, key_of}
 use Rattle.sk_model.specs.Page.{slice}
-use Rattle.sk_model.specs.Bounds.{ceil, static_count}
-use Rattle.sk_model.specs.Counts.{Counts, CollapseCount, kept_by}
-use Rattle.sk_model.specs.Allowance.{allowance}
-use Rattle.sk_model.specs.Sharp.{stop_number}
+use Rattle.sk_model.specs.Counts.{CollapseCount, kept_by}
 
 -- The payload of a document, if it is there.
 abbrev pub payload_of : Option Document → List ℕ

@@ -4,7 +4,6 @@ use Rattle.std.specs.Prelude.{ℕ, ◌+◌, ◌*◌, ◌&&◌, min, nat_le, nat_
 use Rattle.std.specs.Option.{option_map}
 use Rattle.sk_base.specs.declared.find.Find.{Find}
 use Rattle.sk_base.specs.declared.rank.OrderBy.{OrderBy}
-use Rattle.sk_base.specs.declared.rank.OrderBy.TheVariants as OrderBy
 use Rattle.sk_base.specs.Documents.{has_term}
 use Rattle.sk_base.specs.Numbers.{Docs, length_of, terms_with}
 use Rattle.sk_query.specs.declared.form.Form.{Form}

@@ -22,6 +22,7 @@ use Rattle.sk_model.specs.Weights.{weigh_by}
 use Rattle.sk_model.specs.Scores.{weight_if}
 use Rattle.sk_model.specs.Bounds.{term_ceil}
 use Rattle.sk_index.specs.Indexed.{Indexed, runs_in, postings, all_postings}
+use Rattle.sk_index.proofs.NumberLemmas.{length-postings, greatest-postings}
 use Rattle.sk_runs.specs.Runs.{AreRuns}
 use Rattle.sk_lists.specs.Cursor.{IsOn}
 use Rattle.sk_nodes.specs.declared.leaf.Leaf.{Leaf}
@@ -94,34 +95,6 @@ list-live i None id sorted none = found-all id i.live.documents ∙ ap zero_at n
 list-live i (Some n) id sorted none = found-postings (term_at i.terms n) 0 id i.live.documents sorted.rise ∙ ap (wdf_at (term_at i.terms n)) none
 
 -- ---- numbers
-
-counted_length : {P : Type 0} (b : Bool) (p : P) (ps : List P) (n : ℕ) → length ps ≡ n → length (cons_option (if b then Some p else None) ps) ≡ cond b 1 0 + n
-counted_length true p ps n e = omega (arith, e)
-counted_length false p ps n e = omega (arith, e)
-
-pub length-postings : (t : List ℕ) (docs : Docs) → length (postings t docs) ≡ length_of t docs
-length-postings t [] = refl
-length-postings t (one ∷ more) =
-    counted_length (has_term t one.1.terms) (one.0, wdf_of t one.1.terms) (postings t more) (length_of t more) (length-postings t more)
-    ∙ sym (sum_by-cons (λ (x : ℕ × Document). cond (has_term t x.1.terms) 1 0) one more)
-
--- a term that is not there has the wdf 0
-pub wdf_of-none : (t : List ℕ) (terms : List DocTerm) → has_term t terms ≡ false → wdf_of t terms ≡ 0
-wdf_of-none t [] h = refl
-wdf_of-none t (x ∷ xs) h = by (Rattle.std.proofs.Common.bytes_eq x.term t) refl (wdf_of-none t xs)
-  where
-    by : (b : Bool) → Rattle.std.proofs.Common.bytes_eq x.term t ≡ b → (has_term t xs ≡ false → wdf_of t xs ≡ 0) → (if b then x.wdf else wdf_of t xs) ≡ 0
-    by true e rest = absurd (true≢false (sym (ap (λ c. c || has_term t xs) e) ∙ h))
-    by false e rest = rest (sym (ap (λ c. c || has_term t xs) e) ∙ h)
-
-pub greatest-postings : (t : List ℕ) (docs : Docs) → greatest_wdf (postings t docs) ≡ greatest_of t docs
-greatest-postings t [] = refl
-greatest-postings t (one ∷ more) = by (has_term t one.1.terms) refl ∙ ap (max (wdf_of t one.1.terms)) (greatest-postings t more)
-  where
-    by : (b : Bool) → has_term t one.1.terms ≡ b
-        → greatest_wdf (cons_option (if b then Some (one.0, wdf_of t one.1.terms) else None) (postings t more)) ≡ max (wdf_of t one.1.terms) (greatest_wdf (postings t more))
-    by true e = refl
-    by false e = let none = wdf_of-none t one.1.terms e in omega (arith, none)
 
 -- the bound of a term's leaf is that of the term
 pub greatest-term : (factor : ℕ) (scheme : Scheme) (t : List ℕ) (docs : Docs) → leaf_greatest factor scheme (postings t docs) ≡ term_ceil scheme factor t docs

@@ -16,9 +16,10 @@ use Rattle.sk_query.specs.Trees as Trees
 use Rattle.sk_model.specs.Sharp.{up, ups, terms_in, flat_lists}
 use Rattle.sk_dict.specs.Terms.{term_at, number_of}
 use Rattle.sk_model.specs.Documents.{Document}
-use Rattle.sk_model.proofs.HeldLaws.{is_in, member}
+use Rattle.sk_model.proofs.HeldLaws.{is_in, member, without, taken, still}
 use Rattle.sk_query.specs.Fits.{are_different}
 use Rattle.sk_index.specs.Indexed.{Indexed, postings, AreAllWith}
+use Rattle.sk_index.proofs.NumberLemmas.{length-postings, count_to-postings}
 use Rattle.sk_nodes.proofs.SynonymLaws.{wild_apart, only_one}
 use Rattle.sk_nodes.specs.declared.top.Top.{Top}
 use Rattle.sk_nodes.specs.Leaves.{list_in}
@@ -28,7 +29,6 @@ use Rattle.sk_nodes.specs.Proximity.{numbered}
 use Rattle.sk_base.specs.declared.find.Scheme.{Scheme}
 use Rattle.sk_nodes.specs.Opened.{is_nest, joint_form, others_of}
 use Rattle.sk_nodes.specs.Flat.{room_to, IsFlat, IsPlain, IsNest, IsJoint, Stays, entered, PairsNest, OpensNest, OpensFlat, SplitsTerms}
-use Rattle.sk_nodes.proofs.ListLaws.{length-postings}
 use Rattle.sk_nodes.proofs.OpenLaws.{joined, is_xor}
 use Rattle.sk_nodes.proofs.StopLaws.{flat-mono}
 
@@ -156,23 +156,6 @@ none_nest i form s lists spent e = record {
   account = λ point. let none : room_to i point s ≡ 0 = ap (room_to i point) e in omega (arith, none);
 }
 
--- how many documents that have the term stand up to an id
-pub count_to-postings : (t : List ℕ) (id : ℕ) (docs : Docs) → count_to id (postings t docs) ≡ up t id docs
-count_to-postings t id [] = refl
-count_to-postings t id (one ∷ more) = by (has_term t one.1.terms) refl (count_to-postings t id more)
-  where
-    same : ◌≡◌ {A = ℕ} (if nat_lt one.0 (id + 1) then 1 else 0) (cond (nat_le one.0 id) 1 0)
-    same = grind (arith, nat_tests)
-
-    none : (n : ℕ) → n ≡ 0 + n
-    none n = omega arith
-
-    by : (b : Bool) → has_term t one.1.terms ≡ b → count_to id (postings t more) ≡ up t id more
-        → count_to id (cons_option (if b then Some (one.0, wdf_of t one.1.terms) else None) (postings t more)) ≡ count_by (λ (x : ℕ × Document). has_term t x.1.terms && nat_le x.0 id) (one ∷ more)
-    by true e rest = ap (λ n. n + count_to id (postings t more)) same ∙ ap (λ n. cond (nat_le one.0 id) 1 0 + n) rest
-        ∙ ap (λ b. cond (b && nat_le one.0 id) 1 0 + up t id more) (sym e) ∙ sym (sum_by-cons (λ (x : ℕ × Document). cond (has_term t x.1.terms && nat_le x.0 id) 1 0) one more)
-    by false e rest = rest ∙ none (up t id more) ∙ ap (λ b. cond (b && nat_le one.0 id) 1 0 + up t id more) (sym e) ∙ sym (sum_by-cons (λ (x : ℕ × Document). cond (has_term t x.1.terms && nat_le x.0 id) 1 0) one more)
-
 -- the leaf of a term
 pub term_nest : (i : Indexed) (form : Form) (s : Shape) (number before after : ℕ) → IsNest form s
     → ((point : ℕ) → after + room_to i point s ≤ before + (min 1 (length (list_in i (Some number))) + count_to point (list_in i (Some number))))
@@ -277,33 +260,6 @@ entered-sum (t ∷ ts) id docs = ap (λ n. (min 1 (length_of t docs) + up t id d
 abbrev AreAmong : (List ℕ → ℕ) → List (List ℕ) → List (List ℕ) → Type 0
 AreAmong f [] us = Unit {0}
 AreAmong f (t ∷ ts) us = (0 < f t → is_in t us ≡ true) × AreAmong f ts us
-
-or_so : (a b c : Bool) → (a || b) ≡ true → (b ≡ true → c ≡ true) → (a || c) ≡ true
-or_so true b c e h = refl
-or_so false b c e h = h e
-
--- without the first that is this one
-abbrev without : List ℕ → List (List ℕ) → List (List ℕ)
-without t [] = []
-without t (u ∷ us) = cond (bytes_eq u t) us (u ∷ without t us)
-
-taken_step : (f : List ℕ → ℕ) (t u : List ℕ) (us less : List (List ℕ)) (same : Bool) → bytes_eq u t ≡ same → (same || is_in t us) ≡ true → (is_in t us ≡ true → sum_by f us ≡ f t + sum_by f less)
-    → sum_by f (u ∷ us) ≡ f t + sum_by f (cond same us (u ∷ less))
-taken_step f t u us less true e some h = sum_by-cons f u us ∙ ap (λ v. f v + sum_by f us) ((bytes_decides u t).0 e)
-taken_step f t u us less false e some h = omega (arith, sum_by-cons f u us, sum_by-cons f u less, h some)
-
-taken : (f : List ℕ → ℕ) (t : List ℕ) (us : List (List ℕ)) → is_in t us ≡ true → sum_by f us ≡ f t + sum_by f (without t us)
-taken f t [] some = absurd (true≢false (sym some))
-taken f t (u ∷ us) some = taken_step f t u us (without t us) (bytes_eq u t) refl some (taken f t us)
-
-still_step : (t j u : List ℕ) (us less : List (List ℕ)) (same : Bool) → bytes_eq u t ≡ same → bytes_eq t j ≡ false → (bytes_eq u j || is_in j us) ≡ true → (is_in j us ≡ true → is_in j less ≡ true)
-    → is_in j (cond same us (u ∷ less)) ≡ true
-still_step t j u us less true e apart some h = sym (ap (λ v. bytes_eq v j || is_in j us) ((bytes_decides u t).0 e) ∙ ap (λ b. b || is_in j us) apart) ∙ some
-still_step t j u us less false e apart some h = or_so (bytes_eq u j) (is_in j us) (is_in j less) some h
-
-still : (t j : List ℕ) (us : List (List ℕ)) → bytes_eq t j ≡ false → is_in j us ≡ true → is_in j (without t us) ≡ true
-still t j [] apart some = some
-still t j (u ∷ us) apart some = still_step t j u us (without t us) (bytes_eq u t) refl apart some (still t j us apart)
 
 apart_from : (t j : List ℕ) (ts : List (List ℕ)) → not (bytes_eq t j || list_any (λ other. bytes_eq t other) ts) ≡ true → (bytes_eq t j ≡ false) × (not (list_any (λ other. bytes_eq t other) ts) ≡ true)
 apart_from t j ts e = by (bytes_eq t j) (list_any (λ other. bytes_eq t other) ts) e

@@ -32,7 +32,8 @@ use Rattle.sk_nodes.specs.Left.{rest}
 use Rattle.sk_nodes.specs.Sound.{IsTop, Sound, IsTested}
 use Rattle.sk_nodes.specs.Opened.{count_in, score_of, joint_score_of, parts_size, term_trees, AreParts, Opens}
 use Rattle.sk_nodes.specs.Proximity.{standing_query, stand, holds, entries_from, numbered, AreThere, AreInOrder, IsInAll}
-use Rattle.sk_nodes.proofs.ListLaws.{wdf_at, found-postings, length-postings}
+use Rattle.sk_index.proofs.NumberLemmas.{length-postings}
+use Rattle.sk_nodes.proofs.ListLaws.{wdf_at, found-postings}
 
 -- ---- terms as parts
 

@@ -38,7 +38,8 @@ use Rattle.sk_nodes.specs.Sound.{IsTop, Sound}
 use Rattle.sk_nodes.specs.Proximity.{numbered, AreThere}
 use Rattle.sk_nodes.specs.Opened.{score_of, joint_form, Opens}
 use Rattle.sk_nodes.proofs.NodeLaws.{capped_top}
-use Rattle.sk_nodes.proofs.ListLaws.{wdf_of-none, nothing_opened}
+use Rattle.sk_index.proofs.NumberLemmas.{wdf_of-none}
+use Rattle.sk_nodes.proofs.ListLaws.{nothing_opened}
 use Rattle.sk_nodes.proofs.StandingLaws.{some_number, has_none}
 
 -- ---- terms, one behind the other

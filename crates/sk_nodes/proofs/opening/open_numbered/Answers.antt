@@ -1,7 +1,8 @@
 -- The list of a term gives what the documents score for it.
 use Rattle.std.proofs.Common.{◌≤◌, subst, ◌∙◌, arith}
 use Rattle.sk_dict.specs.Terms.{term_at}
-use Rattle.sk_nodes.proofs.ListLaws.{weighed-term, greatest-term, length-postings}
+use Rattle.sk_index.proofs.NumberLemmas.{length-postings}
+use Rattle.sk_nodes.proofs.ListLaws.{weighed-term, greatest-term}
 use Rattle.sk_nodes.specs.Shapes.{shape_of}
 use Rattle.sk_nodes.proofs.NestLaws.{term_nest}
 use Rattle.sk_nodes.proofs.LedLaws.{named_lone}
