@@ -18,16 +18,16 @@ use Rattle.sk_run.proofs.RunLemmas.{or-false, or-assoc, rose_since, put_in_part}
 
 module _ {R : Type 0} (text : R → List ℕ) (refuses : R → Bool) (cost : R → ℕ) where
   -- What is said of the answers may be said in other words.
-  pub ended_as : (W0 W F0 F : List R → Type 0) (K0 K : Status → List R → Type 0) (refused : Bool) (status : Status) (before after : Output)
-      → ((a : List R) → W0 a → W a) → ((st : Status) (a : List R) → K0 st a → K st a) → ((a : List R) → F0 a → F a)
-      → Ended text refuses cost W0 K0 F0 refused status before after → Ended text refuses cost W K F refused status before after
-  ended_as W0 W F0 F K0 K refused Status.Done before after w k f e = record { answers = e.answers; put = e.put; status_is = e.status_is; steps = e.steps; settled = e.settled; finishes = e.finishes; lines = w e.answers e.lines }
-  ended_as W0 W F0 F K0 K refused Status.Refused before after w k f e = record { answers = e.answers; put = e.put; status_is = e.status_is; steps = e.steps; settled = e.settled; finishes = e.finishes; lines = w e.answers e.lines }
-  ended_as W0 W F0 F K0 K refused Status.Usage before after w k f e = absurd e
-  ended_as W0 W F0 F K0 K refused Status.ReadFault before after w k f e = record { answers = e.answers; put = e.put; steps = e.steps; finishes = e.finishes; lines = k Status.ReadFault e.answers e.lines }
-  ended_as W0 W F0 F K0 K refused Status.WriteFault before after w k f e = (record { answers = e.0.answers; put = e.0.put; steps = e.0.steps; finishes = e.0.finishes; lines = f e.0.answers e.0.lines }, e.1)
-  ended_as W0 W F0 F K0 K refused Status.Memory before after w k f e = record { answers = e.answers; put = e.put; steps = e.steps; finishes = e.finishes; lines = f e.answers e.lines }
-  ended_as W0 W F0 F K0 K refused Status.TooMuch before after w k f e = record { answers = e.answers; put = e.put; steps = e.steps; finishes = e.finishes; lines = k Status.TooMuch e.answers e.lines }
+  pub ended_as : (OldWhole Whole OldFirst First : List R → Type 0) (OldTaken Taken : Status → List R → Type 0) (refused : Bool) (status : Status) (before after : Output)
+      → ((a : List R) → OldWhole a → Whole a) → ((st : Status) (a : List R) → OldTaken st a → Taken st a) → ((a : List R) → OldFirst a → First a)
+      → Ended text refuses cost OldWhole OldTaken OldFirst refused status before after → Ended text refuses cost Whole Taken First refused status before after
+  ended_as OldWhole Whole OldFirst First OldTaken Taken refused Status.Done before after w k f e = record { answers = e.answers; put = e.put; status_is = e.status_is; steps = e.steps; settled = e.settled; finishes = e.finishes; lines = w e.answers e.lines }
+  ended_as OldWhole Whole OldFirst First OldTaken Taken refused Status.Refused before after w k f e = record { answers = e.answers; put = e.put; status_is = e.status_is; steps = e.steps; settled = e.settled; finishes = e.finishes; lines = w e.answers e.lines }
+  ended_as OldWhole Whole OldFirst First OldTaken Taken refused Status.Usage before after w k f e = absurd e
+  ended_as OldWhole Whole OldFirst First OldTaken Taken refused Status.ReadFault before after w k f e = record { answers = e.answers; put = e.put; steps = e.steps; finishes = e.finishes; lines = k Status.ReadFault e.answers e.lines }
+  ended_as OldWhole Whole OldFirst First OldTaken Taken refused Status.WriteFault before after w k f e = (record { answers = e.0.answers; put = e.0.put; steps = e.0.steps; finishes = e.0.finishes; lines = f e.0.answers e.0.lines }, e.1)
+  ended_as OldWhole Whole OldFirst First OldTaken Taken refused Status.Memory before after w k f e = record { answers = e.answers; put = e.put; steps = e.steps; finishes = e.finishes; lines = f e.answers e.lines }
+  ended_as OldWhole Whole OldFirst First OldTaken Taken refused Status.TooMuch before after w k f e = record { answers = e.answers; put = e.put; steps = e.steps; finishes = e.finishes; lines = k Status.TooMuch e.answers e.lines }
 
   -- The texts of both parts were put.
   both_put : (a b : List R) (h0 h1 h2 : Option (List ℕ)) → Appends h0 h1 (flat_map text a) → Appends h1 h2 (flat_map text b) → Appends h0 h2 (flat_map text (a ++ b))
@@ -50,10 +50,10 @@ module _ {R : Type 0} (text : R → List ℕ) (refuses : R → Bool) (cost : R �
       (ap (λ r. r || list_any refuses b) e ∙ or-assoc r0 (list_any refuses a) (list_any refuses b) ∙ ap (λ r. r0 || r) (sym (list_any-append refuses a b)))
 
   -- For what is said of the first part, of the second and of both.
-  module _ (T0 W2 W F2 F : List R → Type 0) (K2 K : Status → List R → Type 0)
-      (w : (a b : List R) → T0 a → W2 b → W (a ++ b)) (k : (st : Status) (a b : List R) → T0 a → K2 st b → K st (a ++ b)) (f : (a b : List R) → T0 a → F2 b → F (a ++ b))
-      (r0 r1 : Bool) (before middle after : Output) (c : Continues text refuses cost T0 r0 r1 before middle) where
-    finishes_after : (status : Status) → Finishes text refuses cost W2 r1 status middle after → Finishes text refuses cost W r0 status before after
+  module _ (Through WholeBehind Whole FirstBehind First : List R → Type 0) (TakenBehind Taken : Status → List R → Type 0)
+      (w : (a b : List R) → Through a → WholeBehind b → Whole (a ++ b)) (k : (st : Status) (a b : List R) → Through a → TakenBehind st b → Taken st (a ++ b)) (f : (a b : List R) → Through a → FirstBehind b → First (a ++ b))
+      (r0 r1 : Bool) (before middle after : Output) (c : Continues text refuses cost Through r0 r1 before middle) where
+    finishes_after : (status : Status) → Finishes text refuses cost WholeBehind r1 status middle after → Finishes text refuses cost Whole r0 status before after
     finishes_after status e = record {
       answers = c.answers ++ e.answers;
       put = both_put c.answers e.answers before.held middle.held after.held c.put e.put;
@@ -64,7 +64,7 @@ module _ {R : Type 0} (text : R → List ℕ) (refuses : R → Bool) (cost : R �
       lines = w c.answers e.answers c.lines e.lines;
     }
 
-    cuts_after : (status : Status) → CutsShort text refuses cost (K2 status) middle after → CutsShort text refuses cost (K status) before after
+    cuts_after : (status : Status) → CutsShort text refuses cost (TakenBehind status) middle after → CutsShort text refuses cost (Taken status) before after
     cuts_after status e = record {
       answers = c.answers ++ e.answers;
       put = both_put c.answers e.answers before.held middle.held after.held c.put e.put;
@@ -73,7 +73,7 @@ module _ {R : Type 0} (text : R → List ℕ) (refuses : R → Bool) (cost : R �
       lines = k status c.answers e.answers c.lines e.lines;
     }
 
-    breaks_after : BreaksOff text refuses cost F2 middle after → BreaksOff text refuses cost F before after
+    breaks_after : BreaksOff text refuses cost FirstBehind middle after → BreaksOff text refuses cost First before after
     breaks_after e = record {
       answers = c.answers ++ e.answers;
       put = both_front c.answers e.answers before.held middle.held after.held c.put e.put;
@@ -82,7 +82,7 @@ module _ {R : Type 0} (text : R → List ℕ) (refuses : R → Bool) (cost : R �
       lines = f c.answers e.answers c.lines e.lines;
     }
 
-    runs_out_after : RunsOut text refuses cost F2 middle after → RunsOut text refuses cost F before after
+    runs_out_after : RunsOut text refuses cost FirstBehind middle after → RunsOut text refuses cost First before after
     runs_out_after e = record {
       answers = c.answers ++ e.answers;
       put = both_put c.answers e.answers before.held middle.held after.held c.put e.put;
@@ -92,7 +92,7 @@ module _ {R : Type 0} (text : R → List ℕ) (refuses : R → Bool) (cost : R �
     }
 
     -- The second part ended, and so did both.
-    pub ended_after : (status : Status) → Ended text refuses cost W2 K2 F2 r1 status middle after → Ended text refuses cost W K F r0 status before after
+    pub ended_after : (status : Status) → Ended text refuses cost WholeBehind TakenBehind FirstBehind r1 status middle after → Ended text refuses cost Whole Taken First r0 status before after
     ended_after Status.Done e = finishes_after Status.Done e
     ended_after Status.Refused e = finishes_after Status.Refused e
     ended_after Status.Usage e = absurd e
@@ -109,7 +109,7 @@ kept_prefix (Some held) (Some more) None piece p k = absurd k
 kept_prefix (Some held) (Some more) (Some last) piece p k = record { shown = piece; rest = []; whole = sym (append-nil piece); now_held = ap Some (k ∙ p) }
 
 -- What closes a run, and the end of it.
-module _ {W S R : Type 0} (text : R → List ℕ) (refuses : R → Bool) (cost : R → ℕ) (Stands : W → S → Type 0) (Closes : S → R → Type 0) (now : W) (refused : Bool) where
+module _ {Whole S R : Type 0} (text : R → List ℕ) (refuses : R → Bool) (cost : R → ℕ) (Stands : Whole → S → Type 0) (Closes : S → R → Type 0) (now : Whole) (refused : Bool) where
   alone_put : (answer : R) (piece : List ℕ) (h0 h1 : Option (List ℕ)) → piece ≡ text answer → Appends h0 h1 piece → Appends h0 h1 (flat_map text (answer ∷ []))
   alone_put answer piece h0 h1 is put = subst (λ w. Appends h0 h1 w) (is ∙ sym (append-nil (text answer))) put
 

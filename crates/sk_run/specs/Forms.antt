@@ -1,5 +1,6 @@
 -- What the words behind the program's name ask for.
-use Rattle.std.specs.Prelude.{ℕ, ◌==◌, ◌&&◌, Bool, false, not, nat_le, List, [], ◌∷◌, Option, Some, None, bytes_eq, codes, if◌then◌else◌}
+use Rattle.std.specs.Prelude.{ℕ, ◌==◌, ◌&&◌, Bool, false, not, nat_le, List, [], ◌∷◌, drop, Option, Some, None, Result, Ok, Err, bytes_eq, codes, string_bytes, if◌then◌else◌}
+use Rattle.std.proofs.Common.{String, Global, Vec}
 use Rattle.std.specs.List.{list_all}
 use Rattle.std.specs.Char.{is_ascii_digit}
 use Rattle.std.specs.Str.Parse.{digits_value}
@@ -49,3 +50,14 @@ form_of (word ∷ []) = if bytes_eq word (codes "run") then Some Run else None
 form_of (word ∷ other ∷ []) = two_words word other
 form_of (word ∷ file ∷ join ∷ []) = three_words word join
 form_of (word ∷ file ∷ join ∷ more ∷ words) = None
+
+-- The second word, and nothing where there is none.
+abbrev pub second_word : List (String Global) → List ℕ
+second_word [] = []
+second_word (word ∷ []) = []
+second_word (word ∷ other ∷ words) = string_bytes other
+
+-- The path that the arguments of a program name: the second word behind the program's name.
+abbrev pub path_named : Result (Vec (String Global) Global) Status → List ℕ
+path_named (Ok words) = second_word (drop 1 words.items)
+path_named (Err status) = []

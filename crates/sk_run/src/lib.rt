@@ -31,4 +31,4 @@ pub use response::{Printing, Response};
 pub use running::run;
 pub use status::Status;
 pub use store::Store;
-pub use words::{arguments, words_of};
+pub use words::{arguments, path_of, words_of};

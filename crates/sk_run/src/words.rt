@@ -1,8 +1,8 @@
 //! From the arguments of a program to its words.
-ghost use Rattle.std.specs.Prelude.{◌≡◌, drop, IfOk, IfErr, IsErr};
+ghost use Rattle.std.specs.Prelude.{◌≡◌, drop, IfOk, IfErr, IsErr, string_bytes};
 ghost use Rattle.sk_run.specs.declared.status.Status.TheVariants as Status;
 ghost use Rattle.std.specs.IoError.{error_kind};
-ghost use Rattle.sk_run.specs.Forms.{status_for};
+ghost use Rattle.sk_run.specs.Forms.{status_for, second_word, path_named};
 
 use crate::Status;
 use std::alloc::{AllocError, Global};
@@ -53,5 +53,25 @@ pub fn words_of(arguments: &[String]) -> &[String]
     match arguments {
         [_, words @ ..] => words,
         [] => arguments,
+    }
+}
+
+/// The second of the words, which is the path of a search: empty where there is none, or the arguments were not read.
+pub fn path_of(alloc: Global, arguments: &Result<Vec<String>, Status>) -> Result<String, AllocError>
+    ensures { IfOk result (λ path. string_bytes path ≡ path_named arguments.now) }
+{
+    match arguments {
+        Ok(words) => second_word(alloc, words_of(words.as_slice())),
+        Err(_) => Ok(String::new(alloc)),
+    }
+}
+
+/// The second of these, or nothing.
+fn second_word(alloc: Global, words: &[String]) -> Result<String, AllocError>
+    ensures { IfOk result (λ word. string_bytes word ≡ second_word words.now) }
+{
+    match words {
+        [_, word, ..] => String::from_str(alloc, word.as_str()),
+        _ => Ok(String::new(alloc)),
     }
 }

@@ -5,7 +5,7 @@ ghost use Rattle.std.specs.Prelude.{◌≡◌};
 
 use sk_engine::start;
 use sk_io::{LazyFile, StdSink, StdSource};
-use sk_run::{Status, arguments};
+use sk_run::{Status, arguments, path_of};
 use std::alloc::{AllocError, Global};
 use std::marker::Brand;
 use std::process::ExitCode;
@@ -18,7 +18,7 @@ const USAGE: &[u8] = b"usage: sk_tool run | search FILE [and] | demo N";
 fn main(rt: HostRuntime) -> io::Result<ExitCode> {
     let alloc = rt.alloc();
     let read = arguments(alloc, env::args(&rt));
-    let (words, path) = match path_in(alloc, &read) {
+    let (words, path) = match path_of(alloc, &read) {
         Ok(path) => (read, path),
         Err(AllocError) => (Err(Status::Memory), String::new(alloc)),
     };
@@ -33,15 +33,4 @@ fn main(rt: HostRuntime) -> io::Result<ExitCode> {
         &mut StdSink::new(rt.stderr()),
     );
     Ok(ExitCode::from(code))
-}
-
-/// The second word behind the program's name, and the empty path where there is none.
-fn path_in(alloc: Global, words: &Result<Vec<String>, Status>) -> Result<String, AllocError> {
-    match words {
-        Ok(words) => match words.as_slice() {
-            [_, _, path, ..] => String::from_str(alloc, path.as_str()),
-            _ => Ok(String::new(alloc)),
-        },
-        Err(_) => Ok(String::new(alloc)),
-    }
 }
