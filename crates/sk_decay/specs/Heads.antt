@@ -40,6 +40,12 @@ abbrev pub MeetsAt : ℕ → Meeting → Type 0
 MeetsAt head (Meeting.At h w) = (h ≡ head) ⊎ (h ≡ 2 ^ 32)
 MeetsAt head (Meeting.Behind next) = Unit {0}
 
+-- The heads of an and where it begins are the same, or the second has ended; otherwise it goes on from the second, which stands behind the first.
+abbrev pub MeetsBoth : Form → ℕ → ℕ → Meeting → Type 0
+MeetsBoth Form.And a b (Meeting.At h w) = (a ≡ b) ⊎ (2 ^ 32 ≤ b)
+MeetsBoth Form.And a b (Meeting.Behind next) = (next ≡ b) × ((a < b) × (b < 2 ^ 32))
+MeetsBoth _ a b m = Unit {0}
+
 -- From an id on, and at the end nothing.
 abbrev pub behind : ℕ → Meeting
 behind id = if nat_lt id (2 ^ 32) then Meeting.Behind id else Meeting.At (2 ^ 32) 0

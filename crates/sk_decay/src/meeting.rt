@@ -1,7 +1,7 @@
 //! Where two sides meet.
 ghost use Rattle.std.specs.Prelude.{◌≡◌, ◌≤◌, ◌<◌, ◌+◌, ◌^◌, ℕ, true, Option};
 ghost use Rattle.sk_decay.specs.Sides.{is_led};
-ghost use Rattle.sk_decay.specs.Heads.{IsHead, Meets, GoesOnOnly, MeetsAt, behind};
+ghost use Rattle.sk_decay.specs.Heads.{IsHead, Meets, GoesOnOnly, MeetsAt, MeetsBoth, behind};
 
 use sk_query::Form;
 
@@ -22,6 +22,7 @@ pub fn meeting_of(form: Form, a: u64, v: u64, b: u64, w: u64) -> Meeting
     ensures meets { (f g : ℕ → Option ℕ) → IsHead a v f → IsHead b w g → Meets form a f g result }
     ensures on { GoesOnOnly form result }
     ensures at { is_led form ≡ true → MeetsAt a result }
+    ensures both { MeetsBoth form a b result }
 {
     match form {
         Form::And => {

@@ -26,6 +26,7 @@ use Rattle.sk_model.specs.Settled.{stop_point}
 use Rattle.sk_model.specs.Sharp.{ups, rare_readings}
 use Rattle.sk_nodes.specs.Stops.{Stops}
 use Rattle.sk_nodes.specs.Rare.{Rare}
+use Rattle.sk_nodes.specs.Decays.{Decays}
 use Rattle.sk_report.specs.Reports.{ReportsFor}
 use Rattle.sk_model.proofs.CountLaws.{found_within}
 use Rattle.sk_model.proofs.KeptLaws.{kept_few}
@@ -285,7 +286,7 @@ module _ (i : Indexed) (s : Search) (find : Find) (query : Query.Tree) (stands :
         omega (arith, low, high)
 
     pub finished : (report : Report) (spent : ℕ) → spent ≤ leaf_readings query docs
-        → ((point most : ℕ) → Stops i s.tree point most → spent ≤ most) → ((most : ℕ) → Rare i s.tree most → spent ≤ most)
+        → ((point most : ℕ) → Stops i s.tree point most → spent ≤ most) → ((most : ℕ) → Rare i s.tree most → spent ≤ most) → ((point greatest most : ℕ) → Decays i s.tree point greatest most → spent ≤ most)
         → report.hits ≡ map (ranked_of docs s.collapser) (drop (min (length s.heap.hits) s.options.first) s.heap.hits)
         → report.lower ≡ kept_of s.collapser s.seen
         → IsUpper query find docs saw report.upper
@@ -293,7 +294,7 @@ module _ (i : Indexed) (s : Search) (find : Find) (query : Query.Tree) (stands :
         → report.greatest ≡ s.greatest
         → report.steps ≡ spent + (s.read + length report.hits)
         → ReportsFor query find docs report
-    finished report spent few stops rare hits lower upper estimate greatest steps =
+    finished report spent few stops rare decays hits lower upper estimate greatest steps =
         let order = lower_upper report.upper upper in
         told query find docs saw end 1 report stands.sound (record {
           hits = page_told report.hits hits;
@@ -303,6 +304,6 @@ module _ (i : Indexed) (s : Search) (find : Find) (query : Query.Tree) (stands :
           greatest = greatest ∙ stands.greatest;
           least_steps = omega (arith, steps);
           spent = spent;
-          within = record { lists = few; rare = λ lists m is. rare (rare_readings lists m docs) (stands.accounts.rare lists m is); stop = λ plain lists flat. stops (stop_point query find docs) (ups lists (stop_point query find docs) docs) (stands.accounts.stops plain lists flat) };
+          within = record { lists = few; rare = λ lists m is. rare (rare_readings lists m docs) (stands.accounts.rare lists m is); stop = λ plain lists flat. stops (stop_point query find docs) (ups lists (stop_point query find docs) docs) (stands.accounts.stops plain lists flat); decay = λ plain ts a b is terms. let both = stands.accounts.decays plain ts a b is terms in (decays _ _ _ both.0, decays _ _ _ both.1) };
           most_steps = omega (arith, steps, stands.read);
         })

@@ -13,11 +13,11 @@ use Rattle.sk_base.specs.declared.find.Scheme.{Scheme}
 use Rattle.sk_base.specs.declared.rank.Rank.{Rank}
 use Rattle.sk_base.specs.declared.rank.Order.{Order}
 use Rattle.sk_base.specs.declared.rank.OrderBy.{OrderBy}
-use Rattle.sk_base.specs.declared.rank.OrderBy.TheVariants as OrderBy
 use Rattle.sk_base.specs.Before.{is_before}
 use Rattle.sk_base.specs.Numbers.{Docs}
 use Rattle.sk_sorted.specs.Entries.{RiseAbove, LieBelow, first_id}
 use Rattle.sk_sorted.proofs.EntryLaws.{RiseAbove-lower, found-here, found-other, length_fits}
+use Rattle.sk_query.specs.declared.form.Form.{Form}
 use Rattle.sk_query.specs.Trees as Query
 use Rattle.sk_query.specs.Fits.{is_sound, leaves_of, depth_of, fits_tree}
 use Rattle.sk_model.specs.Allowance.{key_readings, value_readings}
@@ -27,8 +27,8 @@ use Rattle.sk_model.specs.Covers.{CoversAt}
 use Rattle.sk_model.specs.Documents.{Document}
 use Rattle.sk_model.specs.Edits.{document_at, last_id}
 use Rattle.sk_model.specs.Scores.{score}
-use Rattle.sk_model.specs.Settled.{stop_point}
-use Rattle.sk_model.specs.Sharp.{is_plain, flat_lists, ups, rare_lists, rare_readings}
+use Rattle.sk_model.specs.Settled.{settled, stop_point, decay_point}
+use Rattle.sk_model.specs.Sharp.{is_plain, flat_lists, ups, rare_lists, rare_readings, terms_in, decay_readings}
 use Rattle.sk_model.specs.Matches.{value_by, key_for, key_of, found_by}
 use Rattle.sk_model.proofs.OrderLaws as OrderLaws
 use Rattle.sk_model.proofs.OrderLaws.{both_so}
@@ -38,12 +38,12 @@ use Rattle.sk_nodes.specs.Built.{weighed_ids, gives, left, scored, IsTree, Built
 use Rattle.sk_nodes.specs.Flat.{IsAtLeast}
 use Rattle.sk_nodes.specs.Stops.{Stops, MayMove}
 use Rattle.sk_nodes.specs.Rare.{Rare}
+use Rattle.sk_nodes.specs.Decays.{MayFall, DecaysBoth}
 use Rattle.sk_nodes.specs.declared.tree.Tree.{Tree}
 use Rattle.sk_heap.specs.declared.hit.Hit.{Hit}
 use Rattle.sk_heap.specs.Held.{Held, offered, need_of}
 use Rattle.sk_heap.proofs.HeapLaws.{full_by, need_keeps_out, falls_out}
 use Rattle.sk_collapse.specs.declared.verdict.Verdict.{Verdict}
-use Rattle.sk_collapse.specs.declared.verdict.Verdict.TheVariants as Verdict
 use Rattle.sk_collapse.specs.Collapsed.{Collapsed, group_of}
 use Rattle.sk_collapse.proofs.CollapseLaws.{knows_differ}
 use Rattle.sk_seen.specs.Shown.{is_behind}
@@ -59,7 +59,7 @@ use Rattle.sk_seen.specs.Calm.{IsCalm}
 use Rattle.sk_seen.proofs.StopLaws.{calm_need, asks_more, given_there, done_after, first_lowest, calm_max, calm_later, calm_less}
 use Rattle.sk_seen.proofs.SharpLaws.{plain_is}
 use Rattle.sk_match.specs.Hits.{value_at}
-use Rattle.sk_match.specs.Searches.{IsOn, Accounts, Stands, Sees, IsSameBut, IsSamePage, PassesOver, KeepsStops}
+use Rattle.sk_match.specs.Searches.{IsOn, Accounts, Stands, Sees, IsSameBut, IsSamePage, PassesOver, KeepsStops, KeepsDecays}
 use Rattle.sk_match.specs.declared.turns.Search.{Search}
 
 all_filter : {X : Type 0} (P : X → Type 0) (p : X → Bool) (xs : List X) → AllByRecursion P xs → AllByRecursion P (filter p xs)
@@ -126,8 +126,9 @@ pub opened : (i : Indexed) (s : Search) (find : Find) (query : Query.Tree) → f
     → ((key : Rank → List ℕ) → CollapsesBy find.collapse find.order key [] s.collapser)
     → ((lists : List (List ℕ)) → flat_lists query i.live.documents ≡ Some lists → (point : ℕ) → Stops i s.tree point (ups lists point i.live.documents))
     → ((lists : List (List ℕ)) (m : ℕ) → rare_lists query i.live.documents ≡ Some (lists, m) → Rare i s.tree (rare_readings lists m i.live.documents))
+    → ((ts : Query.Trees) (a b : List ℕ) → query ≡ Query.parts Form.Or ts → terms_in ts ≡ Some (a ∷ b ∷ []) → (point : ℕ) → DecaysBoth i s.tree find.options.scheme point a b)
     → Stands s i find query
-opened i s find query fits built all none need seen read options order collapse greatest most heap knows stops rare =
+opened i s find query fits built all none need seen read options order collapse greatest most heap knows stops rare decays =
     let docs = i.live.documents in
     let walk : Walk query find docs (gives i s.tree) 0 [] = started query find docs (gives i s.tree) built.tree.documents.rise
     (same_given (λ one. gives i s.tree one.0) (scores query find) 0 docs built.tree.documents.rise all) in
@@ -148,7 +149,7 @@ opened i s find query fits built all none need seen read options order collapse 
       walk = walk_on;
       pages = pages;
       read = omega (arith, read);
-      accounts = record { calm = λ plain. calm_opened i s find query (plain_is find plain) built.tree.documents.rise walk_on pages heap need; stops = λ _ lists e. stops lists e (stop_point query find docs); rare = rare };
+      accounts = record { calm = λ plain. calm_opened i s find query (plain_is find plain) built.tree.documents.rise walk_on pages heap need; stops = λ _ lists e. stops lists e (stop_point query find docs); rare = rare; decays = λ _ ts a b is terms. ((decays ts a b is terms (decay_point query (Query.term b) find docs)).0, (decays ts a b is terms (decay_point query (Query.term a) find docs)).1) };
     }
 
 -- ---- a search at a head
@@ -394,7 +395,7 @@ module _ (i : Indexed) (old : Search) (find : Find) (query : Query.Tree) (stands
     -- what it asked for, and how its tree went on
     module _ (saw2 : List Rank) (held : Held) (c : Option Collapsed) (pages : Pages find docs h saw2 held c) (sorted : IsSortedBy (λ (x y : Hit). is_before held.order x.rank y.rank) held.hits)
         (seen2 : ℕ) (is_seen : seen2 ≡ length saw2) (ceiling : ℕ) (is_ceiling : ceiling ≡ old.tree.top.greatest) (need2 : ℕ) (tree2 : Tree)
-        (asked : ((need2 ≡ old.need) × (h ≡ last_id)) ⊎ (need2 ≡ max old.need (need_for find.options seen2 held ceiling))) (keeps : KeepsStops i h need2 old.tree tree2) (rarely : (most : ℕ) → Rare i old.tree most → Rare i tree2 most)
+        (asked : ((need2 ≡ old.need) × (h ≡ last_id)) ⊎ (need2 ≡ max old.need (need_for find.options seen2 held ceiling))) (keeps : KeepsStops i h need2 old.tree tree2) (rarely : (most : ℕ) → Rare i old.tree most → Rare i tree2 most) (falls : KeepsDecays i h need2 old.tree tree2)
         (walk2 : Walk query find docs (gives i tree2) need2 saw2) (at_head : walk2.last ≡ h) where
       abbrev stop : ℕ
       stop = stop_point query find docs
@@ -453,11 +454,43 @@ module _ (i : Indexed) (old : Search) (find : Find) (query : Query.Tree) (stands
                 by_point true f true g = before_stop calm (less h stop f) (less stop last_id g)
                 by_point true f false g = let far = no_less stop last_id g in inr (inl (omega (arith, far)))
 
+        -- behind the point at which a part cannot matter alone, it is not enough
+        may_fall : (weight : ℕ) → (h ≡ last_id) ⊎ MayFall (settled find (found_by query find docs) weight) weight (h + 1) need2 old.tree.top.greatest
+        may_fall weight = by_end (nat_lt h last_id) refl
+          where
+            point : ℕ
+            point = settled find (found_by query find docs) weight
+
+            above : h < last_id → ((need2 ≡ old.need) × (h ≡ last_id)) ⊎ (need2 ≡ max old.need own_ask)
+                → (weight < need_for find.options (length saw2) held ceiling) ⊎ (ceiling < need_for find.options (length saw2) held ceiling) → MayFall point weight (h + 1) need2 old.tree.top.greatest
+            above within (inl e) high = absurd (omega (arith, e.1, within))
+            above within (inr e) (inl high) = inr (inr (omega (arith, e, high, ask_is)))
+            above within (inr e) (inr high) = inl (omega (arith, e, high, ask_is, is_ceiling))
+
+            by_point : h < last_id → (b : Bool) → nat_lt point h ≡ b → MayFall point weight (h + 1) need2 old.tree.top.greatest
+            by_point within false f = let near = no_less point h f in inr (inl (omega (arith, near)))
+            by_point within true f =
+                let after = less point h f in
+                above within asked
+                (asks_more query find docs plain.0 plain.1 stands.built.tree.documents.rise (gives i tree2) need2 saw2 walk2 weight held c
+                (subst (λ n. Pages find docs n saw2 held c) (sym at_head) pages) sorted ceiling (omega (arith, after, at_head)) (omega (arith, within, at_head)))
+
+            by_end : (b : Bool) → nat_lt h last_id ≡ b → (h ≡ last_id) ⊎ MayFall point weight (h + 1) need2 old.tree.top.greatest
+            by_end false e = let far = no_less h last_id e in let small = at_last in inl (omega (arith, far, small))
+            by_end true e = inr (by_point (less h last_id e) (nat_lt point h) refl)
+
       accounts_on : Accounts i find query h need2 tree2
       accounts_on = record {
         calm = λ plain. calm_on (plain_is find plain) (stands.accounts.calm plain) asked;
         stops = λ plain lists flat. keeps stop (ups lists stop docs) (stands.accounts.stops plain lists flat) (may_go (plain_is find plain) (stands.accounts.calm plain));
         rare = λ lists m is. rarely (rare_readings lists m docs) (stands.accounts.rare lists m is);
+        decays = λ plain ts a b is terms.
+            let both = stands.accounts.decays plain ts a b is terms in (
+              falls (decay_point query (Query.term b) find docs) (ceil (Query.term b) find.options.scheme 1 docs) (decay_readings a b (decay_point query (Query.term b) find docs) docs 0) both.0
+                  (may_fall (plain_is find plain) (ceil (Query.term b) find.options.scheme 1 docs)),
+              falls (decay_point query (Query.term a) find docs) (ceil (Query.term a) find.options.scheme 1 docs) (decay_readings b a (decay_point query (Query.term a) find docs) docs 0) both.1
+                  (may_fall (plain_is find plain) (ceil (Query.term a) find.options.scheme 1 docs)),
+            );
       }
 
     pub gone_on : (mid new : Search) (saw2 : List Rank) → Looked mid saw2
@@ -469,9 +502,10 @@ module _ (i : Indexed) (old : Search) (find : Find) (query : Query.Tree) (stands
         → ((new.need ≡ mid.need) × (h ≡ last_id)) ⊎ (new.need ≡ max mid.need (need_for mid.options mid.seen mid.heap mid.tree.top.greatest))
         → KeepsStops i h new.need mid.tree new.tree
         → ((most : ℕ) → Rare i mid.tree most → Rare i new.tree most)
+        → KeepsDecays i h new.need mid.tree new.tree
         → new.seen ≡ mid.seen → new.read ≡ mid.read → new.heap ≡ mid.heap → new.collapser ≡ mid.collapser → IsSamePage mid new
         → Stands new i find query
-    gone_on mid new saw2 looked same tree need sorted over built needed asked keeps rare seen read heap collapser after =
+    gone_on mid new saw2 looked same tree need sorted over built needed asked keeps rare falls seen read heap collapser after =
         let right_old : IsNeed find docs saw2 h old.need = need_on find docs stands.saw saw2 stands.walk.last h old.need (omega (arith, at.higher)) looked.full looked.keeps stands.walk.right in
         let right_new : IsNeed find docs saw2 h (need_for find.options mid.seen mid.heap mid.tree.top.greatest) = need_right find docs h saw2 mid.heap mid.collapser looked.pages sorted mid.seen mid.tree.top.greatest in
         let options_mid = same.options ∙ stands.options in
@@ -499,7 +533,7 @@ module _ (i : Indexed) (old : Search) (find : Find) (query : Query.Tree) (stands
           accounts =
               subst (λ n. Accounts i find query n new.need new.tree) (sym walk2.1)
               (accounts_on saw2 mid.heap mid.collapser looked.pages sorted mid.seen looked.seen mid.tree.top.greatest (ap (λ (t : Tree). t.top.greatest) tree) new.need new.tree asked3
-              (subst (λ (t : Tree). KeepsStops i h new.need t new.tree) tree keeps) (subst (λ (t : Tree). (most : ℕ) → Rare i t most → Rare i new.tree most) tree rare) walk2.0 walk2.1);
+              (subst (λ (t : Tree). KeepsStops i h new.need t new.tree) tree keeps) (subst (λ (t : Tree). (most : ℕ) → Rare i t most → Rare i new.tree most) tree rare) (subst (λ (t : Tree). KeepsDecays i h new.need t new.tree) tree falls) walk2.0 walk2.1);
         }
       where
         need_alone : ((new.need ≡ old.need) × (h ≡ last_id)) ⊎ (new.need ≡ max old.need (need_for find.options mid.seen mid.heap mid.tree.top.greatest)) → (new.need ≡ old.need) ⊎ (new.need ≡ max old.need (need_for find.options mid.seen mid.heap mid.tree.top.greatest))
@@ -635,6 +669,7 @@ pub record Passes (i : Indexed) (h : ℕ) (mid new : Search) : Type 0 where
   pub asked : ((new.need ≡ mid.need) × (h ≡ last_id)) ⊎ (new.need ≡ max mid.need (need_for mid.options mid.seen mid.heap mid.tree.top.greatest))
   pub stops : KeepsStops i h new.need mid.tree new.tree
   pub rare : (most : ℕ) → Rare i mid.tree most → Rare i new.tree most
+  pub decays : KeepsDecays i h new.need mid.tree new.tree
   pub rest : (new.seen ≡ mid.seen) × (new.read ≡ mid.read) × (new.heap ≡ mid.heap) × (new.collapser ≡ mid.collapser)
   pub same : IsSamePage mid new
 
@@ -651,13 +686,13 @@ module _ (i : Indexed) (old : Search) (h w : ℕ) (head : Some h ≡ first_id (l
       let looked = looked_at i old find query stands h w (sym head) weight higher mid (omega (arith, enough, cut)) sees in
       gone_on i old find query stands h w (sym head) weight higher mid new looked.0 looked.1 same.page same.tree same.need passes.sorted passes.over
       (passes.built query find.options.scheme (subst (λ t. Built t i query find.options.scheme) (sym same.tree) stands.built))
-      passes.need passes.asked passes.stops passes.rare passes.rest.0 passes.rest.1 passes.rest.2 passes.rest.3 passes.same
+      passes.need passes.asked passes.stops passes.rare passes.decays passes.rest.0 passes.rest.1 passes.rest.2 passes.rest.3 passes.same
 
   pub turned_light : (new : Search) → w < old.options.cutoff → Passes i h old new → Stands new i find query
   turned_light new light passes =
       let cut : old.options.cutoff ≡ find.options.cutoff = ap (λ (o : Options). o.cutoff) stands.options in
       gone_on i old find query stands h w (sym head) weight higher old new stands.saw (passed_by i old find query stands h w (sym head) weight higher (omega (arith, light, cut))) (same_page old) refl refl passes.sorted passes.over
-      (passes.built query find.options.scheme stands.built) passes.need passes.asked passes.stops passes.rare passes.rest.0 passes.rest.1 passes.rest.2 passes.rest.3 passes.same
+      (passes.built query find.options.scheme stands.built) passes.need passes.asked passes.stops passes.rare passes.decays passes.rest.0 passes.rest.1 passes.rest.2 passes.rest.3 passes.same
 
 -- a search that goes on is at no document behind the stop point
 pub head_early : (i : Indexed) (old : Search) (find : Find) (query : Query.Tree) (stands : Stands old i find query) (h w : ℕ) → Some h ≡ first_id (left i old.tree) → w ≡ Nodes.first_weight (left i old.tree)

@@ -1,10 +1,11 @@
 -- What a search has seen, and what it still has to see.
-use Rattle.std.specs.Prelude.{◌≡◌, ◌≤◌, ◌<◌, ℕ, ◌+◌, ◌||◌, ◌&&◌, ◌⊎◌, max, nat_le, nat_lt, Bool, true, List, [], length, filter, is_none, None, Some, if◌then◌else◌}
+use Rattle.std.specs.Prelude.{◌≡◌, ◌≤◌, ◌<◌, ℕ, ◌+◌, ◌||◌, ◌&&◌, ◌⊎◌, max, nat_le, nat_lt, Bool, true, List, [], ◌∷◌, length, filter, is_none, None, Some, if◌then◌else◌}
 use Rattle.std.specs.List.{AllByRecursion}
 use Rattle.sk_base.specs.declared.find.Find.{Find}
 use Rattle.sk_base.specs.declared.rank.Rank.{Rank}
 use Rattle.sk_base.specs.Numbers.{Docs}
 use Rattle.sk_sorted.specs.Entries.{first_id}
+use Rattle.sk_query.specs.declared.form.Form.TheVariants as Form
 use Rattle.sk_query.specs.Trees as Query
 use Rattle.sk_query.specs.Fits.{is_sound}
 use Rattle.sk_model.specs.Allowance.{key_readings, value_readings}
@@ -12,13 +13,14 @@ use Rattle.sk_model.specs.Bounds.{ceil, static_count}
 use Rattle.sk_model.specs.Covers.{CoversAt}
 use Rattle.sk_model.specs.Edits.{document_at, last_id}
 use Rattle.sk_model.specs.Matches.{key_for}
-use Rattle.sk_model.specs.Settled.{stop_point}
-use Rattle.sk_model.specs.Sharp.{is_plain, flat_lists, ups, rare_lists, rare_readings}
+use Rattle.sk_model.specs.Settled.{stop_point, decay_point}
+use Rattle.sk_model.specs.Sharp.{is_plain, flat_lists, ups, rare_lists, rare_readings, terms_in, decay_readings}
 use Rattle.sk_index.specs.Indexed.{Indexed}
 use Rattle.sk_nodes.specs.Built.{gives, left, Built}
 use Rattle.sk_seen.specs.Walks.{Walk}
 use Rattle.sk_nodes.specs.Stops.{Stops, MayMove}
 use Rattle.sk_nodes.specs.Rare.{Rare}
+use Rattle.sk_nodes.specs.Decays.{Decays, MayFall}
 use Rattle.sk_nodes.specs.declared.tree.Tree.{Tree}
 use Rattle.sk_heap.specs.declared.hit.Hit.{Hit}
 use Rattle.sk_seen.specs.Pages.{Offers, Pages}
@@ -43,12 +45,20 @@ is_done index search = is_none (first_id (ahead index search)) || is_settled sea
 abbrev pub spent_by : Search → ℕ
 spent_by search = search.tree.spent + search.read
 
--- What a search of this find and query may read: before the point at which a page by relevance is settled it asks its tree for little, of terms alone its tree stops there, and where one of its lists leads it reads the others with it.
+-- The second of two terms fades behind the point at which it cannot bring a document into the page by itself.
+abbrev pub DecaysBehind : Indexed → Find → Query.Tree → Tree → List ℕ → List ℕ → Type 0
+DecaysBehind index find query tree a b =
+    Decays index tree (decay_point query (Query.term b) find index.live.documents) (ceil (Query.term b) find.options.scheme 1 index.live.documents)
+    (decay_readings a b (decay_point query (Query.term b) find index.live.documents) index.live.documents 0)
+
+-- What a search of this find and query may read: before the point at which a page by relevance is settled it asks its tree for little, of terms alone its tree stops there, where one of its lists leads it reads the others with it, and of two terms either may fade.
 pub record Accounts (index : Indexed) (find : Find) (query : Query.Tree) (last need : ℕ) (tree : Tree) : Type 0 where
   pub calm : is_plain find ≡ true → IsCalm query find index.live.documents (stop_point query find index.live.documents) last need
   pub stops : is_plain find ≡ true → (lists : List (List ℕ)) → flat_lists query index.live.documents ≡ Some lists
       → Stops index tree (stop_point query find index.live.documents) (ups lists (stop_point query find index.live.documents) index.live.documents)
   pub rare : (lists : List (List ℕ)) (m : ℕ) → rare_lists query index.live.documents ≡ Some (lists, m) → Rare index tree (rare_readings lists m index.live.documents)
+  pub decays : is_plain find ≡ true → (ts : Query.Trees) (a b : List ℕ) → query ≡ Query.parts Form.Or ts → terms_in ts ≡ Some (a ∷ b ∷ [])
+      → DecaysBehind index find query tree a b × DecaysBehind index find query tree b a
 
 -- A search is one of this find and query on this index: its tree is the query's; it saw some of the matches, and is sure of what it passed over; it holds the page of them.
 pub record Stands (search : Search) (index : Indexed) (find : Find) (query : Query.Tree) : Type 0 where
@@ -105,6 +115,10 @@ PassesOver index id old new need =
 -- A tree that went past a document goes on to stop at a point: where it may go so far under the need, and at the last id.
 abbrev pub KeepsStops : Indexed → ℕ → ℕ → Tree → Tree → Type 0
 KeepsStops index id need old new = (point most : ℕ) → Stops index old point most → (id ≡ last_id) ⊎ MayMove point (id + 1) need old.top.greatest (gives index old point) → Stops index new point most
+
+-- A tree of two terms that went past a document goes on to read no more: the fading one was asked for up to the point alone, or nothing of it is enough.
+abbrev pub KeepsDecays : Indexed → ℕ → ℕ → Tree → Tree → Type 0
+KeepsDecays index id need old new = (point greatest most : ℕ) → Decays index old point greatest most → (id ≡ last_id) ⊎ MayFall point greatest (id + 1) need old.top.greatest → Decays index new point greatest most
 
 -- A search asked its tree for the need of its page, with what it saw, and for no less than before; or nothing is ahead.
 abbrev pub Asks : Indexed → Search → Search → Type 0

@@ -22,7 +22,7 @@ ghost use Rattle.sk_base.specs.declared.rank.Rank as RankView;
 ghost use Rattle.sk_seen.specs.Pages.{CollapsesBy};
 ghost use Rattle.sk_seen.specs.Needs.{is_settled, need_for, wanted_by};
 ghost use Rattle.sk_match.specs.Hits.{kept_of};
-ghost use Rattle.sk_match.specs.Searches.{IsOn, Stands, Asks, Sees, IsSameBut, IsSamePage, KeepsStops, PassesOver, ahead, ahead_to, is_done, is_whole, spent_by};
+ghost use Rattle.sk_match.specs.Searches.{IsOn, Stands, Asks, Sees, IsSameBut, IsSamePage, KeepsStops, KeepsDecays, PassesOver, ahead, ahead_to, is_done, is_whole, spent_by};
 ghost use Rattle.sk_match.specs.declared.turns.Turn.TheVariants as Turn;
 
 use crate::offer::{key_of, show, value_of};
@@ -228,6 +228,7 @@ impl Search {
         ensures need { self.new.need ≡ self.new.tree.need }
         ensures stops { KeepsStops index.now id self.new.need self.old.tree self.new.tree }
         ensures rare { (most : ℕ) → Rare index.now self.old.tree most → Rare index.now self.new.tree most }
+        ensures decays { KeepsDecays index.now id self.new.need self.old.tree self.new.tree }
         ensures asked { ((self.new.need ≡ self.old.need) × (id ≡ last_id) × (left index.now self.new.tree ≡ [])) ⊎ (self.new.need ≡ max self.old.need (need_for self.old.options self.old.seen self.old.heap self.old.tree.top.greatest)) }
         ensures rest { (self.new.seen ≡ self.old.seen) × (self.new.read ≡ self.old.read) × (self.new.heap ≡ self.old.heap) × (self.new.collapser ≡ self.old.collapser) }
         ensures same { IsSamePage self.old self.new }

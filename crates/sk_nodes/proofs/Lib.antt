@@ -15,3 +15,6 @@ pub mod NestLaws
 pub mod RareLaws
 pub mod WalkLaws
 pub mod LedLaws
+pub mod FadeNumbers
+pub mod OpenedFadingLaws
+pub mod FadingLaws

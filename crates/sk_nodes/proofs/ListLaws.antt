@@ -1,16 +1,13 @@
 -- What the list of a leaf says of a document.
-use Rattle.std.proofs.Common.{◌≡◌, ◌≢◌, ◌≤◌, ◌<◌, ◌+◌, ◌*◌, ◌^◌, ℕ, zero, suc, max, nat_lt, cond, Bool, true, false, List, [], ◌∷◌, length, map, count_by, Option, None, Some, unwrap_or, if◌then◌else◌, inl, inr, refl, sym, subst, ap, ◌∙◌, arith, le_refl, ◌||◌}
-use mathlib.Core.Bool.{true≢false}
+use Rattle.std.proofs.Common.{◌≡◌, ◌≢◌, ◌≤◌, ◌*◌, ◌^◌, ℕ, suc, nat_lt, Bool, true, false, List, [], ◌∷◌, length, Option, None, Some, unwrap_or, if◌then◌else◌, inl, inr, refl, sym, subst, ap, ◌∙◌, arith, le_refl, ◌||◌}
 use Rattle.std.specs.List.{cons_option}
 use Rattle.std.specs.Option.{option_map}
 use Rattle.std.proofs.lemmas.Bool.{cases_eq}
 use Rattle.std.proofs.lemmas.Bool.Decides.{nat_tests}
-use Rattle.std.proofs.lemmas.List.Sums.{sum_by-cons}
 use Rattle.std.proofs.Math.Nat.{mul-le-mul_right}
 use Rattle.sk_base.specs.declared.find.Scheme.{Scheme}
-use Rattle.sk_base.specs.declared.doc_entry.DocTerm.{DocTerm}
 use Rattle.sk_base.specs.Documents.{has_term, wdf_of}
-use Rattle.sk_base.specs.Numbers.{Docs, length_of, greatest_of, some_has}
+use Rattle.sk_base.specs.Numbers.{Docs, some_has}
 use Rattle.sk_sorted.specs.Entries.{RiseAbove, LieBelow, AreSorted, found}
 use Rattle.sk_sorted.proofs.EntryLaws.{found-here, found-other, found-below}
 use Rattle.sk_chunks.specs.Postings.{Postings, greatest_wdf}

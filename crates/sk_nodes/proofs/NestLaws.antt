@@ -1,10 +1,8 @@
 -- How nests over terms are opened.
-use Rattle.std.proofs.Common.{◌≡◌, ◌≤◌, ◌<◌, ◌+◌, ◌-◌, ◌⊎◌, ◌++◌, ◌&&◌, ◌||◌, ℕ, min, nat_le, nat_lt, cond, if◌then◌else◌, Bool, true, false, not, List, [], ◌∷◌, length, map, sum_by, slice_index_or, count_by, bytes_eq, is_some, Option, None, Some, inl, inr, refl, sym, subst, ap, ◌∙◌, arith}
+use Rattle.std.proofs.Common.{◌≡◌, ◌≤◌, ◌<◌, ◌+◌, ◌-◌, ◌⊎◌, ◌++◌, ◌&&◌, ◌||◌, ℕ, min, cond, if◌then◌else◌, Bool, true, false, not, List, [], ◌∷◌, length, map, sum_by, slice_index_or, bytes_eq, is_some, Option, None, Some, inl, inr, refl, sym, subst, ap, ◌∙◌, arith}
 use Rattle.std.specs.Option.{option_map}
 use Rattle.std.specs.List.{list_any, cons_option, AllByRecursion}
-use Rattle.std.specs.Cmp.Lexicographic.{bytes_decides}
 use Rattle.std.proofs.lemmas.Bool.{cases_lt}
-use Rattle.std.proofs.lemmas.Bool.Decides.{nat_tests}
 use Rattle.std.proofs.lemmas.List.Elements.{recursion_from_All}
 use Rattle.std.proofs.lemmas.List.Sums.{sum_by-cons}
 use mathlib.Core.Bool.{true≢false}
@@ -15,7 +13,6 @@ use Rattle.sk_query.specs.declared.form.Form.{Form}
 use Rattle.sk_query.specs.Trees as Trees
 use Rattle.sk_model.specs.Sharp.{up, ups, terms_in, flat_lists}
 use Rattle.sk_dict.specs.Terms.{term_at, number_of}
-use Rattle.sk_model.specs.Documents.{Document}
 use Rattle.sk_model.proofs.HeldLaws.{is_in, member, without, taken, still}
 use Rattle.sk_query.specs.Fits.{are_different}
 use Rattle.sk_index.specs.Indexed.{Indexed, postings, AreAllWith}

@@ -20,7 +20,7 @@ use Rattle.sk_nodes.specs.declared.proximity.Proximity.{Proximity}
 use Rattle.sk_nodes.specs.Shapes.{Shape, ended, pair, odd, tested, shape_of, size_of, sides_on}
 use Rattle.sk_nodes.specs.Decayed.{changed_pair, decayed}
 use Rattle.sk_nodes.specs.Left.{rest, from_on, unread_of}
-use Rattle.sk_nodes.specs.Sound.{IsTop, IsPair, Sound, Decays}
+use Rattle.sk_nodes.specs.Sound.{IsTop, IsPair, Sound, Replaces}
 use Rattle.sk_nodes.proofs.LeafLaws.{from_on-at, from_on-below, from_cases, covers_none}
 
 -- ---- the shapes of nodes
@@ -261,7 +261,7 @@ goes_on_covers target need next f g covers below = λ id.
 
 -- ---- what is put in a node's place
 
-pub decays_itself : (i : Indexed) (need : ℕ) (s : Shape) → Sound i s → Decays i need s s
+pub decays_itself : (i : Indexed) (need : ℕ) (s : Shape) → Sound i s → Replaces i need s s
 decays_itself i need s sound = record {
   sound = sound;
   covers = λ id. covers_itself (rest i s id) need;
@@ -272,7 +272,7 @@ decays_itself i need s sound = record {
 -- nothing, where the rule says so
 pub decays_ended : (i : Indexed) (need : ℕ) (form : Form) (ta : Top) (a : Shape) (tb : Top) (b : Shape) (a_ended b_ended : Bool) → (a_ended ≡ true → ta.head ≡ 2 ^ 32) → (b_ended ≡ true → tb.head ≡ 2 ^ 32)
     → Sound i (pair form ta a tb b) → ((v w : Option ℕ) → IsSide ta.greatest a_ended v → IsSide tb.greatest b_ended w → CoversAt (paired form v w) None need)
-    → Decays i need (pair form ta a tb b) ended
+    → Replaces i need (pair form ta a tb b) ended
 decays_ended i need form ta a tb b a_ended b_ended first second sound covers = record {
   sound = tt;
   covers = λ id. covers (rest i a id) (rest i b id) (IsTop-side i ta a a_ended first sound.first id) (IsTop-side i tb b b_ended second sound.second id);
@@ -304,7 +304,7 @@ odd_written v w ts ns e f = shape_of-Odd (with_items v ts) (with_items w ns) ∙
 -- a side alone, and the sides under another form
 pub decays_first : (i : Indexed) (need : ℕ) (form : Form) (ta : Top) (a : Shape) (tb : Top) (b : Shape) (a_ended b_ended : Bool) → (a_ended ≡ true → ta.head ≡ 2 ^ 32) → (b_ended ≡ true → tb.head ≡ 2 ^ 32)
     → Sound i (pair form ta a tb b) → ((v w : Option ℕ) → IsSide ta.greatest a_ended v → IsSide tb.greatest b_ended w → CoversAt (paired form v w) v need)
-    → Decays i need (pair form ta a tb b) a
+    → Replaces i need (pair form ta a tb b) a
 decays_first i need form ta a tb b a_ended b_ended first second sound covers = record {
   sound = sound.first_sound;
   covers = λ id. covers (rest i a id) (rest i b id) (IsTop-side i ta a a_ended first sound.first id) (IsTop-side i tb b b_ended second sound.second id);
@@ -314,7 +314,7 @@ decays_first i need form ta a tb b a_ended b_ended first second sound covers = r
 
 pub decays_second : (i : Indexed) (need : ℕ) (form : Form) (ta : Top) (a : Shape) (tb : Top) (b : Shape) (a_ended b_ended : Bool) → (a_ended ≡ true → ta.head ≡ 2 ^ 32) → (b_ended ≡ true → tb.head ≡ 2 ^ 32)
     → Sound i (pair form ta a tb b) → ((v w : Option ℕ) → IsSide ta.greatest a_ended v → IsSide tb.greatest b_ended w → CoversAt (paired form v w) w need)
-    → Decays i need (pair form ta a tb b) b
+    → Replaces i need (pair form ta a tb b) b
 decays_second i need form ta a tb b a_ended b_ended first second sound covers = record {
   sound = sound.second_sound;
   covers = λ id. covers (rest i a id) (rest i b id) (IsTop-side i ta a a_ended first sound.first id) (IsTop-side i tb b b_ended second sound.second id);
@@ -324,7 +324,7 @@ decays_second i need form ta a tb b a_ended b_ended first second sound covers = 
 
 pub decays_under : (i : Indexed) (need : ℕ) (form other : Form) (ta : Top) (a : Shape) (tb : Top) (b : Shape) (a_ended b_ended : Bool) → (a_ended ≡ true → ta.head ≡ 2 ^ 32) → (b_ended ≡ true → tb.head ≡ 2 ^ 32)
     → Sound i (pair form ta a tb b) → ((v w : Option ℕ) → IsSide ta.greatest a_ended v → IsSide tb.greatest b_ended w → CoversAt (paired form v w) (paired other v w) need)
-    → Decays i need (pair form ta a tb b) (pair other ta a tb b)
+    → Replaces i need (pair form ta a tb b) (pair other ta a tb b)
 decays_under i need form other ta a tb b a_ended b_ended first second sound covers = record {
   sound = record { first = sound.first; second = sound.second; first_sound = sound.first_sound; second_sound = sound.second_sound; fits = sound.fits };
   covers = λ id. covers (rest i a id) (rest i b id) (IsTop-side i ta a a_ended first sound.first id) (IsTop-side i tb b b_ended second sound.second id);
@@ -334,7 +334,7 @@ decays_under i need form other ta a tb b a_ended b_ended first second sound cove
 
 pub decays_swapped : (i : Indexed) (need : ℕ) (form other : Form) (ta : Top) (a : Shape) (tb : Top) (b : Shape) (a_ended b_ended : Bool) → (a_ended ≡ true → ta.head ≡ 2 ^ 32) → (b_ended ≡ true → tb.head ≡ 2 ^ 32)
     → Sound i (pair form ta a tb b) → ((v w : Option ℕ) → IsSide ta.greatest a_ended v → IsSide tb.greatest b_ended w → CoversAt (paired form v w) (paired other w v) need)
-    → Decays i need (pair form ta a tb b) (pair other tb b ta a)
+    → Replaces i need (pair form ta a tb b) (pair other tb b ta a)
 decays_swapped i need form other ta a tb b a_ended b_ended first second sound covers = record {
   sound = record { first = sound.second; second = sound.first; first_sound = sound.second_sound; second_sound = sound.first_sound; fits = omega (arith, sound.fits) };
   covers = λ id. covers (rest i a id) (rest i b id) (IsTop-side i ta a a_ended first sound.first id) (IsTop-side i tb b b_ended second sound.second id);
@@ -369,8 +369,8 @@ sides_more i form target need from further ta0 a0 tb0 b0 ta a tb b ua c ub d far
   second_smaller = omega (arith, sb, far.second_smaller);
 }
 
-pub decays_along : (i : Indexed) (need : ℕ) (old new s t : Shape) → old ≡ s → new ≡ t → Decays i need s t → Decays i need old new
-decays_along i need old new s t e f h = subst (λ (o : Shape). Decays i need o new) (sym e) (subst (λ (n : Shape). Decays i need s n) (sym f) h)
+pub decays_along : (i : Indexed) (need : ℕ) (old new s t : Shape) → old ≡ s → new ≡ t → Replaces i need s t → Replaces i need old new
+decays_along i need old new s t e f h = subst (λ (o : Shape). Replaces i need o new) (sym e) (subst (λ (n : Shape). Replaces i need s n) (sym f) h)
 
 -- two sides are changed as the table says
 pub stands_along : (need : ℕ) (old new : Shape) (change : Change) (form : Form) (ta : Top) (a : Shape) (tb : Top) (b : Shape) → old ≡ pair form ta a tb b

@@ -291,7 +291,7 @@ changed_room i point Change.Both form ta a tb b = omega arith
 changed_room i point Change.Not form ta a tb b = omega arith
 changed_room i point Change.NotSwap form ta a tb b = omega arith
 
-if_so : (P : Change → Type 0) (test : Bool) (x y : Change) → (test ≡ true → P x) → (test ≡ false → P y) → P (if test then x else y)
+pub if_so : (P : Change → Type 0) (test : Bool) (x y : Change) → (test ≡ true → P x) → (test ≡ false → P y) → P (if test then x else y)
 if_so P true x y h g = h refl
 if_so P false x y h g = g refl
 

@@ -1,12 +1,19 @@
 -- Nodes in which one list leads: what the lists that follow may still read.
-use Rattle.std.specs.Prelude.{◌≡◌, ◌≤◌, ◌<◌, ◌+◌, ◌*◌, ◌^◌, ◌⊎◌, ◌&&◌, ℕ, min, nat_lt, if◌then◌else◌}
+use Rattle.std.specs.Prelude.{◌≡◌, ◌≤◌, ◌<◌, ◌+◌, ◌*◌, ◌^◌, ◌⊎◌, ◌&&◌, ℕ, min, nat_lt, [], ◌∷◌, if◌then◌else◌}
 use Rattle.sk_query.specs.declared.form.Form.{Form}
+use Rattle.sk_chunks.specs.Postings.{Postings}
+use Rattle.sk_lists.specs.Seeks.{count_to}
 use Rattle.sk_index.specs.Indexed.{Indexed}
 use Rattle.sk_nodes.specs.declared.top.Top.{Top}
 use Rattle.sk_nodes.specs.declared.leaf.Leaf.{Leaf}
 use Rattle.sk_nodes.specs.Leaves.{entries_of, head_of, leaf_unread}
 use Rattle.sk_nodes.specs.Shapes.{Shape, ended, leaf, span, pair, odd, tested}
 use Rattle.sk_nodes.specs.Flat.{IsNest}
+
+-- How many entries have ids behind a point.
+abbrev pub count_behind : ℕ → Postings → ℕ
+count_behind point [] = 0
+count_behind point (p ∷ ps) = (if nat_lt point p.0 then 1 else 0) + count_behind point ps
 
 -- A leaf, or nothing.
 abbrev pub IsLone : Shape → Type 0
@@ -107,3 +114,6 @@ pub record Walks (i : Indexed) (target : ℕ) (before after : ℕ) (old new : Le
   pub still : target ≤ head_of (entries_of i old) → (after ≡ before) × (head_of (entries_of i new) ≡ head_of (entries_of i old))
   pub reached : target ≤ head_of (entries_of i new)
   pub advances : Advances (head_of (entries_of i old)) (leaf_unread i old) (head_of (entries_of i new)) (leaf_unread i new)
+  pub to : (point : ℕ) → count_to point (entries_of i new) ≤ count_to point (entries_of i old)
+  pub behind : (point : ℕ) → count_behind point (entries_of i new) ≤ count_behind point (entries_of i old)
+  pub passed : (point : ℕ) → point < head_of (entries_of i old) → head_of (entries_of i old) < target → 1 + count_behind point (entries_of i new) ≤ count_behind point (entries_of i old)

@@ -63,7 +63,7 @@ abbrev mutual
   AreSound i (side t s ss) = IsFirst i t s (Sound i s) (AreSound i ss)
 
 -- A node was put in the place of another, and covers what that gave.
-pub record Decays (i : Indexed) (need : ℕ) (old new : Shape) : Type 0 where
+pub record Replaces (i : Indexed) (need : ℕ) (old new : Shape) : Type 0 where
   pub sound : Sound i new
   pub covers : Covers (rest i old) (rest i new) need
   pub smaller : size_of new ≤ size_of old

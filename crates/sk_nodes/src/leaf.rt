@@ -10,6 +10,7 @@ ghost use Rattle.sk_nodes.specs.Left.{from_on};
 ghost use Rattle.sk_nodes.specs.Shapes.{leaf};
 ghost use Rattle.sk_nodes.specs.Led.{Walks};
 ghost use Rattle.sk_nodes.specs.OpenedLed.{OpensLone};
+ghost use Rattle.sk_nodes.specs.OpenedFading.{Begins};
 
 use crate::top::{END, Top};
 use sk_base::Scheme;
@@ -54,6 +55,7 @@ impl Leaf {
         ensures gives { (id : ℕ) → leaf_rest index.now result id ≡ weighed factor scheme (list_in index.now number) id }
         ensures ceiling { top.new.greatest ≤ leaf_greatest factor scheme (list_in index.now number) }
         ensures lone { OpensLone index.now top.new (leaf result) (length (list_in index.now number)) spent.old spent.new }
+        ensures begun { Begins index.now top.new (leaf result) (list_in index.now number) (leaf_greatest factor scheme (list_in index.now number)) }
         ensures begins { (point : ℕ) → spent.new + count_to point (entries_of index.now result) ≤ spent.old + (min 1 (length (list_in index.now number)) + count_to point (list_in index.now number)) }
         ensures paid { spent.new + leaf_unread index.now result ≤ spent.old + length (list_in index.now number) }
         ensures counted { steps.new + spent.old ≡ steps.old + spent.new }
@@ -96,6 +98,7 @@ impl Leaf {
         ensures at { top.new.head ≡ head_of (entries_of index.now self.new) }
         ensures walks { Walks index.now target spent.old spent.new self.old self.new }
         ensures falls { top.new.greatest ≤ self.old.greatest }
+        ensures own { self.new.greatest ≡ self.old.greatest }
         ensures moves { (point : ℕ) → target ≤ point + 1 → spent.new + count_to point (entries_of index.now self.new) ≤ spent.old + count_to point (entries_of index.now self.old) }
         ensures paid { spent.new + leaf_unread index.now self.new ≤ spent.old + leaf_unread index.now self.old }
         ensures counted { steps.new + spent.old ≡ steps.old + spent.new }

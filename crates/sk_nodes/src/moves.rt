@@ -6,7 +6,8 @@ ghost use Rattle.sk_nodes.specs.Shapes.{pair, odd, tested, shape_of, size_of, si
 ghost use Rattle.sk_nodes.specs.Left.{rest, from_on, unread_of, unread_in, greatest_sum};
 ghost use Rattle.sk_nodes.specs.Sound.{IsTop, IsPair, IsOdd, IsTested, Sound, AreSound};
 ghost use Rattle.sk_nodes.specs.Flat.{Stays};
-ghost use Rattle.sk_nodes.specs.Led.{IsLed, IsAtLead, Leads};
+ghost use Rattle.sk_nodes.specs.Led.{IsLone, IsLed, IsAtLead, Leads};
+ghost use Rattle.sk_nodes.specs.Fading.{StandsOn, Moves, Fades, FadesUnder};
 ghost use Rattle.sk_nodes.specs.Odd.{AreSought, AreFrom};
 ghost use Rattle.sk_nodes.specs.Proximity.{entries_from};
 
@@ -48,6 +49,8 @@ pub(crate) fn reach<L: Ledger>(
     ensures stays { Stays index.now target need spent.old spent.new (shape_of node.old) (shape_of node.new) }
     ensures leads { Leads index.now target need spent.old spent.new (shape_of node.old) (shape_of node.new) }
     ensures at { IsLed index.now (shape_of node.old) → IsAtLead index.now top.old (shape_of node.old) → IsAtLead index.now top.new (shape_of node.new) }
+    ensures moves { StandsOn index.now top.old (shape_of node.old) → Moves index.now target spent.old spent.new (shape_of node.old) top.new (shape_of node.new) }
+    ensures fades { FadesUnder index.now target need spent.old spent.new (shape_of node.old) (shape_of node.new) }
 {
     if target <= top.head {
         return;
@@ -89,6 +92,8 @@ fn seek<L: Ledger>(
     ensures stays { Stays index.now target need spent.old spent.new (shape_of node.old) (shape_of node.new) }
     ensures leads { Leads index.now target need spent.old spent.new (shape_of node.old) (shape_of node.new) }
     ensures at { IsLed index.now (shape_of node.old) → IsAtLead index.now top.new (shape_of node.new) }
+    ensures moves { IsLone (shape_of node.old) → Moves index.now target spent.old spent.new (shape_of node.old) top.new (shape_of node.new) }
+    ensures fades { Fades index.now target spent.old spent.new (shape_of node.old) (shape_of node.new) }
 {
     match node {
         Node::Leaf(leaf) => leaf.seek(top, index, target, need, spent, steps),
@@ -121,6 +126,8 @@ fn seek_inner<L: Ledger>(
     ensures stays { Stays index.now target need spent.old spent.new (shape_of node.old) (shape_of node.new) }
     ensures leads { Leads index.now target need spent.old spent.new (shape_of node.old) (shape_of node.new) }
     ensures at { IsLed index.now (shape_of node.old) → IsAtLead index.now top.new (shape_of node.new) }
+    ensures moves { IsLone (shape_of node.old) → Moves index.now target spent.old spent.new (shape_of node.old) top.new (shape_of node.new) }
+    ensures fades { Fades index.now target spent.old spent.new (shape_of node.old) (shape_of node.new) }
 {
     match node {
         Node::Nothing => *top = Top::ended(),
@@ -167,6 +174,7 @@ pub(crate) fn seek_pair<L: Ledger>(
     ensures stays { Stays index.now target need spent.old spent.new (pair form ta.old (shape_of a.old) tb.old (shape_of b.old)) (pair form ta.new (shape_of a.new) tb.new (shape_of b.new)) }
     ensures leads { Leads index.now target need spent.old spent.new (pair form ta.old (shape_of a.old) tb.old (shape_of b.old)) (pair form ta.new (shape_of a.new) tb.new (shape_of b.new)) }
     ensures at { IsLed index.now (pair form ta.old (shape_of a.old) tb.old (shape_of b.old)) → IsAtLead index.now top.new (pair form ta.new (shape_of a.new) tb.new (shape_of b.new)) }
+    ensures fades { Fades index.now target spent.old spent.new (pair form ta.old (shape_of a.old) tb.old (shape_of b.old)) (pair form ta.new (shape_of a.new) tb.new (shape_of b.new)) }
 {
     let mut from = target;
     'sides: loop {

@@ -2,7 +2,7 @@
 ghost use Rattle.std.specs.Prelude.{◌≡◌, true};
 ghost use Rattle.sk_nodes.specs.Shapes.{shape_of};
 ghost use Rattle.sk_nodes.specs.Decayed.{decayed};
-ghost use Rattle.sk_nodes.specs.Sound.{Sound, Decays};
+ghost use Rattle.sk_nodes.specs.Sound.{Sound, Replaces};
 
 use crate::leaf::Leaf;
 use crate::proximity::Proximity;
@@ -29,7 +29,7 @@ pub(crate) enum Node {
 #[inline(always)]
 pub(crate) fn settle(node: &mut Node, index: &Index, need: u64)
     requires { Sound index.now (shape_of node.old) }
-    ensures decays { Decays index.now need (shape_of node.old) (shape_of node.new) }
+    ensures decays { Replaces index.now need (shape_of node.old) (shape_of node.new) }
     ensures stands { shape_of node.new ≡ decayed need (shape_of node.old) }
 {
     if is_settled(node, need) {
@@ -58,7 +58,7 @@ fn is_settled(node: &Node, need: u64) -> bool
 #[inline(never)]
 fn decay(node: &mut Node, _index: &Index, need: u64)
     requires { Sound _index.now (shape_of node.old) }
-    ensures decays { Decays _index.now need (shape_of node.old) (shape_of node.new) }
+    ensures decays { Replaces _index.now need (shape_of node.old) (shape_of node.new) }
     ensures stands { shape_of node.new ≡ decayed need (shape_of node.old) }
 {
     match node {

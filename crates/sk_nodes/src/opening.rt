@@ -23,6 +23,8 @@ ghost use Rattle.sk_nodes.specs.Sound.{IsTop, IsOdd, IsTested, Sound, AreSound};
 ghost use Rattle.sk_nodes.specs.Flat.{room_to, IsNest, IsJoint, PairsNest, OpensNest, OpensFlat, SplitsTerms};
 ghost use Rattle.sk_nodes.specs.Led.{IsLed, IsAtLead, Leads};
 ghost use Rattle.sk_nodes.specs.OpenedLed.{first_length, last_length, CanLead, SplitsOff, IsOrdered, SplitsLed, OpensLone, OpensFollowing, OpensLed, OpensRare};
+ghost use Rattle.sk_nodes.specs.Fading.{Fades};
+ghost use Rattle.sk_nodes.specs.OpenedFading.{Begins, OpensAlone, OpensFading};
 ghost use Rattle.sk_nodes.specs.Odd.{followed_by};
 ghost use Rattle.sk_nodes.specs.Proximity.{standing_query, holds, entries_from};
 ghost use Rattle.sk_nodes.specs.Opened.{count_in, score_of, part_scores, is_nest, OpensSides, joint_score_of, others_of, query_size, parts_size, AreParts, Opens};
@@ -75,6 +77,8 @@ pub(crate) fn open_node<L: Ledger>(
     ensures alone { IfOk result (λ p. (t : List ℕ) (form : Form) → query_view query.now ≡ QueryTree.term t → OpensNest index.now form (shape_of p.1) (t ∷ []) spent.old spent.new) }
     ensures flat { IfOk result (λ p. (lists : List (List ℕ)) → flat_lists (query_view query.now) index.now.live.documents ≡ Some lists → OpensFlat index.now (shape_of p.1) lists spent.old spent.new) }
     ensures lone { IfOk result (λ p. (t : List ℕ) → query_view query.now ≡ QueryTree.term t → OpensLone index.now p.0 (shape_of p.1) (length_of t index.now.live.documents) spent.old spent.new) }
+    ensures begun { IfOk result (λ p. (t : List ℕ) → query_view query.now ≡ QueryTree.term t → OpensAlone index.now p.0 (shape_of p.1) t (term_ceil scheme factor t index.now.live.documents) spent.old spent.new) }
+    ensures fading { IfOk result (λ p. (ts : QueryTree.Trees) (x y : List ℕ) → query_view query.now ≡ QueryTree.parts Form.Or ts → terms_in ts ≡ Some (x ∷ y ∷ []) → OpensFading index.now scheme factor (shape_of p.1) x y spent.old spent.new) }
     ensures rare { IfOk result (λ p. (lists : List (List ℕ)) (m : ℕ) → rare_lists (query_view query.now) index.now.live.documents ≡ Some (lists, m) → OpensRare index.now p.0 (shape_of p.1) (rare_readings lists m index.now.live.documents) spent.old spent.new) }
 {
     if let Some((form, parts)) = parts_of(query, factor) {
@@ -271,6 +275,8 @@ fn open_parts<L: Ledger>(
     ensures nest { IfOk result (λ p. (lists : List (List ℕ)) → IsJoint form → terms_in (queries_view parts.now) ≡ Some lists → OpensNest index.now form (shape_of p.1) lists spent.old spent.new) }
     ensures led { IfOk result (λ p. (lists : List (List ℕ)) → CanLead form lists → terms_in (queries_view parts.now) ≡ Some lists → OpensLed index.now form p.0 (shape_of p.1) lists spent.old spent.new) }
     ensures follows { IfOk result (λ p. (lists : List (List ℕ)) → (form ≡ Form.Or) ⊎ (length lists ≡ 1) → terms_in (queries_view parts.now) ≡ Some lists → OpensFollowing index.now (shape_of p.1) lists spent.old spent.new) }
+    ensures begun { IfOk result (λ p. (t : List ℕ) → terms_in (queries_view parts.now) ≡ Some (t ∷ []) → OpensAlone index.now p.0 (shape_of p.1) t (term_ceil scheme factor t index.now.live.documents) spent.old spent.new) }
+    ensures fading { IfOk result (λ p. (x y : List ℕ) → form ≡ Form.Or → terms_in (queries_view parts.now) ≡ Some (x ∷ y ∷ []) → OpensFading index.now scheme factor (shape_of p.1) x y spent.old spent.new) }
 {
     if let Some(part) = only_part(form, parts, factor) {
         return open_node(alloc, index, part, scheme, factor, most, spent, steps);
@@ -619,6 +625,7 @@ fn open_term<L: Ledger>(
     ensures small { most.new < 2 ^ 128 }
     ensures nest { IfOk result (λ p. (form : Form) → OpensNest index.now form (shape_of p.1) (word.now ∷ []) spent.old spent.new) }
     ensures lone { IfOk result (λ p. OpensLone index.now p.0 (shape_of p.1) (length_of word.now index.now.live.documents) spent.old spent.new) }
+    ensures begun { IfOk result (λ p. OpensAlone index.now p.0 (shape_of p.1) word.now (term_ceil scheme factor word.now index.now.live.documents) spent.old spent.new) }
 {
     match index.number_of(word.as_str().as_bytes()) {
         None => Ok((Top::ended(), Node::Nothing)),
@@ -653,6 +660,7 @@ pub(crate) fn open_numbered<L: Ledger>(
     ensures small { most.new < 2 ^ 128 }
     ensures nest { IfOk result (λ p. (form : Form) → OpensNest index.now form (shape_of p.1) (term_at index.now.terms number ∷ []) spent.old spent.new) }
     ensures lone { IfOk result (λ p. OpensLone index.now p.0 (shape_of p.1) (length_of (term_at index.now.terms number) index.now.live.documents) spent.old spent.new) }
+    ensures begun { IfOk result (λ p. OpensAlone index.now p.0 (shape_of p.1) (term_at index.now.terms number) (term_ceil scheme factor (term_at index.now.terms number) index.now.live.documents) spent.old spent.new) }
 {
     let (top, node) = open_leaf(index, Some(number), scheme, factor, most, spent, steps)?;
     Ok((top, node))
@@ -686,6 +694,7 @@ fn open_leaf<L: Ledger>(
     ensures alone { IfOk result (λ p. (form : Form) → IsNest form (shape_of p.1)) }
     ensures begins { IfOk result (λ p. (point : ℕ) → spent.new + room_to index.now point (shape_of p.1) ≤ spent.old + (min 1 (length (list_in index.now number)) + count_to point (list_in index.now number))) }
     ensures lone { IfOk result (λ p. OpensLone index.now p.0 (shape_of p.1) (length (list_in index.now number)) spent.old spent.new) }
+    ensures begun { IfOk result (λ p. Begins index.now p.0 (shape_of p.1) (list_in index.now number) (leaf_greatest factor scheme (list_in index.now number))) }
 {
     let length = list_length(index, number);
     raise(most, length)?;
@@ -722,6 +731,7 @@ pub(crate) fn pair_of<L: Ledger>(
     ensures later { spent.old ≤ spent.new }
     ensures nest { IfOk result (λ p. IsJoint form → IsNest form (shape_of a) → IsNest form (shape_of b) → PairsNest index.now form (shape_of a) (shape_of b) (shape_of p.1) spent.old spent.new) }
     ensures leads { IfOk result (λ p. Leads index.now 0 0 spent.old spent.new (pair form ta (shape_of a) tb (shape_of b)) (shape_of p.1) × (IsLed index.now (pair form ta (shape_of a) tb (shape_of b)) → IsAtLead index.now p.0 (shape_of p.1))) }
+    ensures fades { IfOk result (λ p. Fades index.now 0 spent.old spent.new (pair form ta (shape_of a) tb (shape_of b)) (shape_of p.1)) }
 {
     let mut top = Top::ended();
     seek_pair(

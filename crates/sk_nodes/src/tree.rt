@@ -1,20 +1,22 @@
 //! The tree of a query, as a search sees it.
-ghost use Rattle.std.specs.Prelude.{◌≡◌, ◌≤◌, ◌<◌, ◌+◌, ◌^◌, ℕ, List, [], Some, unwrap_or, IfOk, true};
+ghost use Rattle.std.specs.Prelude.{◌≡◌, ◌≤◌, ◌<◌, ◌+◌, ◌^◌, ℕ, List, [], ◌∷◌, Some, unwrap_or, IfOk, true};
 ghost use Rattle.sk_base.specs.declared.find.Scheme.{Scheme};
 ghost use Rattle.sk_sorted.specs.Entries.{from, first_id};
+ghost use Rattle.sk_query.specs.declared.form.Form.TheVariants as Form;
 ghost use Rattle.sk_query.specs.Trees as QueryTree;
 ghost use Rattle.sk_query.specs.Trees.{query_view};
 ghost use Rattle.sk_query.specs.Fits.{fits_tree};
 ghost use Rattle.sk_model.specs.Covers.{Covers};
 ghost use Rattle.sk_model.specs.Bounds.{ceil};
 ghost use Rattle.sk_model.specs.Allowance.{leaf_readings};
-ghost use Rattle.sk_model.specs.Sharp.{flat_lists, ups, rare_lists, rare_readings};
+ghost use Rattle.sk_model.specs.Sharp.{flat_lists, ups, rare_lists, rare_readings, terms_in};
 ghost use Rattle.sk_index.specs.Indexed.{Indexed};
 ghost use Rattle.sk_nodes.specs.Left.{from_on};
 ghost use Rattle.sk_nodes.specs.Leaves.{AtMost};
 ghost use Rattle.sk_nodes.specs.Built.{gives, left, scored, first_weight, IsTree, Built};
 ghost use Rattle.sk_nodes.specs.Stops.{Stops, MayMove};
 ghost use Rattle.sk_nodes.specs.Rare.{Rare};
+ghost use Rattle.sk_nodes.specs.Decays.{Decays, MayFall, DecaysBoth};
 
 use crate::moves::reach;
 use crate::node::Node;
@@ -58,6 +60,9 @@ impl Tree {
         // Where a list leads, it reads the others with it.
         ensures rare { IfOk result (λ tree. (lists : List (List ℕ)) (m : ℕ) → rare_lists (query_view query.now) index.now.live.documents ≡ Some (lists, m) → Rare index.now tree (rare_readings lists m index.now.live.documents)) }
 
+        // Of an or of two terms either may fade.
+        ensures decays { IfOk result (λ tree. (ts : QueryTree.Trees) (a b : List ℕ) → query_view query.now ≡ QueryTree.parts Form.Or ts → terms_in ts ≡ Some (a ∷ b ∷ []) → (point : ℕ) → DecaysBoth index.now tree scheme point a b) }
+
         ensures cost { IfOk result (λ tree. steps.new ≡ steps.old + tree.spent) }
         ensures later { steps.old ≤ steps.new }
     {
@@ -97,6 +102,9 @@ impl Tree {
         // It goes on to stop at a point up to which it may go.
         ensures stops { (point most : ℕ) → Stops index.now self.old point most → MayMove point target need self.old.top.greatest (gives index.now self.old point) → Stops index.now self.new point most }
         ensures rare { (most : ℕ) → Rare index.now self.old most → Rare index.now self.new most }
+
+        // Of two lists of which one fades it reads no more than the account says, as long as that is not asked for behind the point.
+        ensures decays { (point greatest most : ℕ) → Decays index.now self.old point greatest most → MayFall point greatest target need self.old.top.greatest → Decays index.now self.new point greatest most }
 
         ensures cost { steps.new + self.old.spent ≡ steps.old + self.new.spent }
         ensures later { steps.old ≤ steps.new }
@@ -151,6 +159,7 @@ impl Tree {
         ensures within { (i : Indexed) (query : QueryTree.Tree) (scheme : Scheme) → Built self.now i query scheme → result ≤ leaf_readings query i.live.documents }
         ensures stops { (i : Indexed) (point most : ℕ) → Stops i self.now point most → result ≤ most }
         ensures rare { (i : Indexed) (most : ℕ) → Rare i self.now most → result ≤ most }
+        ensures decays { (i : Indexed) (point greatest most : ℕ) → Decays i self.now point greatest most → result ≤ most }
     {
         self.spent
     }
@@ -164,6 +173,7 @@ impl Tree {
         ensures need { self.new.need ≡ self.old.need }
         ensures stops { (i : Indexed) (point most : ℕ) → Stops i self.old point most → Stops i self.new point most }
         ensures rare { (i : Indexed) (most : ℕ) → Rare i self.old most → Rare i self.new most }
+        ensures decays { (i : Indexed) (point greatest most : ℕ) → Decays i self.old point greatest most → Decays i self.new point greatest most }
     {
         self.node = Node::Nothing;
         self.top = Top::ended();

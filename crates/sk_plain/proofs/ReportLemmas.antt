@@ -1,5 +1,5 @@
 -- The exact report is one that the find may have; and no more match, or are kept, than there are.
-use Rattle.std.proofs.Common.{◌≡◌, ◌<◌, ◌≤◌, ◌+◌, ◌/◌, ◌^◌, ℕ, true, nat_le, List, [], ◌∷◌, length, Option, Some, None, IfSome, refl, sym, subst, arith}
+use Rattle.std.proofs.Common.{◌≡◌, ◌<◌, ◌≤◌, ◌+◌, ◌/◌, ◌^◌, ℕ, true, nat_le, List, [], ◌∷◌, length, Option, Some, None, refl, sym, subst, arith, le_refl}
 use Rattle.std.specs.List.{cons_option}
 use Rattle.sk_base.specs.declared.find.Find.{Find}
 use Rattle.sk_base.specs.declared.find.Scheme.{Scheme}
@@ -10,21 +10,16 @@ use Rattle.sk_query.specs.Trees.{Tree}
 use Rattle.sk_query.specs.Fits.{is_sound}
 use Rattle.sk_model.specs.Matches.{rank_of, matches, found_by, key_of}
 use Rattle.sk_model.specs.Counts.{kept_by}
-use Rattle.sk_model.specs.Sharp.{stop_number, rare_number}
+use Rattle.sk_model.specs.Sharp.{sharp}
 use Rattle.sk_report.specs.Reports.{ReportsFor}
 use Rattle.sk_model.proofs.KeptLaws.{kept_few}
 use Rattle.sk_model.proofs.CountLaws.{within}
 use Rattle.sk_report.proofs.ReportLaws.{exact_is}
-use Rattle.sk_model.proofs.SettledLaws.{sharp_allowed, sharp_stop, sharp_rare, sharp_hits}
+use Rattle.sk_model.proofs.SettledLaws.{sharp_hits}
 use Rattle.sk_plain.specs.Pages.{hits_of, count_of, report_for}
 
 half : (n : ℕ) → n ≡ (n + n) / 2
 half n = omega arith
-
--- where there is a number, what is so of it
-each : {P : ℕ → Type 0} (o : Option ℕ) → ((n : ℕ) → o ≡ Some n → P n) → IfSome o P
-each None f = cc
-each (Some n) f = f n refl
 
 pub exact_reports : (query : Tree) (find : Find) (above : ℕ) (docs : Docs) → is_sound above query ≡ true → ReportsFor query find docs (report_for query find docs)
 exact_reports query find above docs e =
@@ -35,9 +30,7 @@ exact_reports query find above docs e =
       estimate = half (count_of query find docs);
       greatest = refl;
       least_steps = sharp_hits find docs (length (hits_of query find docs)) query;
-      most_steps = sharp_allowed query find docs (length (hits_of query find docs));
-      stop_steps = each (stop_number query find docs (length (hits_of query find docs))) (λ n is. sharp_stop query find docs (length (hits_of query find docs)) n is);
-      rare_steps = each (rare_number query find docs (length (found_by query find docs)) (length (hits_of query find docs))) (λ n is. sharp_rare query find docs (length (hits_of query find docs)) n is);
+      most_steps = le_refl (sharp query find docs (length (hits_of query find docs)));
     }
 
 step_few : (o : Option Rank) (xs : List Rank) (n : ℕ) → length xs ≤ n → length (cons_option o xs) ≤ n + 1

@@ -1,5 +1,5 @@
 -- There is a report that a find may have.
-use Rattle.std.proofs.Common.{◌≡◌, ◌≤◌, ◌+◌, ◌/◌, ℕ, Bool, true, false, cond, List, [], ◌∷◌, length, map, Option, Some, None, option_map, IfSome, refl, arith}
+use Rattle.std.proofs.Common.{◌≡◌, ◌≤◌, ◌+◌, ◌/◌, ℕ, true, List, [], ◌∷◌, length, map, Option, Some, None, IfSome, refl, arith}
 use Rattle.std.specs.List.{AllZip}
 use Rattle.sk_base.specs.declared.find.Find.{Find}
 use Rattle.sk_base.specs.declared.rank.Rank.{Rank}
@@ -12,29 +12,26 @@ use Rattle.sk_model.specs.Edits.{document_at}
 use Rattle.sk_model.specs.Matches.{found_by, key_of}
 use Rattle.sk_model.specs.Bounds.{ceil}
 use Rattle.sk_model.specs.Counts.{kept_by, dropped_by}
-use Rattle.sk_model.specs.Settled.{stop_point}
-use Rattle.sk_model.specs.Sharp.{is_plain, flat_lists, ups, stop_number, rare_lists, rare_readings, rare_number}
-use Rattle.sk_model.specs.Allowance.{extra}
+use Rattle.sk_model.specs.Sharp.{stop_number, rare_number, decay_number, at_most, sharp}
+use Rattle.sk_model.specs.Allowance.{allowance}
 use Rattle.sk_model.specs.Reports.{payload_of, page_of, IsHit}
 use Rattle.sk_report.specs.Reports.{ReportsFor}
 use Rattle.sk_model.proofs.CountLaws.{found_counts, true_collapse}
+use Rattle.sk_model.proofs.SettledLaws.{sharp_hits}
 
--- the hits are within the stop number
-pub stop_least : (query : Tree) (find : Find) (docs : Docs) (hits : ℕ) → IfSome (stop_number query find docs hits) (λ n. hits ≤ n)
-stop_least query find docs hits = by_plain (is_plain find) (flat_lists query docs)
-  where
-    by_plain : (b : Bool) (o : Option (List (List ℕ))) → IfSome (cond b (option_map (λ lists. ups lists (stop_point query find docs) docs + hits) o) None) (λ n. hits ≤ n)
-    by_plain true (Some lists) = omega arith
-    by_plain true None = cc
-    by_plain false o = cc
+least : (steps n : ℕ) (o : Option ℕ) → steps ≤ n → IfSome o (λ m. steps ≤ m) → steps ≤ at_most n o
+least steps n None one two = one
+least steps n (Some m) one two = omega (arith, one, two)
 
--- and within the rare number
-pub rare_least : (query : Tree) (find : Find) (docs : Docs) (matching hits : ℕ) → IfSome (rare_number query find docs matching hits) (λ n. hits ≤ n)
-rare_least query find docs matching hits = by_lists (rare_lists query docs)
-  where
-    by_lists : (o : Option (List (List ℕ) × ℕ)) → IfSome (option_map (λ p. rare_readings p.0 p.1 docs + extra find matching hits) o) (λ n. hits ≤ n)
-    by_lists (Some p) = omega arith
-    by_lists None = cc
+-- what is within each number is within the sharp bound
+pub within_sharp : (query : Tree) (find : Find) (docs : Docs) (hits steps : ℕ) → steps ≤ allowance query find docs (length (found_by query find docs)) hits
+    → IfSome (stop_number query find docs hits) (λ n. steps ≤ n) → IfSome (rare_number query find docs (length (found_by query find docs)) hits) (λ n. steps ≤ n) → IfSome (decay_number query find docs hits) (λ n. steps ≤ n)
+    → steps ≤ sharp query find docs hits
+within_sharp query find docs hits steps all stop rare decay =
+    let list = allowance query find docs (length (found_by query find docs)) hits in
+    let of_stop = stop_number query find docs hits in
+    let of_rare = rare_number query find docs (length (found_by query find docs)) hits in
+    least steps (at_most (at_most list of_stop) of_rare) (decay_number query find docs hits) (least steps (at_most list of_stop) of_rare (least steps list of_stop all stop) rare) decay
 
 module _ (query : Tree) (find : Find) (docs : Docs) where
   abbrev hit : Rank → Ranked
@@ -63,9 +60,7 @@ module _ (query : Tree) (find : Find) (docs : Docs) where
     estimate = refl;
     greatest = refl;
     least_steps = omega arith;
-    most_steps = omega arith;
-    stop_steps = stop_least query find docs (length exact.hits);
-    rare_steps = rare_least query find docs (length (found_by query find docs)) (length exact.hits);
+    most_steps = sharp_hits find docs (length exact.hits) query;
   }
 
 pub report_there : (query : Tree) (find : Find) (above : ℕ) (docs : Docs) → is_sound above query ≡ true → (report : Report) × ReportsFor query find docs report

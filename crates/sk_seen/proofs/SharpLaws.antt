@@ -1,15 +1,14 @@
 -- The steps of a search are within the sharper bounds, where what it read of lists is.
-use Rattle.std.proofs.Common.{◌≡◌, ◌≤◌, ◌+◌, ℕ, Bool, true, false, cond, ◌&&◌, List, length, is_none, Option, None, Some, option_map, IfSome, refl, sym, ap, ◌∙◌, subst, arith, true≢false}
+use Rattle.std.proofs.Common.{◌≡◌, ◌≤◌, ◌+◌, ℕ, Bool, true, false, cond, List, [], ◌∷◌, Option, None, Some, option_map, IfSome, refl, sym, ap, subst, arith, true≢false}
 use Rattle.sk_base.specs.declared.find.Collapse.{Collapse}
 use Rattle.sk_base.specs.declared.find.Find.{Find}
-use Rattle.sk_base.specs.declared.rank.Order.{Order}
 use Rattle.sk_base.specs.declared.rank.OrderBy.{OrderBy}
-use Rattle.sk_base.specs.declared.rank.OrderBy.TheVariants as OrderBy
 use Rattle.sk_base.specs.Numbers.{Docs}
-use Rattle.sk_query.specs.Trees.{Tree}
+use Rattle.sk_query.specs.declared.form.Form.{Form}
+use Rattle.sk_query.specs.Trees.{Tree, parts, Trees}
 use Rattle.sk_model.specs.Allowance.{key_readings, value_readings, extra}
 use Rattle.sk_model.specs.Settled.{stop_point}
-use Rattle.sk_model.specs.Sharp.{is_plain, flat_lists, ups, stop_number, rare_lists, rare_readings, rare_number}
+use Rattle.sk_model.specs.Sharp.{is_plain, flat_lists, ups, stop_number, rare_lists, rare_readings, rare_number, terms_in, of_two, decay_of, decay_number}
 use Rattle.sk_seen.specs.Told.{IsSpent}
 
 -- a plain find goes by relevance and does not collapse
@@ -53,3 +52,24 @@ within_rare query find docs spent matching hits steps within most = by_lists (ra
     by_lists : (o : Option (List (List ℕ) × ℕ)) → rare_lists query docs ≡ o → IfSome (option_map (λ p. rare_readings p.0 p.1 docs + extra find matching hits) o) (λ n. steps ≤ n)
     by_lists (Some p) f = let few = within.rare p.0 p.1 f in omega (arith, few, most)
     by_lists None f = cc
+
+pub within_decay : (query : Tree) (find : Find) (docs : Docs) (spent seen hits steps : ℕ) → IsSpent query find docs spent → steps ≤ spent + (key_readings find.collapse seen + value_readings find.order.by seen + hits)
+    → IfSome (decay_number query find docs hits) (λ n. steps ≤ n)
+within_decay query find docs spent seen hits steps within most = by_form query refl
+  where
+    by_lists : (ts : Trees) → query ≡ parts Form.Or ts → is_plain find ≡ true → (o : Option (List (List ℕ))) → terms_in ts ≡ o → IfSome (decay_of query find docs hits (of_two o)) (λ n. steps ≤ n)
+    by_lists ts is e (Some (a ∷ b ∷ [])) f =
+        let few = within.decay e ts a b is f in
+        omega (arith, few, most, plain_free find seen e)
+    by_lists ts is e None f = cc
+    by_lists ts is e (Some []) f = cc
+    by_lists ts is e (Some (a ∷ [])) f = cc
+    by_lists ts is e (Some (a ∷ b ∷ c ∷ more)) f = cc
+
+    by_plain : (ts : Trees) → query ≡ parts Form.Or ts → (p : Bool) → is_plain find ≡ p → IfSome (cond p (decay_of query find docs hits (of_two (terms_in ts))) None) (λ n. steps ≤ n)
+    by_plain ts is true e = by_lists ts is e (terms_in ts) refl
+    by_plain ts is false e = cc
+
+    by_form : (q : Tree) → query ≡ q → IfSome (decay_number q find docs hits) (λ n. steps ≤ n)
+    by_form (parts Form.Or ts) is = subst (λ (q : Tree). IfSome (cond (is_plain find) (decay_of q find docs hits (of_two (terms_in ts))) None) (λ n. steps ≤ n)) is (by_plain ts is (is_plain find) refl)
+    by_form _ is = cc

@@ -98,38 +98,30 @@ module _ (weight : ℕ) where
   at_later : (n m : ℕ) (x : Rank) (xs ys : List Rank) (last : ℕ) → (((n - 1) == 0) && (less_heavy weight m x == 0)) ≡ false → settled_from (n - 1) (less_heavy weight m x) weight (xs ++ ys) ≤ last → settled_from n m weight ((x ∷ xs) ++ ys) ≤ last
   at_later n m x xs ys last f low = subst (λ b. cond b x.id (settled_from (n - 1) (less_heavy weight m x) weight (xs ++ ys)) ≤ last) (sym f) low
 
-  split_step : (n m : ℕ) (x : Rank) (xs ys : List Rank) (h last : Bool) → nat_le weight x.weight ≡ h → (((n - 1) == 0) && (less_heavy weight m x == 0)) ≡ last
+  -- how many heavy ones are wanted behind it
+  heavy_left : (m : ℕ) (x : Rank) (xs : List Rank) → m - heavy weight (x ∷ xs) ≡ less_heavy weight m x - heavy weight xs
+  heavy_left m x xs = by (nat_le weight x.weight) refl
+    where
+      by : (h : Bool) → nat_le weight x.weight ≡ h → m - heavy weight (x ∷ xs) ≡ less_heavy weight m x - heavy weight xs
+      by true e = omega (arith, less_true m x e, heavy_more weight x xs true e)
+      by false e = omega (arith, less_false m x e, heavy_more weight x xs false e)
+
+  split_step : (n m : ℕ) (x : Rank) (xs ys : List Rank) (last : Bool) → (((n - 1) == 0) && (less_heavy weight m x == 0)) ≡ last
       → (1 ≤ (n - 1) + less_heavy weight m x → Within (n - 1) (less_heavy weight m x) xs ys ⊎ Beyond (n - 1) (less_heavy weight m x) xs ys)
       → Within n m (x ∷ xs) ys ⊎ Beyond n m (x ∷ xs) ys
-  split_step n m x xs ys true true e f rest =
+  split_step n m x xs ys true f rest =
       let none = both_zero (n - 1) (less_heavy weight m x) f in
-      inl (omega (arith, none.0), omega (arith, none.1, less_true m x e, heavy_more weight x xs true e), λ last low. at_first n m x xs ys last f low.0)
-  split_step n m x xs ys false true e f rest =
-      let none = both_zero (n - 1) (less_heavy weight m x) f in
-      inl (omega (arith, none.0), omega (arith, none.1, less_false m x e, heavy_more weight x xs false e), λ last low. at_first n m x xs ys last f low.0)
-  split_step n m x xs ys true false e f rest = onward (rest (some_left (n - 1) (less_heavy weight m x) f))
+      inl (omega (arith, none.0), omega (arith, none.1, heavy_left m x xs), λ last low. at_first n m x xs ys last f low.0)
+  split_step n m x xs ys false f rest = onward (rest (some_left (n - 1) (less_heavy weight m x) f))
     where
       onward : Within (n - 1) (less_heavy weight m x) xs ys ⊎ Beyond (n - 1) (less_heavy weight m x) xs ys → Within n m (x ∷ xs) ys ⊎ Beyond n m (x ∷ xs) ys
-      onward (inl w) = inl (omega (arith, w.0), omega (arith, w.1, less_true m x e, heavy_more weight x xs true e), λ last low. at_later n m x xs ys last f (w.2 last low.1))
+      onward (inl w) = inl (omega (arith, w.0), omega (arith, w.1, heavy_left m x xs), λ last low. at_later n m x xs ys last f (w.2 last low.1))
       onward (inr b) =
           inr (
             b.0,
             b.1,
             omega (arith, b.2),
-            omega (arith, b.3, less_true m x e, heavy_more weight x xs true e),
-            b.4,
-            ap (λ t. cond t x.id (settled_from (n - 1) (less_heavy weight m x) weight (xs ++ ys))) f ∙ b.5,
-          )
-  split_step n m x xs ys false false e f rest = onward (rest (some_left (n - 1) (less_heavy weight m x) f))
-    where
-      onward : Within (n - 1) (less_heavy weight m x) xs ys ⊎ Beyond (n - 1) (less_heavy weight m x) xs ys → Within n m (x ∷ xs) ys ⊎ Beyond n m (x ∷ xs) ys
-      onward (inl w) = inl (omega (arith, w.0), omega (arith, w.1, less_false m x e, heavy_more weight x xs false e), λ last low. at_later n m x xs ys last f (w.2 last low.1))
-      onward (inr b) =
-          inr (
-            b.0,
-            b.1,
-            omega (arith, b.2),
-            omega (arith, b.3, less_false m x e, heavy_more weight x xs false e),
+            omega (arith, b.3, heavy_left m x xs),
             b.4,
             ap (λ t. cond t x.id (settled_from (n - 1) (less_heavy weight m x) weight (xs ++ ys))) f ∙ b.5,
           )
@@ -137,7 +129,7 @@ module _ (weight : ℕ) where
   split_settled : (n m : ℕ) (xs ys : List Rank) → 1 ≤ n + m → Within n m xs ys ⊎ Beyond n m xs ys
   split_settled n m [] ys some = inr (n, m, omega arith, omega arith, some, refl)
   split_settled n m (x ∷ xs) ys some =
-      split_step n m x xs ys (nat_le weight x.weight) (((n - 1) == 0) && (less_heavy weight m x == 0)) refl refl (split_settled (n - 1) (less_heavy weight m x) xs ys)
+      split_step n m x xs ys (((n - 1) == 0) && (less_heavy weight m x == 0)) refl (split_settled (n - 1) (less_heavy weight m x) xs ys)
 
   -- one of the matches is so
   abbrev AnyOf : (Rank → Type 0) → List Rank → Type 0

@@ -30,7 +30,8 @@ use Rattle.sk_seen.specs.Walks.{page_end, held_by, IsFull, Ended}
 use Rattle.sk_seen.specs.Told.{TellsHit, IsUpper, Tells}
 use Rattle.sk_seen.proofs.ShownLaws.{Beside, shown_beside}
 use Rattle.sk_seen.proofs.FrontLaws.{front_alike}
-use Rattle.sk_seen.proofs.SharpLaws.{within_stop, within_rare}
+use Rattle.sk_seen.proofs.SharpLaws.{within_stop, within_rare, within_decay}
+use Rattle.sk_report.proofs.ReportLaws.{within_sharp}
 
 -- a key hangs on the id
 key_by_id : (collapse : Option Collapse) (docs : Docs) (x y : Rank) → x.id ≡ y.id → key_of collapse docs x ≡ key_of collapse docs y
@@ -196,7 +197,11 @@ module _ (query : Tree) (find : Find) (docs : Docs) (saw : List Rank) (end : End
         estimate = tells.estimate;
         greatest = tells.greatest;
         least_steps = tells.least_steps;
-        most_steps = let lists = tells.within.lists in omega (arith, tells.most_steps, lists, more_keys find.collapse (length saw) (length all) fewer, more_values find.order.by (length saw) (length all) fewer);
-        stop_steps = within_stop query find docs tells.spent (length saw) (length report.hits) report.steps tells.within tells.most_steps;
-        rare_steps = within_rare query find docs tells.spent (length all) (length report.hits) report.steps tells.within (omega (arith, tells.most_steps, more_keys find.collapse (length saw) (length all) fewer, more_values find.order.by (length saw) (length all) fewer));
+        most_steps =
+            let lists = tells.within.lists in
+            within_sharp query find docs (length report.hits) report.steps
+            (omega (arith, tells.most_steps, lists, more_keys find.collapse (length saw) (length all) fewer, more_values find.order.by (length saw) (length all) fewer))
+            (within_stop query find docs tells.spent (length saw) (length report.hits) report.steps tells.within tells.most_steps)
+            (within_rare query find docs tells.spent (length all) (length report.hits) report.steps tells.within (omega (arith, tells.most_steps, more_keys find.collapse (length saw) (length all) fewer, more_values find.order.by (length saw) (length all) fewer)))
+            (within_decay query find docs tells.spent (length saw) (length report.hits) report.steps tells.within tells.most_steps);
       }

@@ -19,6 +19,9 @@ use Rattle.sk_nodes.proofs.StopLaws.{stays_same, stays_decayed, stays_along, sta
 use Rattle.std.proofs.Common.{inr}
 use Rattle.sk_nodes.specs.Led.{IsLed, Leads}
 use Rattle.sk_nodes.proofs.RareLaws.{leads_same, leads_decayed, leads_along, leads_other, leads_begun, leads_then, leads_on, led_round, led_round_ended, decayed_led, at_along, meets_lead}
+use Rattle.sk_nodes.specs.Fading.{Moves}
+use Rattle.sk_nodes.specs.Led.{IsLone}
+use Rattle.sk_nodes.proofs.FadingLaws.{moves_same, moves_decayed, fades_other, fades_along, under_same, under_moved, fades_begun, fades_half, fades_both, fades_on}
 use Rattle.sk_nodes.proofs.moves.+seek.Goals as goal
 
 pub reach-returns-clause-covers : goal.reach-returns-clause-covers
@@ -152,6 +155,10 @@ seek_pair-sides-preserved g t c =
           c.second_target-next.result c.second_target-next.ensures c.if-next-ge-END.false
           (subst (λ n. Leads i c.second_target-next.result n c.reach.new.spent c.reach-in-sides.new.spent (shape_of c.sides.b) (shape_of c.reach-in-sides.new.node)) c.second_need.ensures c.reach-in-sides.ensures.leads))
           c.in-Behind.ensures.on;
+      fades = fades_on i c.args.form c.args.target c.sides.from c.args.spent.now c.sides.spent c.reach.new.spent c.args.ta.now (shape_of c.args.a.now) c.args.tb.now (shape_of c.args.b.now)
+          c.sides.ta (shape_of c.sides.a) c.sides.tb (shape_of c.sides.b) c.reach.new.top (shape_of c.reach.new.node) c.sides.invariant.fades c.reach.ensures.moves
+          c.reach-in-sides.new.spent c.second_target-next.result c.if-next-ge-END.false c.reach-in-sides.new.top (shape_of c.reach-in-sides.new.node) c.second_target-next.ensures c.reach-in-sides.ensures.moves
+          c.in-Behind.further c.in-Behind.ensures.on c.in-Behind.ensures.both;
       paid = omega (arith, c.reach.ensures.paid, c.reach-in-sides.ensures.paid, c.sides.invariant.paid);
       counted = omega (arith, c.reach.ensures.counted, c.reach-in-sides.ensures.counted, c.sides.invariant.counted);
       later = omega (arith, c.reach.ensures.later, c.reach-in-sides.ensures.later, c.sides.invariant.later);
@@ -203,6 +210,7 @@ seek_pair-sides-init g t c =
       far = sides_begun i c.args.form c.args.target c.args.need c.args.ta.now (shape_of c.args.a.now) c.args.tb.now (shape_of c.args.b.now) c.requires.pair c.requires.target;
       leads = leads_begun i c.args.form c.args.target c.args.spent.now c.args.ta.now (shape_of c.args.a.now) c.args.tb.now (shape_of c.args.b.now);
       stays = stays_begun i c.args.form c.args.target c.args.need c.args.spent.now c.args.ta.now (shape_of c.args.a.now) c.args.tb.now (shape_of c.args.b.now);
+      fades = fades_begun i c.args.form c.args.target c.args.spent.now c.args.ta.now (shape_of c.args.a.now) c.args.tb.now (shape_of c.args.b.now);
       paid = omega arith;
       counted = omega arith;
       later = omega arith;
@@ -490,3 +498,57 @@ seek_pair-returns-in-At-clause-at g t c led =
     let now = c.sides.invariant.leads.led led in
     meets_lead i c.args.form c.args.ta.now (shape_of c.args.a.now) c.args.tb.now (shape_of c.args.b.now) (record { head = c.in-At.head; weight = c.in-At.weight; greatest = 0 }) c.reach.new.top (shape_of c.reach.new.node) c.reach-in-sides.new.top (shape_of c.reach-in-sides.new.node) c.in-At.head c.in-At.weight
     led (c.reach.ensures.at now.1.1 now.1.0) c.in-At.ensures.at refl
+
+-- ---- nodes of two lists of which one fades
+
+pub reach-returns-then-target-top-clause-moves : goal.reach-returns-then-target-top-clause-moves
+reach-returns-then-target-top-clause-moves g t c stands = moves_same c.args.index.now c.args.target c.args.spent.now c.args.top.now (shape_of c.args.node.now) c.if-target-top.true stands
+
+pub reach-returns-then-target-top-clause-fades : goal.reach-returns-then-target-top-clause-fades
+reach-returns-then-target-top-clause-fades g t c = under_same c.args.index.now c.args.target c.args.need c.args.spent.now (shape_of c.args.node.now)
+
+pub reach-returns-clause-moves : goal.reach-returns-clause-moves
+reach-returns-clause-moves g t c stands =
+    moves_decayed c.args.index.now c.args.target c.args.need c.args.spent.now c.seek.new.spent (shape_of c.args.node.now) c.seek.new.top _ (shape_of c.seek.new.node) stands.lone refl
+    (subst (λ (s : Shape). IsLone s → Moves c.args.index.now c.args.target c.args.spent.now c.seek.new.spent s c.seek.new.top (shape_of c.seek.new.node)) c.settle.ensures.stands c.seek.ensures.moves)
+
+pub reach-returns-clause-fades : goal.reach-returns-clause-fades
+reach-returns-clause-fades g t c =
+    under_moved c.args.index.now c.args.target c.args.need c.args.spent.now c.seek.new.spent c.args.top.now (shape_of c.args.node.now) (shape_of c.settle.new.node) (shape_of c.seek.new.node) c.requires.top c.requires.sound
+    (omega (arith, c.if-target-top.false, c.requires.target)) c.if-top-need.false c.settle.ensures.stands c.seek.ensures.fades
+
+pub seek_inner-returns-in-Pair-clause-fades : goal.seek_inner-returns-in-Pair-clause-fades
+seek_inner-returns-in-Pair-clause-fades g t c =
+    fades_along c.args.index.now c.args.target c.args.spent.now c.seek_pair.new.spent _ _ _ _
+    (parts_shape c.args.node.now c.in-Pair.form c.in-Pair.ta c.in-Pair.tb c.in-Pair.a c.in-Pair.b _ _ _ _ _ c.in-Pair.is c.in-Pair.form-is c.in-Pair.ta-is c.in-Pair.tb-is (c.deref_mut.ensures.value ∙ ap (λ (x : Box Node Global). x.value) c.in-Pair.a-is) (c.deref_mut-in-Pair.ensures.value ∙ ap (λ (x : Box Node Global). x.value) c.in-Pair.b-is))
+    (shape_of-Pair _ _ _ _ _) c.seek_pair.ensures.fades
+
+pub seek_inner-returns-in-Pair-clause-moves : goal.seek_inner-returns-in-Pair-clause-moves
+seek_inner-returns-in-Pair-clause-moves g t c lone =
+    absurd (subst (λ (s : Shape). IsLone s)
+    (parts_shape c.args.node.now c.in-Pair.form c.in-Pair.ta c.in-Pair.tb c.in-Pair.a c.in-Pair.b _ _ _ _ _ c.in-Pair.is c.in-Pair.form-is c.in-Pair.ta-is c.in-Pair.tb-is (c.deref_mut.ensures.value ∙ ap (λ (x : Box Node Global). x.value) c.in-Pair.a-is) (c.deref_mut-in-Pair.ensures.value ∙ ap (λ (x : Box Node Global). x.value) c.in-Pair.b-is)) lone)
+
+pub seek_inner-returns-in-Odd-clause-fades : goal.seek_inner-returns-in-Odd-clause-fades
+seek_inner-returns-in-Odd-clause-fades g t c =
+    fades_along c.args.index.now c.args.target c.args.spent.now c.seek_odd.new.spent _ _ _ _
+    (odd_shape c.args.node.now c.in-Odd.tops c.in-Odd.nodes _ _ c.in-Odd.is (c.deref_mut-in-Odd.ensures.value ∙ ap (λ (v : Vec Top Global). v.items) c.in-Odd.tops-is) (c.deref_mut-in-Odd-2.ensures.value ∙ ap (λ (v : Vec Node Global). v.items) c.in-Odd.nodes-is))
+    (odd_written _ _ c.seek_odd.new.tops c.seek_odd.new.nodes (search (rules, places)) (search (rules, places)))
+    (fades_other c.args.index.now c.args.target c.args.spent.now c.seek_odd.new.spent (odd _) (odd _) (λ greatest first h. h))
+
+pub seek_inner-returns-in-Odd-clause-moves : goal.seek_inner-returns-in-Odd-clause-moves
+seek_inner-returns-in-Odd-clause-moves g t c lone =
+    absurd (subst (λ (s : Shape). IsLone s)
+    (odd_shape c.args.node.now c.in-Odd.tops c.in-Odd.nodes _ _ c.in-Odd.is (c.deref_mut-in-Odd.ensures.value ∙ ap (λ (v : Vec Top Global). v.items) c.in-Odd.tops-is) (c.deref_mut-in-Odd-2.ensures.value ∙ ap (λ (v : Vec Node Global). v.items) c.in-Odd.nodes-is)) lone)
+
+pub seek_pair-returns-then-next-ge-END-clause-fades : goal.seek_pair-returns-then-next-ge-END-clause-fades
+seek_pair-returns-then-next-ge-END-clause-fades g t c =
+    fades_half c.args.index.now c.args.form c.args.target c.sides.from c.args.spent.now c.sides.spent c.reach.new.spent c.args.ta.now (shape_of c.args.a.now) c.args.tb.now (shape_of c.args.b.now)
+    c.sides.ta (shape_of c.sides.a) c.sides.tb (shape_of c.sides.b) c.reach.new.top (shape_of c.reach.new.node) c.sides.invariant.fades c.reach.ensures.moves
+    (omega (arith, c.if-next-ge-END.true, c.second_target-next.ensures)) c.sides.invariant.far.within
+
+pub seek_pair-returns-in-At-clause-fades : goal.seek_pair-returns-in-At-clause-fades
+seek_pair-returns-in-At-clause-fades g t c =
+    fades_both c.args.index.now c.args.form c.args.target c.sides.from c.args.spent.now c.sides.spent c.reach.new.spent c.args.ta.now (shape_of c.args.a.now) c.args.tb.now (shape_of c.args.b.now)
+    c.sides.ta (shape_of c.sides.a) c.sides.tb (shape_of c.sides.b) c.reach.new.top (shape_of c.reach.new.node) c.sides.invariant.fades c.reach.ensures.moves
+    c.reach-in-sides.new.spent c.second_target-next.result c.if-next-ge-END.false c.reach-in-sides.new.top (shape_of c.reach-in-sides.new.node) c.second_target-next.ensures c.reach-in-sides.ensures.moves
+    c.in-At.head c.in-At.weight c.in-At.ensures.both

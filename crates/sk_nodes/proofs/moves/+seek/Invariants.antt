@@ -5,6 +5,7 @@ use Rattle.sk_nodes.specs.Left.{unread_of, unread_in}
 use Rattle.sk_nodes.proofs.NodeLaws.{SidesSoFar}
 use Rattle.sk_nodes.proofs.StopLaws.{StaysSoFar}
 use Rattle.sk_nodes.proofs.RareLaws.{LeadsSoFar}
+use Rattle.sk_nodes.proofs.FadingLaws.{FadesSoFar}
 use Rattle.sk_nodes.specs.Proximity.{entries_from}
 use Rattle.sk_nodes.proofs.OddLaws.{OddSoFar}
 use Rattle.sk_nodes.proofs.ProximityLaws.{TestSoFar}
@@ -27,6 +28,7 @@ invariant-seek_pair-sides g l = record {
   far : SidesSoFar l.index l.form l.target l.need l.from l.fn.ta (shape_of l.fn.a) l.fn.tb (shape_of l.fn.b) l.ta (shape_of l.a) l.tb (shape_of l.b);
   stays : StaysSoFar l.index l.form l.target l.need l.from l.fn.spent l.spent l.fn.ta (shape_of l.fn.a) l.fn.tb (shape_of l.fn.b) l.ta (shape_of l.a) l.tb (shape_of l.b);
   leads : LeadsSoFar l.index l.form l.target l.from l.fn.spent l.spent l.fn.ta (shape_of l.fn.a) l.fn.tb (shape_of l.fn.b) l.ta (shape_of l.a) l.tb (shape_of l.b);
+  fades : FadesSoFar l.index l.form l.target l.from l.fn.spent l.spent l.fn.ta (shape_of l.fn.a) l.fn.tb (shape_of l.fn.b) l.ta (shape_of l.a) l.tb (shape_of l.b);
   paid : l.spent + (unread_of l.index (shape_of l.a) + unread_of l.index (shape_of l.b)) ≤ l.fn.spent + (unread_of l.index (shape_of l.fn.a) + unread_of l.index (shape_of l.fn.b));
   counted : l.steps + l.fn.spent ≡ l.fn.steps + l.spent;
   later : l.fn.spent ≤ l.spent;

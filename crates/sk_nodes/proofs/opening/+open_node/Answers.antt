@@ -19,6 +19,10 @@ use Rattle.sk_nodes.specs.Flat.{OpensNest}
 use Rattle.sk_nodes.proofs.NestLaws.{parts_flat, nest_opens, split_nest, joint_others, one_term, term_opens, term_flat}
 use Rattle.sk_nodes.specs.OpenedLed.{CanLead, OpensLed, OpensFollowing}
 use Rattle.sk_nodes.proofs.LedLaws.{odd_follows, parts_rare, rare_opened, term_lone, lone_leads, lone_following, split_leads, split_follows}
+use Rattle.std.proofs.Common.{List, [], ◌∷◌}
+use Rattle.sk_nodes.specs.Opened.{count_in}
+use Rattle.sk_nodes.proofs.CountLaws.{counted}
+use Rattle.sk_nodes.proofs.OpenedFadingLaws.{term_alone, split_decays, one_alone, one_not_two, many_not_one, odd_not_or, parts_or}
 use Rattle.sk_nodes.proofs.opening.+open_node.Goals as goal
 
 pub open_sides-returns-clause-opens : goal.open_sides-returns-clause-opens
@@ -154,3 +158,43 @@ open_parts-returns-clause-follows g t c =
 
 pub open_parts-returns-in-Some-odd_parts-clause-follows : goal.open_parts-returns-in-Some-odd_parts-clause-follows
 open_parts-returns-in-Some-odd_parts-clause-follows g t c lists so e = absurd (odd_follows c.args.form (queries_view c.args.parts.now) lists c.in-Some-odd_parts.ensures.odd so e)
+
+-- ---- nodes of two lists of which one fades
+
+pub open_node-returns-in-Some-clause-fading : goal.open_node-returns-in-Some-clause-fading
+open_node-returns-in-Some-clause-fading g t c =
+    IfOk-weaker c.open_parts.result _ _
+    (λ p h ts x y is terms.
+    let f = parts_or (query_view c.args.query.now) c.in-Some.form (queries_view c.in-Some.parts.now) ts c.in-Some.ensures.is is in
+    h x y f.0 (ap terms_in f.1 ∙ terms)) c.open_parts.ensures.fading
+
+pub open_node-returns-in-Term-clause-begun : goal.open_node-returns-in-Term-clause-begun
+open_node-returns-in-Term-clause-begun g t c =
+    IfOk-weaker c.open_term.result _ _
+    (λ p h term e. term_alone c.args.index.now p.0 (shape_of p.1) (query_view c.args.query.now) _ term c.args.factor c.args.scheme c.args.spent.now c.open_term.new.spent (ap query_view c.in-Term.is ∙ view-Term _) e h) c.open_term.ensures.begun
+
+pub open_parts-returns-in-Some-clause-begun : goal.open_parts-returns-in-Some-clause-begun
+open_parts-returns-in-Some-clause-begun g t c =
+    IfOk-weaker c.open_node.result _ _ (λ p h term e. h term (one_alone (queries_view c.args.parts.now) (query_view c.in-Some.part.now) term c.in-Some.ensures.alone e)) c.open_node.ensures.begun
+
+pub open_parts-returns-in-Some-clause-fading : goal.open_parts-returns-in-Some-clause-fading
+open_parts-returns-in-Some-clause-fading g t c =
+    IfOk-weaker c.open_node.result _ _ (λ p h x y is e. absurd (one_not_two (queries_view c.args.parts.now) (query_view c.in-Some.part.now) x y c.in-Some.ensures.alone e)) c.open_node.ensures.begun
+
+pub open_parts-returns-clause-begun : goal.open_parts-returns-clause-begun
+open_parts-returns-clause-begun g t c =
+    IfOk-weaker c.pair_of.result _ _ (λ p h term e. absurd (many_not_one (queries_view c.args.parts.now) term (omega (arith, counted c.args.parts.now, c.in_default.ensures.many)) e)) c.pair_of.ensures.top
+
+pub open_parts-returns-clause-fading : goal.open_parts-returns-clause-fading
+open_parts-returns-clause-fading g t c =
+    let i = c.args.index.now in
+    IfOk-weaker c.pair_of.result _ _
+    (λ p h x y is e.
+    split_decays i c.args.scheme c.args.factor c.args.form c.others_of.result c.in_ok-ta.ta (shape_of c.in_ok-ta.a) c.in_ok-tb.tb (shape_of c.in_ok-tb.b) (shape_of p.1) (queries_view c.split_parts.result.0.now) (queries_view c.split_parts.result.1.now) x y _ _ _ _
+    is c.split_parts.ensures.front.some c.split_parts.ensures.back.some c.in_ok-ta.ensures.begun c.in_ok-tb.ensures.begun h (c.split_parts.ensures.terms (x ∷ y ∷ []) e)) c.pair_of.ensures.fades
+
+pub open_parts-returns-in-Some-odd_parts-clause-begun : goal.open_parts-returns-in-Some-odd_parts-clause-begun
+open_parts-returns-in-Some-odd_parts-clause-begun g t c term e = absurd (many_not_one (queries_view c.args.parts.now) term (omega (arith, counted c.args.parts.now, c.in_default.ensures.many)) e)
+
+pub open_parts-returns-in-Some-odd_parts-clause-fading : goal.open_parts-returns-in-Some-odd_parts-clause-fading
+open_parts-returns-in-Some-odd_parts-clause-fading g t c x y is e = absurd (odd_not_or c.args.form (count_in (queries_view c.args.parts.now)) c.in-Some-odd_parts.ensures.odd is)

@@ -6,6 +6,7 @@ use Rattle.sk_nodes.proofs.ListLaws.{weighed-term, greatest-term}
 use Rattle.sk_nodes.specs.Shapes.{shape_of}
 use Rattle.sk_nodes.proofs.NestLaws.{term_nest}
 use Rattle.sk_nodes.proofs.LedLaws.{named_lone}
+use Rattle.sk_nodes.proofs.OpenedFadingLaws.{numbered_alone}
 use Rattle.sk_nodes.proofs.opening.open_numbered.Goals as goal
 
 pub returns-clause-opens : goal.returns-clause-opens
@@ -31,3 +32,6 @@ pub returns-clause-lone : goal.returns-clause-lone
 returns-clause-lone g c =
     let i = c.args.index.now in
     named_lone i c.in_ok-top.top (shape_of c.in_ok-top.node) _ _ _ _ (length-postings (term_at i.terms c.args.number) i.live.documents) c.in_ok-top.ensures.lone
+
+pub returns-clause-begun : goal.returns-clause-begun
+returns-clause-begun g c = numbered_alone c.args.index.now c.in_ok-top.top (shape_of c.in_ok-top.node) c.args.number c.args.factor c.args.scheme _ _ c.in_ok-top.ensures.begun c.in_ok-top.ensures.lone

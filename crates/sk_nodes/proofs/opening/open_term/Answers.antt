@@ -11,6 +11,7 @@ use Rattle.sk_nodes.proofs.ListLaws.{term-none, nothing_opened}
 use Rattle.sk_nodes.proofs.NestLaws.{named_nest}
 use Rattle.sk_nodes.specs.declared.top.Top.{Top}
 use Rattle.sk_nodes.proofs.LedLaws.{named_lone, none_lone}
+use Rattle.sk_nodes.proofs.OpenedFadingLaws.{named_alone, none_alone}
 use Rattle.sk_nodes.proofs.opening.open_term.Goals as goal
 
 pub returns-in-None-clause-opens : goal.returns-in-None-clause-opens
@@ -45,3 +46,10 @@ returns-in_ok-top-in-Some-clause-lone g c =
 
 pub returns-in-None-clause-lone : goal.returns-in-None-clause-lone
 returns-in-None-clause-lone g c = none_lone c.args.index.now c.ended.result _ _ _ (ap (λ (u : Top). u.head) c.ended.ensures) shape_of-Nothing
+
+pub returns-in_ok-top-in-Some-clause-begun : goal.returns-in_ok-top-in-Some-clause-begun
+returns-in_ok-top-in-Some-clause-begun g c =
+    named_alone c.args.index.now c.in_ok-top-in-Some.top (shape_of c.in_ok-top-in-Some.node) _ _ c.args.factor c.args.scheme _ _ (c.in-Some.ensures.found.1 ∙ c.as_bytes.ensures.value ∙ c.as_str.ensures) c.in_ok-top-in-Some.ensures.begun
+
+pub returns-in-None-clause-begun : goal.returns-in-None-clause-begun
+returns-in-None-clause-begun g c = none_alone c.args.index.now c.ended.result _ _ _ _ (ap (λ (u : Top). u.head) c.ended.ensures) shape_of-Nothing

@@ -9,6 +9,7 @@ use Rattle.sk_nodes.proofs.NodeLaws.{pair_shape}
 use Rattle.sk_nodes.proofs.StopLaws.{stays_along}
 use Rattle.sk_nodes.proofs.NestLaws.{paired_nest}
 use Rattle.sk_nodes.proofs.RareLaws.{leads_along, at_along}
+use Rattle.sk_nodes.proofs.FadingLaws.{fades_along}
 use Rattle.sk_nodes.proofs.opening.pair_of.Goals as goal
 
 pub returns-clause-gives : goal.returns-clause-gives
@@ -30,3 +31,9 @@ returns-clause-leads g c =
     let i = c.args.index.now in
     let shape = pair_shape _ c.args.form c.seek_pair.new.ta c.seek_pair.new.tb c.in_ok-a.a c.in_ok-b.b c.seek_pair.new.a c.seek_pair.new.b refl (sym c.in_ok-a.ensures.ok) (sym c.in_ok-b.ensures.ok) in
     (leads_along i 0 0 _ _ _ _ _ _ refl shape c.seek_pair.ensures.leads, at_along i c.seek_pair.new.top (pair c.args.form c.args.ta (shape_of c.args.a) c.args.tb (shape_of c.args.b)) _ (pair c.args.form c.args.ta (shape_of c.args.a) c.args.tb (shape_of c.args.b)) (pair c.args.form c.seek_pair.new.ta (shape_of c.seek_pair.new.a) c.seek_pair.new.tb (shape_of c.seek_pair.new.b)) refl shape c.seek_pair.ensures.at)
+
+pub returns-clause-fades : goal.returns-clause-fades
+returns-clause-fades g c =
+    let i = c.args.index.now in
+    let shape = pair_shape _ c.args.form c.seek_pair.new.ta c.seek_pair.new.tb c.in_ok-a.a c.in_ok-b.b c.seek_pair.new.a c.seek_pair.new.b refl (sym c.in_ok-a.ensures.ok) (sym c.in_ok-b.ensures.ok) in
+    fades_along i 0 _ _ _ _ _ _ refl shape c.seek_pair.ensures.fades

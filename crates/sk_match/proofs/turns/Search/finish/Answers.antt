@@ -61,6 +61,6 @@ returns-clause-report g c find query stands =
     let i = c.args.index.now in
     finished i c.args.self find query stands c.len-sorted.ensures.sorted c.ceiling-ceiling.result c.ceiling-ceiling.ensures.value (c.ceiling-ceiling.ensures.bound i stands.built.tree) c.requires.done _ c.spent.result
     (c.spent.ensures.within i query find.options.scheme stands.built)
-    (c.spent.ensures.stops i) (c.spent.ensures.rare i)
+    (c.spent.ensures.stops i) (c.spent.ensures.rare i) (c.spent.ensures.decays i)
     (c.in_ok-hits.ensures.hits ∙ ap (map (ranked_of i.live.documents c.args.self.collapser)) (range_is c.deref.result.now c.args.self.heap.hits c.min.result c.args.self.options.first (search rules) (search rules)))
     c.kept_of-lower.ensures (upper_is_there g c find query stands) refl refl (search rules)

@@ -18,3 +18,10 @@ returns-clause-stops g c point most stops (inr may) = c.seek.ensures.stops point
 
 pub returns-then-id-eq4294967295-clause-rare : goal.returns-then-id-eq4294967295-clause-rare
 returns-then-id-eq4294967295-clause-rare g c most rare = c.close.ensures.rare c.args.index.now most rare
+
+pub returns-then-id-eq4294967295-clause-decays : goal.returns-then-id-eq4294967295-clause-decays
+returns-then-id-eq4294967295-clause-decays g c point greatest most decays may = c.close.ensures.decays c.args.index.now point greatest most decays
+
+pub returns-clause-decays : goal.returns-clause-decays
+returns-clause-decays g c point greatest most decays (inl last) = absurd (c.if-id-eq4294967295.false last)
+returns-clause-decays g c point greatest most decays (inr may) = c.seek.ensures.decays point greatest most decays may

@@ -56,6 +56,7 @@ passes_of g c = record {
   asked = asked_of c.pass.ensures.asked;
   stops = c.pass.ensures.stops;
   rare = c.pass.ensures.rare;
+  decays = c.pass.ensures.decays;
   rest = c.pass.ensures.rest;
   same = c.pass.ensures.same;
 }

@@ -8,6 +8,7 @@ use Rattle.sk_nodes.proofs.ListLaws.{leaf_opened}
 use Rattle.std.proofs.Common.{inl, drop, length, arith}
 use Rattle.sk_nodes.specs.Leaves.{list_in}
 use Rattle.sk_nodes.proofs.LedLaws.{begun_lone}
+use Rattle.sk_nodes.proofs.OpenedFadingLaws.{leaf_begins}
 use Rattle.sk_nodes.proofs.leaf.Leaf.open.Goals as goal
 
 pub returns-clause-sound : goal.returns-clause-sound
@@ -38,3 +39,10 @@ returns-clause-lone g c =
       within = omega (arith, begun.0);
       begun = begun.1;
     }
+
+pub returns-clause-begun : goal.returns-clause-begun
+returns-clause-begun g c =
+    let is = c.list_of-list.ensures.runs in
+    let entries = subst (λ (rs : Runs). left c.open.result rs ≡ flat rs) is c.open.ensures.left ∙ ap flat (Rattle.std.proofs.Common.sym is) ∙ c.list_of-list.ensures.entries in
+    leaf_begins c.args.index.now _ _ (list_in c.args.index.now c.args.number) (leaf_greatest c.args.factor c.args.scheme (list_in c.args.index.now c.args.number)) (c.show.ensures.at c.args.index.now (returns-clause-sound g c)) entries
+    (c.greatest_of.ensures ∙ ap (leaf_greatest c.args.factor c.args.scheme) c.list_of-list.ensures.entries)

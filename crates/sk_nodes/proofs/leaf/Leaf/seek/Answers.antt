@@ -8,7 +8,7 @@ use Rattle.std.proofs.Common.{ap, ◌∙◌, arith}
 use Rattle.sk_chunks.specs.Postings.{is_below}
 use Rattle.sk_lists.specs.declared.cursor.Cursor.{Cursor}
 use Rattle.sk_nodes.specs.Leaves.{head_of}
-use Rattle.sk_nodes.proofs.WalkLaws.{head_below, goes_on}
+use Rattle.sk_nodes.proofs.WalkLaws.{head_below, goes_on, fewer_to, fewer_behind, one_passed}
 use Rattle.sk_nodes.proofs.leaf.Leaf.seek.Goals as goal
 
 pub returns-clause-covers : goal.returns-clause-covers
@@ -51,4 +51,7 @@ returns-clause-walks g c =
           (omega (arith, same.0, c.from.ensures), ap (λ (cursor : Cursor). head_of (left cursor runs)) same.1);
       reached = head_of-reached c.args.target (left new runs) c.requires.target passes.reached;
       advances = goes_on runs old new c.args.target c.wdf_for-self.result c.requires.sound.on (subst (λ (rs : Runs). IsOn new rs) is c.seek-read.ensures.on) passes;
+      to = λ point. fewer_to point passes.passed (left old runs) (left new runs) passes.is;
+      behind = λ point. fewer_behind point passes.passed (left old runs) (left new runs) passes.is;
+      passed = λ point past lt. one_passed point c.args.target passes.passed (left old runs) (left new runs) passes.is past lt (head_of-reached c.args.target (left new runs) c.requires.target passes.reached);
     }

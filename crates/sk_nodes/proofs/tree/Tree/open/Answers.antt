@@ -48,3 +48,10 @@ pub returns-clause-rare : goal.returns-clause-rare
 returns-clause-rare g c lists m e =
     let rare = c.in_ok-top.ensures.rare lists m e in
     record { led = rare.led; at = rare.at; account = omega (arith, rare.account) }
+
+pub returns-clause-decays : goal.returns-clause-decays
+returns-clause-decays g c ts a b is terms point =
+    let both = c.in_ok-top.ensures.fading ts a b is terms in
+    let one = both.0 point in
+    let two = both.1 point in
+    (record { first = one.0; fading = one.1.0; account = omega (arith, one.1.1) }, record { first = two.0; fading = two.1.0; account = omega (arith, two.1.1) })

@@ -7,9 +7,11 @@ use Rattle.sk_nodes.proofs.NodeLaws.{shape_of-Nothing, covers_gone}
 use Rattle.sk_nodes.proofs.TreeLaws.{weighed_ids-none, left_exact}
 use Rattle.sk_nodes.specs.Flat.{Stays}
 use Rattle.sk_nodes.proofs.StopLaws.{stops_closed, stops_sought}
-use Rattle.std.proofs.Common.{arith}
+use Rattle.std.proofs.Common.{arith, inl, inr}
 use Rattle.sk_nodes.specs.declared.top.Top.{Top}
 use Rattle.sk_nodes.proofs.RareLaws.{rare_closed}
+use Rattle.sk_nodes.specs.Fading.{FadesUnder}
+use Rattle.sk_nodes.proofs.FadingLaws.{fades_closed}
 use Rattle.sk_nodes.proofs.tree.Tree.seek.Goals as goal
 
 pub returns-then-self-need-clause-covers : goal.returns-then-self-need-clause-covers
@@ -50,3 +52,15 @@ pub returns-clause-rare : goal.returns-clause-rare
 returns-clause-rare g c most rare =
     let paid = c.reach.ensures.leads.led_paid rare.led in
     record { led = c.reach.ensures.leads.led rare.led; at = c.reach.ensures.at rare.led rare.at; account = omega (arith, paid, rare.account) }
+
+pub returns-then-self-need-clause-decays : goal.returns-then-self-need-clause-decays
+returns-then-self-need-clause-decays g c point greatest most decays may =
+    let done = fades_closed c.args.index.now (shape_of c.args.self.now.node) _ point greatest most c.args.self.now.spent decays.first shape_of-Nothing decays.account in
+    record { first = decays.first; fading = done.0; account = done.1 }
+
+pub returns-clause-decays : goal.returns-clause-decays
+returns-clause-decays g c point greatest most decays (inl high) = absurd (omega (arith, c.if-self-need.false, high))
+returns-clause-decays g c point greatest most decays (inr may) =
+    let i = c.args.index.now in
+    let to = (subst (λ n. FadesUnder i n c.args.need c.args.self.now.spent c.reach.new.spent (shape_of c.args.self.now.node) (shape_of c.reach.new.node)) c.from.ensures c.reach.ensures.fades) point greatest decays.first decays.fading may in
+    record { first = to.0; fading = to.1.0; account = omega (arith, to.1.1, decays.account) }
