@@ -21,6 +21,7 @@ SCHEMA = {
     ]
 }
 FINDS = 40
+COLLAPSED = re.compile(r" collapsed=(\d+)")
 
 
 def leaf(picks):
@@ -58,6 +59,12 @@ def terms(picks):
 def asked(picks):
     """A find by a random tree, with random options."""
     find = {"tree": terms(picks) if picks.random() < 0.4 else tree(picks, picks.randint(0, 3))}
+    return find | options(picks, ["site", "year"])
+
+
+def options(picks, fields):
+    """Random options of a find, by these fields that have slots."""
+    find = {}
     for name, chance, value in [
         ("scheme", 0.5, lambda: picks.choice(["bool", "coord", "nnn"])),
         ("size", 0.7, lambda: picks.randint(0, 6)),
@@ -68,13 +75,13 @@ def asked(picks):
     ]:
         if picks.random() < chance:
             find[name] = value()
-    if picks.random() < 0.6:
+    if fields and picks.random() < 0.6:
         find["order"] = picks.choice(["value", "value_relevance", "relevance_value"])
-        find["by"] = picks.choice(["site", "year"])
+        find["by"] = picks.choice(fields)
         if picks.random() < 0.5:
             find["reverse"] = picks.random() < 0.5
-    if picks.random() < 0.5:
-        find["collapse"] = picks.choice(["site", "year"])
+    if fields and picks.random() < 0.5:
+        find["collapse"] = picks.choice(fields)
         if picks.random() < 0.5:
             find["max"] = picks.randint(1, 4)
     return find
@@ -96,32 +103,44 @@ def commands(picks):
         yield asked(picks)
 
 
-def answers(program, text):
-    """Each answer with its hits."""
+def answers(program, text, words=("run",)):
+    """Each answer with its hits, the number that the program ended with, and what it said on the errors."""
+    ran = subprocess.run([program, *words], input=text, capture_output=True)
+    *lines, rest = ran.stdout.decode(errors="surrogateescape").split("\n")
     told = []
-    for line in subprocess.run([program, "run"], input=text, capture_output=True).stdout.decode().splitlines():
-        if line.startswith("hit"):
+    for line in lines:
+        if told and line.startswith("hit "):
             told[-1].append(line)
         else:
             told.append([line])
-    return told
+    return told, ran.returncode, rest + ran.stderr.decode(errors="replace")
 
 
-def agree(ours, plain):
-    """Whether an answer is one that the plain program's allows."""
-    if not ours[0].startswith("found"):
+def wanted(find):
+    """Where fewer match than this, the counts of a find are the true one. 0 where it collapses: the plain program does
+    not tell how many match then."""
+    if "collapse" in find:
+        return 0
+    return max(find.get("check", 0), find.get("first", 0) + find.get("size", 10))
+
+
+def agree(ours, plain, few=0):
+    """Whether an answer is one that the plain program's allows, and tells the true count where fewer than `few` match."""
+    if not (ours[0].startswith("found ") and plain[0].startswith("found ")):
         return ours == plain
     mine, true = (dict(word.split("=") for word in told[0].split()[1:]) for told in (ours, plain))
     lower, upper, count = int(mine["lower"]), int(mine["upper"]), int(true["lower"])
-    collapsed = [[int(number) for number in re.findall(r"collapsed=(\d+)", " ".join(told))] for told in (ours, plain)]
-    bare = [[re.sub(r"collapsed=\d+", "", line) for line in told[1:]] for told in (ours, plain)]
+    hits = [[COLLAPSED.search(line) for line in told[1:]] for told in (ours, plain)]
+    collapsed = [[int(hit.group(1)) for hit in told] for told in hits]
+    bare = [[(hit.string[: hit.start()], hit.string[hit.end() :]) for hit in told] for told in hits]
     return (
         bare[0] == bare[1]
         and mine["max"] == true["max"]
         and int(mine["steps"]) <= int(true["steps"])
         and lower <= count <= upper
+        and (count >= few or lower == upper)
         and int(mine["estimate"]) == (lower + upper) // 2
-        and all(few <= all_of for few, all_of in zip(*collapsed))
+        and all(some <= most for some, most in zip(*collapsed))
     )
 
 
@@ -133,10 +152,10 @@ def main():
     for seed in range(seeds):
         lines = list(commands(random.Random(seed)))
         text = "".join(json.dumps(line) + "\n" for line in lines).encode()
-        ours, plain = (answers(program, text) for program in programs)
+        ours, plain = (answers(program, text)[0] for program in programs)
         for line, mine, true in zip(lines, ours, plain):
             finds += "tree" in line
-            if not agree(mine, true):
+            if not agree(mine, true, wanted(line) if "tree" in line else 0):
                 differing += 1
                 print(seed, json.dumps(line), mine, true)
         differing += abs(len(ours) - len(plain))

@@ -1,0 +1,343 @@
+#!/usr/bin/env python3
+"""Holds the built sk_tool against the built sk_reference over hostile streams of lines, made from a seed: schemas, edits by id
+and by filter, finds by text and by tree with options, shows, query texts behind records, numbers at their bounds, and
+lines that are cut, doubled, flipped or too long. Answer by answer: hits, order, weights and payloads equal, counts
+enclosed, refusals equal, and no more steps than the rules allow, which is what sk_reference prints; the status and the
+errors equal. A stream that differs is told by its seed, and cut down to few lines that differ still; then it ends with 1.
+
+Wants both programs: (cd crates/sk_tool && rt run; cd ../sk_reference && rt run). Run it at the top of the repository:
+python3 bench/streams.py [STREAMS [FIRST [FOLDER]]], FIRST being the first seed and FOLDER where crates/ is."""
+import json
+import os
+import random
+import re
+import sys
+import tempfile
+from collections import Counter
+
+from random_finds import HERE, agree, answers, options, wanted
+
+LONGEST = 1_048_576
+BOUNDS = [0, 1, 2, 127, 128, 255, 256, 2**31, 2**32 - 2, 2**32 - 1, 2**32, 2**53 + 1, 2**63, 2**64 - 1, 2**64]
+NUMBERS = [str(bound) for bound in BOUNDS] + ["-1", "-0", "1.0", "1e0", "1e3", "01", "1e400", "9" * 400, "null", "true"]
+PLAIN = ["a", "b", "c", "d", "e"]
+ODD = [
+    "fox", "FOX", "foxes", "don't", "don’t", "'a'", "café", "cafe\u0301", "CAFÉ", "straße", "STRASSE", "ﬁne", "ΌΣΟΣ", "日本",
+    "x_1", "me@example.org", "a-b", "a.b-c", "http://e.org/a", "1990", "AND", "NOT", "NEAR", "_", "x" * 64, "x" * 65,
+    "é" * 32, "é" * 33, "\u0301", "a\u0323\u0301", "a\u0301\u0323", "\U0001f98a", "\u2028", "ǅ", "İ", "\u0345", "가", "𝐀", "a\u200db",
+]  # fmt: skip
+PAYLOADS = ["", "one", 'a"b\\c', "\n\t\r\b\f\0\x1f\x7f", "é\u2028\U0001f98a", "\nhit rank=0 id=1 weight=1 collapsed=9 data=", "</a>"]
+FIELDS = [
+    {"name": "title", "kind": "text", "prefix": "S", "step": 2},
+    {"name": "note", "kind": "text", "step": 256},
+    {"name": "lang", "kind": "filter", "prefix": "L"},
+    {"name": "cat", "kind": "filter", "prefix": "XCAT"},
+    {"name": "year", "kind": "number", "slot": 0},
+    {"name": "site", "kind": "word", "slot": 255},
+]
+FILTERS = ["en", "fr", "En", ":x", "", "Dog", "dog", "a b", "é"]
+SITES = ["x", "y", "z", "", "xx", "\0", "é"]
+
+
+def number(picks):
+    return picks.randint(0, 9) if picks.random() < 0.8 else picks.choice(BOUNDS)
+
+
+def word(picks):
+    return picks.choices(PLAIN, [5, 3, 2, 1, 1])[0] if picks.random() < 0.8 else picks.choice(ODD)
+
+
+class Stream:
+    """Lines from one seed."""
+
+    def __init__(self, seed):
+        self.picks = random.Random(seed)
+        self.fields = [{"name": "body", "kind": "text"}] + self.picks.sample(FIELDS, self.picks.randint(0, 6))
+        self.picks.shuffle(self.fields)
+        self.made = 0
+        # A chunk of a list has 128 entries at the most, so lists of about that many are halved and joined.
+        self.sizes = self.picks.choice([0, 3, 12, 40, 90, 127, 130, 256, 300])
+
+    def named(self, *kinds):
+        return [field["name"] for field in self.fields if field["kind"] in kinds]
+
+    def words(self, most):
+        return self.picks.choice([" ", " ", ", ", "-", ". "]).join(word(self.picks) for _ in range(self.picks.randint(0, most)))
+
+    def value(self, kind):
+        picks = self.picks
+        if picks.random() < 0.03:
+            return picks.choice([None, 7, "a", [], ["a"], {}, True, -1, 1.5, [7]])
+        if kind == "text":
+            return self.words(picks.choice([3, 8, 8, 30]))
+        if kind == "filter":
+            return picks.choice(FILTERS) if picks.random() < 0.6 else picks.choices(FILTERS, k=picks.randint(0, 3))
+        return number(picks) if kind == "number" else picks.choice(SITES)
+
+    def record(self):
+        values = {field["name"]: self.value(field["kind"]) for field in self.fields if self.picks.random() < 0.75}
+        if self.picks.random() < 0.02:
+            values[self.picks.choice(["titel", "", "BODY"])] = "a"
+        return values
+
+    def data(self):
+        return {"data": self.picks.choice(PAYLOADS)} if self.picks.random() < 0.6 else {}
+
+    def id(self):
+        rare = self.picks.random()
+        if rare < 0.005:
+            return 2**32 - 1
+        return self.picks.choice([0, 2**32, 2**64 - 1]) if rare < 0.03 else self.picks.randint(1, self.made + 2)
+
+    def term(self):
+        """A field and a text, as edits by filter have them."""
+        names = self.named("filter") if self.picks.random() < 0.95 else ["body", "none", "year"]
+        return [self.picks.choice(names or ["lang"]), self.picks.choice(FILTERS)]
+
+    def edit(self):
+        kind = self.picks.random()
+        if kind < 0.5:
+            self.made += 1
+            return {"add": self.record(), **self.data()}
+        if kind < 0.7:
+            return {"replace": self.id(), "with": self.record(), **self.data()}
+        if kind < 0.88:
+            return {"delete": self.id()}
+        if kind < 0.95:
+            return {"replace_by": self.term(), "with": self.record(), **self.data()}
+        return {"delete_by": self.term()}
+
+    def piece(self, depth):
+        """A part of a query text."""
+        picks = self.picks
+        texts, filters, slots = self.named("text"), self.named("filter"), self.named("number", "word")
+        bound = lambda: picks.choice(["", str(number(picks)), "x", "1a", picks.choice(SITES)])
+        makers = [
+            lambda: word(picks),
+            lambda: word(picks),
+            lambda: picks.choice("ab") + "*",
+            lambda: '"' + self.words(3) + picks.choice(['"', '"', '"', ""]),
+            lambda: f"{word(picks)} {picks.choice(['NEAR', 'ADJ'])}{picks.choice(['', '/0', '/1', '/2', '/10000', '/10001', '/70000'])} {word(picks)}",
+            lambda: f"{picks.choice(texts)}:{word(picks)}",
+            lambda: f'{picks.choice(texts)}:"{self.words(3)}"',
+            lambda: f"{picks.choice(texts)}:({self.text(depth - 1)})",
+            lambda: f"{picks.choice(filters or texts)}:{picks.choice(FILTERS)}",
+            lambda: f'{picks.choice(filters or texts)}:"{picks.choice(FILTERS)}"',
+            lambda: f"{picks.choice(slots or texts)}:{bound()}{picks.choice(['..', '..', '', '...'])}{bound()}",
+            lambda: f"({self.text(depth - 1)})",
+            lambda: picks.choice(["()", "?!", ")", "(", '"', "+", "-", "AND", "XOR", "*", ":", "none:a", "a/b"]),
+        ]
+        made = picks.choice(makers[: 3 if depth < 1 else len(makers)])()
+        return picks.choice(["", "", "", "+", "-"]) + made
+
+    def text(self, depth=2):
+        joins = [" ", " ", " ", " AND ", " OR ", " XOR ", " NOT ", " AND NOT ", "  ", ""]
+        text = ""
+        for _ in range(self.picks.randint(0, 4)):
+            text += self.piece(depth) + self.picks.choice(joins if self.picks.random() < 0.5 else joins[:3])
+        return text if self.picks.random() < 0.1 else text.rstrip("ANDORXT ")
+
+    def leaf(self):
+        picks = self.picks
+        term = lambda: picks.choice(["", "", "S", "L", "XCAT"]) + picks.choice(["a", "b", "c", "en", "fr", "fox", "café", ":x", "Dog"])
+        bound = lambda: picks.choice([None, number(picks), picks.choice(SITES)])
+        return picks.choice(
+            [
+                lambda: {"term": term()},
+                lambda: {"term": term()},
+                lambda: {"all": []},
+                lambda: {"nothing": []},
+                lambda: {"wildcard": picks.choice(["a", "f", "L", "XCAT", "S", "x", "zz"])},
+                lambda: {"range": [picks.choice([0, 0, 255, 1, 256]), bound(), bound()]},
+                lambda: {"synonym": list({term(), term(), term()})},
+                lambda: {"near": [picks.choice([1, 2, 3, 5, 1_048_576, 0]), *[term() for _ in range(picks.randint(1, 3))]]},
+                lambda: {"phrase": [picks.choice([1, 2, 3, 5, 1_048_576, 1_048_577]), *[term() for _ in range(picks.randint(1, 3))]]},
+            ]
+        )()
+
+    def tree(self, depth):
+        picks = self.picks
+        if depth == 0 or picks.random() < 0.2:
+            return self.leaf()
+        if picks.random() < 0.1:
+            return {"scale": [picks.choice([0, 1, 2, 3, 256, 257, 65_536, 65_537]), self.tree(depth - 1)]}
+        form = picks.choice(["and", "or", "or", "xor", "max", "and_not", "and_maybe", "filter"])
+        return {form: [self.tree(depth - 1) for _ in range(picks.choice([1, 2, 2, 3, 4]))]}
+
+    def options(self):
+        found = options(self.picks, self.named("number", "word"))
+        if self.picks.random() < 0.1:
+            name = self.picks.choice(["first", "size", "check", "cutoff", "max"])
+            found[name] = self.picks.choice([0, 1, 128, 99_990, 99_999, 100_000, 100_001, *BOUNDS[-8:]])
+        return found
+
+    def ask(self):
+        kind = self.picks.random()
+        if kind < 0.1:
+            return {"show": self.text(), **({"op": self.picks.choice(["and", "or"])} if self.picks.random() < 0.3 else {})}
+        if kind < 0.55:
+            return {"find": self.text(), **({"op": "and"} if self.picks.random() < 0.3 else {}), **self.options()}
+        return {"tree": self.tree(self.picks.randint(0, 3)), **self.options()}
+
+    def mutated(self, line):
+        """The line with one thing or two changed."""
+        picks = self.picks
+        for _ in range(picks.choice([1, 1, 2])):
+            at = picks.randrange(len(line) + 1)
+            to = min(len(line), at + picks.randint(1, 8))
+            found = list(re.finditer(rb"\d+", line)) or [re.match(rb"", line)]
+            digits = picks.choice(found)
+            line = picks.choice(
+                [
+                    lambda: line[:at] + bytes(byte ^ 1 << picks.randrange(8) for byte in line[at:to][:1]) + line[at + 1 :],
+                    lambda: line[:at],
+                    lambda: line[at:],
+                    lambda: line[:at] + line[to:],
+                    lambda: line[:to] + line[at:to] + line[to:],
+                    lambda: line[:at] + picks.randbytes(picks.randint(1, 3)) + line[at:],
+                    lambda: line[:at] + picks.choice([b'"', b"{", b"}", b"[", b"]", b",", b":", b"\\", b" ", b"\0", b"\\u0000", b"\\ud800"]) + line[at:],
+                    lambda: line[: digits.start()] + picks.choice(NUMBERS).encode() + line[digits.end() :],
+                    lambda: line + line,
+                    lambda: b" \t" + line + b"\r ",
+                    lambda: line[:-1] + b"," + picks.choice([b'"data":"x"', b'"max":2', b'"op":"and"', b'"size":3', b'"x":0', line[1:-1]]) + b"}",
+                ]
+            )()
+        return line
+
+    def lines(self):
+        """All lines: bytes without their ends."""
+        picks = self.picks
+        schema = {"schema": self.fields}
+        if picks.random() < 0.1:
+            yield picks.choice([{"find": "a"}, {"schema": []}, {"schema": [{"name": "Body", "kind": "text"}]}, {"schema": self.fields * 2}, 7])
+        if picks.random() < 0.97:
+            yield schema
+        for _ in range(self.sizes):
+            self.made += 1
+            yield {"add": self.record(), **self.data()}
+        for _ in range(picks.randint(5, 60)):
+            yield self.edit() if picks.random() < 0.5 else self.ask()
+        for _ in range(picks.choice([0, 0, 3])):
+            for _ in range(picks.randint(0, self.sizes)):
+                yield {"delete": picks.randint(1, self.made + 1)}
+            yield self.ask()
+        if picks.random() < 0.05:
+            yield schema
+
+    def bytes_of(self, line):
+        """A line as bytes: mostly as it is, at times changed, blank, or as long as a line may be, or longer."""
+        picks = self.picks
+        text = json.dumps(line, ensure_ascii=picks.random() < 0.5, separators=picks.choice([(",", ":"), (", ", ": ")]))
+        line = text.encode()
+        chance = picks.random()
+        if chance < 0.06:
+            return self.mutated(line)
+        if chance < 0.07:
+            return picks.choice([b"", b" \t\r", b"\x0b", b" " * LONGEST, b"\xff"])
+        if chance < 0.073:
+            return line.ljust(picks.choice([LONGEST, LONGEST + 1, 2 * LONGEST]))
+        return line
+
+
+def of_seed(seed):
+    """The words, the lines of the records and those of the input; the last one may lack its end."""
+    stream = Stream(seed)
+    picks = stream.picks
+    lines = [stream.bytes_of(line) for line in stream.lines()]
+    form = picks.random()
+    if form < 0.75:
+        return ["run"], [], lines, picks.random() < 0.8
+    texts = [stream.text().encode(errors="replace") for _ in range(picks.randint(0, 40))]
+    texts = [stream.mutated(text) if picks.random() < 0.1 else text for text in texts]
+    return ["search", "FILE"] + (["and"] if form < 0.85 else []), lines, texts, picks.random() < 0.8
+
+
+def told_by(programs, words, records, lines, is_ended):
+    """What each program answers."""
+    with tempfile.NamedTemporaryFile() as file:
+        file.write(b"".join(line + b"\n" for line in records))
+        file.flush()
+        words = [file.name if word == "FILE" else word for word in words]
+        text = b"\n".join(lines) + (b"\n" if is_ended and lines else b"")
+        return [answers(program, text, words) for program in programs]
+
+
+def few(words, lines):
+    """For each line that has an answer, how many matches are counted exactly at the least."""
+    if words != ["run"]:
+        return []
+    most = []
+    for line in b"\n".join(lines).split(b"\n"):
+        if len(line) > LONGEST or line.strip(b" \t\r"):
+            try:
+                find = json.loads(line)
+                most.append(wanted(find) if "find" in find or "tree" in find else 0)
+            except (ValueError, TypeError, RecursionError):
+                most.append(0)
+    return most
+
+
+def difference(told, most):
+    """The first answer that differs, of each program, or nothing."""
+    (ours, code, said), (plain, true_code, true_said) = told
+    for place, (mine, true) in enumerate(zip(ours, plain)):
+        if not agree(mine, true, most[place] if place < len(most) else 0):
+            return [mine, true]
+    if (len(ours), code, said) != (len(plain), true_code, true_said):
+        return [[len(ours), code, said], [len(plain), true_code, true_said]]
+    return []
+
+
+def cut_down(programs, words, records, lines, is_ended):
+    """Fewer lines that differ still, and how."""
+
+    def differs(records, lines):
+        return difference(told_by(programs, words, records, lines, is_ended), few(words, lines))
+
+    tries = 0
+    for which in (0, 1):
+        step = max(1, len((records, lines)[which]) // 2)
+        while step:
+            at = 0
+            while at < len((records, lines)[which]) and tries < 500:
+                parts = [records, lines]
+                parts[which] = parts[which][:at] + parts[which][at + step :]
+                tries += 1
+                if differs(*parts):
+                    records, lines = parts
+                else:
+                    at += step
+            step //= 2
+    return records, lines, differs(records, lines)
+
+
+def main():
+    count = int(sys.argv[1]) if len(sys.argv) > 1 else 100
+    first = int(sys.argv[2]) if len(sys.argv) > 2 else 0
+    folder = sys.argv[3] if len(sys.argv) > 3 else os.path.join(HERE, "..")
+    programs = [os.path.join(folder, "crates", name, "out", name) for name in ("sk_tool", "sk_reference")]
+    seen = Counter()
+    wrong = 0
+    for seed in range(first, first + count):
+        words, records, lines, is_ended = of_seed(seed)
+        seen["lines"] += len(records) + len(lines)
+        told = told_by(programs, words, records, lines, is_ended)
+        for answer in told[1][0]:
+            seen[" ".join(answer[0].split()[:2]) if answer[0].startswith(("refused", "ok")) else answer[0].split()[0]] += 1
+            seen["hits"] += len(answer) - 1
+            seen["finds with hits"] += len(answer) > 1
+        seen[f"status {told[1][1]}"] += 1
+        if difference(told, few(words, lines)):
+            wrong += 1
+            records, lines, how = cut_down(programs, words, records, lines, is_ended)
+            print(f"seed {seed} differs, under {words}:")
+            for line in records + [b"--"] + lines:
+                print("   ", line[:2000])
+            print("   ", *how, sep="\n    ")
+    print(", ".join(f"{name}: {seen[name]}" for name in sorted(seen)))
+    print(f"{count} streams from seed {first}, {wrong} differ")
+    sys.exit(1 if wrong else 0)
+
+
+if __name__ == "__main__":
+    main()
