@@ -1,0 +1,143 @@
+#!/usr/bin/env python3
+"""Runs the built sk_tool with one request for memory refused, the first, the second and so on, until a run makes no more, and
+then with that one and all behind it refused. Each run must end with 5, say `no memory`, and have put whole answers, to
+first lines; or put all, and end as if nothing was refused. Ends with 1 where one does not.
+
+Wants cc and the built program: (cd crates/sk_tool && rt run). Run it at the top of the repository:
+python3 bench/refused_memory.py [STEP [FOLDER]], every STEPth request being refused and FOLDER being where crates/ is.
+
+refused_memory.c stands before the C library's allocator, and counts from the program's main on: what the loader and the
+library take before is not refused."""
+import os
+import subprocess
+import sys
+import tempfile
+
+HERE = os.path.dirname(os.path.realpath(__file__))
+
+DOCUMENTS = """\
+{"schema":[{"name":"body","kind":"text"},{"name":"lang","kind":"filter","prefix":"L"},{"name":"year","kind":"number","slot":0},\
+{"name":"site","kind":"word","slot":1}]}
+{"add":{"body":"red fox red","lang":"en","year":1990,"site":"a"},"data":"one"}
+{"add":{"body":"Red hen","lang":"en","year":2000,"site":"a"}}
+{"add":{"body":"fox den","lang":"fr","year":2010,"site":"b"}}
+{"add":{"body":"the red-fox den","lang":"en","site":"b"}}
+"""
+TEXTS = r"""
+{"find":"\"red fox\""}
+{"find":"+red fox -hen"}
+{"find":"den NEAR/2 red"}
+{"find":"fo* XOR (den AND fox)"}
+{"find":"year:1995.. lang:en lang:fr"}
+{"find":"red fox","op":"and","first":1,"size":2,"check":3,"cutoff":1,"ids":"falling"}
+{"show":"+red \"fox den\" -lang:fr year:1990..2000"}
+{"find":"red AND"}
+{"find":"(red"}
+"""
+TREES = """
+{"tree":{"xor":[{"term":"red"},{"term":"fox"},{"max":[{"term":"red"},{"term":"den"}]}]}}
+{"tree":{"and_maybe":[{"synonym":["red","fox"]},{"scale":[5,{"term":"hen"}]}]},"scheme":"coord"}
+{"tree":{"filter":[{"all":[]},{"wildcard":"L"},{"range":[0,1990,null]}]},"order":"relevance_value","by":"year"}
+{"tree":{"and_not":[{"near":[5,"red","fox"]},{"nothing":[]},{"phrase":[2,"fox","den"]}]}}
+{"tree":{"and":[]}}
+"""
+EDITS = """
+{"delete":4}
+{"delete":4}
+{"replace":3,"with":{"body":"owl fox"},"data":"three"}
+{"replace":4294967295,"with":{"body":"red"}}
+{"add":{"body":"red"}}
+{"replace_by":["lang","en"],"with":{"body":"owl","lang":["fr","de"],"year":1}}
+{"delete_by":["lang","fr"]}
+{"find":"red owl fox"}
+{"schema":[]}
+{"add":{"title":"red"}}
+
+"""
+# A list of more than 128 entries is cut into two, and joined again when many are gone.
+MANY = '{"schema":[{"name":"body","kind":"text"}]}\n' + '{"add":{"body":"a"}}\n' * 140
+GONE = "".join(f'{{"delete":{number}}}\n' for number in range(20, 130))
+
+# A title, the words, the records and the input.
+ROWS = [
+    ("two words", ["run"], "", DOCUMENTS + '{"find":"red fox"}\n'),
+    ("collapsed", ["run"], "", DOCUMENTS + '{"find":"red fox","collapse":"site"}\n{"find":"red fox","collapse":"site","max":2}\n'),
+    (
+        "by value",
+        ["run"],
+        "",
+        DOCUMENTS
+        + '{"find":"red fox","order":"value","by":"year","reverse":true}\n'
+        + '{"find":"red fox","order":"value","by":"year","reverse":true,"collapse":"site"}\n',
+    ),
+    ("texts", ["run"], "", DOCUMENTS + TEXTS),
+    ("trees", ["run"], "", DOCUMENTS + TREES),
+    ("edits", ["run"], "", DOCUMENTS + EDITS),
+    ("query texts", ["search", "FILE"], DOCUMENTS + '{"find":"hen"}\n', "red fox\n\nred AND\n"),
+    ("joined by and", ["search", "FILE", "and"], DOCUMENTS, "red fox\n"),
+    ("a demonstration", ["demo", "20"], "", ""),
+    ("a list that is cut, and joined", ["run"], "", MANY + '{"find":"a"}\n' + GONE + '{"find":"a"}\n'),
+]
+
+
+class Runs:
+    """Runs of the program in a folder, with the shim before the allocator."""
+
+    def __init__(self, program, folder, words, records, text):
+        self.file = os.path.join(folder, "records")
+        with open(self.file, "w") as file:
+            file.write(records)
+        self.words = [program] + [self.file if word == "FILE" else word for word in words]
+        self.text = text.encode()
+        self.settings = os.environ | {"LD_PRELOAD": os.path.join(folder, "refused.so"), "COUNTED": os.path.join(folder, "counted")}
+
+    def run(self, refused, others=False):
+        """How a run ended, and how many requests it made: those up to the refused one, where it did not tell more."""
+        settings = self.settings | {"REFUSED": str(refused)} | ({"REFUSED_ALL": "1"} if others else {})
+        ran = subprocess.run(self.words, input=self.text, capture_output=True, env=settings)
+        with open(self.settings["COUNTED"]) as file:
+            return ran.returncode, ran.stdout, ran.stderr, int(file.read())
+
+
+def is_front(put, whole):
+    """Whether whole answers were put, to first lines: no hit of the last one is missing."""
+    return whole.startswith(put) and put[-1:] in (b"", b"\n") and not whole[len(put) :].startswith(b"hit ")
+
+
+def tried(runs, step):
+    """The number of requests, and what each refused one came to that was neither a stop as it should be nor the whole."""
+    code, whole, said, count = runs.run(0)
+    wrong = []
+    passed = []
+    for others in (False, True):
+        for refused in range(1, count + 1, step):
+            ended = runs.run(refused, others)
+            if ended[:3] == (code, whole, said):
+                passed.append(refused)
+            elif ended[0] != 5 or ended[2] != b"no memory\n" or not is_front(ended[1], whole):
+                wrong.append((refused, *ended))
+    if runs.run(count + 1)[:3] != (code, whole, said):
+        wrong.append(("none", *runs.run(count + 1)))
+    return code, count, passed, wrong
+
+
+def main():
+    step = int(sys.argv[1]) if len(sys.argv) > 1 else 1
+    top = sys.argv[2] if len(sys.argv) > 2 else os.path.join(HERE, "..")
+    program = os.path.realpath(os.path.join(top, "crates", "sk_tool", "out", "sk_tool"))
+    bad = 0
+    with tempfile.TemporaryDirectory() as folder:
+        shim = ["cc", "-O2", "-shared", "-fPIC", "-o", os.path.join(folder, "refused.so"), os.path.join(HERE, "refused_memory.c")]
+        subprocess.run(shim, check=True)
+        for title, words, records, text in ROWS:
+            code, count, passed, wrong = tried(Runs(program, folder, words, records, text), step)
+            bad += len(wrong)
+            print(f"{title}: ends with {code}, {count} requests; whole in spite of a refusal: {sorted(set(passed)) or 'none'}; {len(wrong)} wrong")
+            for refused in wrong[:5]:
+                print("   ", refused)
+    print(f"{bad} runs ended as they must not")
+    sys.exit(1 if bad else 0)
+
+
+if __name__ == "__main__":
+    main()
