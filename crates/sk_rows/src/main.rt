@@ -7,8 +7,9 @@ mod pattern;
 mod section;
 mod setting;
 
-use section::{Outcome, Section};
+use section::{Ran, Section, Verdict};
 use sk_io::{Line, Lines, StdSource};
+use std::alloc::{AllocError, Global};
 use std::io;
 use std::marker::Brand;
 use std::process::ExitCode;
@@ -34,14 +35,14 @@ fn main(rt: HostRuntime) -> io::Result<ExitCode> {
             }
         };
         if line.is_none_or(section::is_title) {
-            let outcome = section.run::<Brand>(Blank::new(1), alloc)?;
             rows = rows.saturating_add(section.rows());
-            if let Outcome::Differs(answered, said, code) = outcome {
+            if let Some((turn, ran)) = differing_run(&section, alloc)? {
                 differing = differing.saturating_add(1);
                 let title = section.title();
-                let answered = answered.as_str();
-                let said = said.as_str();
-                println!(rt; "differs: {title}\n{answered}{said}ended with {code}")?;
+                let answered = ran.answered.as_str();
+                let said = ran.said.as_str();
+                let code = ran.code;
+                println!(rt; "differs: {title}\n{answered}{said}ended with {code} in turn {turn}")?;
             }
             section = Section::new(alloc)?;
         }
@@ -56,4 +57,19 @@ fn main(rt: HostRuntime) -> io::Result<ExitCode> {
     }
     println!(rt; "{differing} sections differ")?;
     Ok(ExitCode::FAILURE)
+}
+
+/// The first run of a section that is not as it should be, with its turn.
+fn differing_run(section: &Section, alloc: Global) -> Result<Option<(u64, Ran)>, AllocError> {
+    let mut whole = String::new(alloc);
+    for turn in 0..u64::MAX {
+        let ran = section.run::<Brand>(Blank::new(1), alloc, turn)?;
+        match section.verdict(&ran, turn, whole.as_str()) {
+            Verdict::Fits => return Ok(None),
+            Verdict::GoesOn if turn == 0 => whole = ran.answered,
+            Verdict::GoesOn => {}
+            Verdict::Differs => return Ok(Some((turn, ran))),
+        }
+    }
+    Ok(None)
 }

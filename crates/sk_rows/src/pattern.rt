@@ -3,17 +3,28 @@ use crate::setting::number_in;
 use std::alloc::AllocError;
 use std::str;
 
-/// Whether the lines of a text are those that are written, and no others.
-pub fn fits(wanted: &[String], answered: &str) -> bool {
+/// A line that is written, and how many bytes the input and the records have up to the end of the line that it answers.
+#[derive(Debug, Drop)]
+pub struct Wanted {
+    pub line: String,
+    pub input: usize,
+    pub records: usize,
+}
+
+/// Whether the lines of a text are those that are written, and no others, where so many bytes of the input and of the
+/// records were taken.
+pub fn fits(wanted: &[Wanted], input: usize, records: usize, answered: &str) -> bool {
     let mut lines = answered.lines();
     for want in wanted {
-        match lines.next() {
-            Some(line) => {
-                if !line_fits(want.as_str(), line) {
-                    return false;
+        if want.input <= input && want.records <= records {
+            match lines.next() {
+                Some(line) => {
+                    if !line_fits(want.line.as_str(), line) {
+                        return false;
+                    }
                 }
+                None => return false,
             }
-            None => return false,
         }
     }
     lines.next().is_none()

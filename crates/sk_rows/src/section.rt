@@ -1,8 +1,8 @@
 //! A section: a title, how it is run, lines, and what they are to be answered.
 ghost use Rattle.std.specs.Prelude.{◌≡◌};
 
-use crate::pattern::{fits, put_expanded};
-use crate::setting::Setting;
+use crate::pattern::{Wanted, fits, put_expanded};
+use crate::setting::{Each, Setting};
 use sk_engine::{Status, start};
 use sk_io::{MemorySink, MemorySource};
 use std::alloc::{AllocError, Global};
@@ -12,12 +12,21 @@ use std::sync::ledger::{Blank, Ledger};
 /// What is said where the word is no form.
 const USAGE: &[u8] = b"usage: run";
 
-/// What a section came to.
-#[derive(Debug, Drop)]
-pub enum Outcome {
+/// What a run of a section came to.
+#[derive(Clone, Copy, Debug, PartialEq, Eq)]
+pub enum Verdict {
     Fits,
-    /// What its lines were answered, what was said, and the number that the program ended with.
-    Differs(String, String, u8),
+    /// It is as it should be, and is to be run with the next call failing.
+    GoesOn,
+    Differs,
+}
+
+/// What the lines were answered, what was said, and the number that the program ended with.
+#[derive(Debug, Drop)]
+pub struct Ran {
+    pub answered: String,
+    pub said: String,
+    pub code: u8,
 }
 
 /// A title, lines of commands, and what these are to be answered.
@@ -30,9 +39,11 @@ pub struct Section {
     input: Vec<u8>,
     /// The bytes of the second source.
     records: Vec<u8>,
-    wanted: Vec<String>,
+    /// How many bytes more the last line of the input would have, had it its end.
+    open: usize,
+    wanted: Vec<Wanted>,
     /// What is to be said on the errors.
-    said: Vec<String>,
+    said: Vec<Wanted>,
     rows: u64,
 }
 
@@ -49,6 +60,7 @@ impl Section {
             is_set: true,
             input: Vec::new(alloc),
             records: Vec::new(alloc),
+            open: 0,
             wanted: Vec::new(alloc),
             said: Vec::new(alloc),
             rows: 0,
@@ -78,6 +90,7 @@ impl Section {
             self.rows = self.rows.saturating_add(1);
         } else if let Some(command) = line.strip_prefix(b">> ") {
             put_expanded(&mut self.input, command)?;
+            self.open = 1;
             self.rows = self.rows.saturating_add(1);
         } else if let Some(record) = line.strip_prefix(b"< ") {
             'times: for _ in 0..self.setting.times {
@@ -86,11 +99,22 @@ impl Section {
             }
             self.rows = self.rows.saturating_add(1);
         } else if let Some(said) = line.strip_prefix(b"! ") {
-            self.said.push(String::from_utf8_lossy(alloc, said)?)?;
+            let said = self.written(alloc, said)?;
+            self.said.push(said)?;
         } else if !line.is_empty() {
-            self.wanted.push(String::from_utf8_lossy(alloc, line)?)?;
+            let want = self.written(alloc, line)?;
+            self.wanted.push(want)?;
         }
         Ok(())
+    }
+
+    /// A line that is written behind the lines so far.
+    fn written(&self, alloc: Global, line: &[u8]) -> Result<Wanted, AllocError> {
+        Ok(Wanted {
+            line: String::from_utf8_lossy(alloc, line)?,
+            input: self.input.len().saturating_add(self.open),
+            records: self.records.len(),
+        })
     }
 
     /// The number that the program is to end with: where nothing is set 1 if a line is refused, and 0 if none is.
@@ -101,7 +125,7 @@ impl Section {
         if self
             .wanted
             .iter()
-            .any(|line| line.as_str().starts_with("refused "))
+            .any(|want| want.line.as_str().starts_with("refused "))
         {
             1
         } else {
@@ -125,18 +149,32 @@ impl Section {
         Ok(Ok(arguments))
     }
 
-    /// Runs the lines over a store of their own.
-    pub fn run<L: Ledger>(&self, blank: Blank, alloc: Global) -> Result<Outcome, AllocError>
+    /// Which call of a stream fails: what is set, or, where each call of it is to fail in turn, that of the turn.
+    fn failing(&self, stream: Each, set: u64, turn: u64) -> u64 {
+        if self.setting.each == stream {
+            turn
+        } else {
+            set
+        }
+    }
+
+    /// Runs the lines over a store of their own. Where each call of a stream is to fail in turn, that of the turn does,
+    /// and none in turn 0.
+    pub fn run<L: Ledger>(&self, blank: Blank, alloc: Global, turn: u64) -> Result<Ran, AllocError>
         requires name { blank.name ≡ L.name }
         requires parts { blank.parts ≡ L.parts }
         requires one { blank.parts ≡ 1 }
     {
         let arguments = self.arguments(alloc)?;
         let piece = self.setting.piece.max(1);
-        let reads = vec![in alloc; self.setting.read; 1]?;
-        let writes = vec![in alloc; self.setting.write; 1]?;
+        let reads = vec![in alloc; self.failing(Each::Input, self.setting.read, turn); 1]?;
+        let writes = vec![in alloc; self.failing(Each::Output, self.setting.write, turn); 1]?;
         let mut input = MemorySource::new(self.input.clone()?, piece, reads);
-        let record_reads = vec![in alloc; self.setting.records; 1]?;
+        let record_reads = vec![in alloc; self.failing(
+            Each::Records,
+            self.setting.records,
+            turn
+        ); 1]?;
         let mut records = MemorySource::new(self.records.clone()?, piece, record_reads);
         let mut output = MemorySink::new(alloc, piece, self.setting.room, writes)?;
         let mut errors = MemorySink::new(alloc, 100, 100, Vec::new(alloc))?;
@@ -150,16 +188,82 @@ impl Section {
             &mut output,
             &mut errors,
         );
-        let answered = String::from_utf8_lossy(alloc, output.bytes())?;
-        let said = String::from_utf8_lossy(alloc, errors.bytes())?;
-        if self.is_set
-            && fits(self.wanted.as_slice(), answered.as_str())
-            && fits(self.said.as_slice(), said.as_str())
-            && u64::from(code) == self.code()
-        {
-            Ok(Outcome::Fits)
+        Ok(Ran {
+            answered: String::from_utf8_lossy(alloc, output.bytes())?,
+            said: String::from_utf8_lossy(alloc, errors.bytes())?,
+            code,
+        })
+    }
+
+    /// What a turn came to; `whole` is what was answered in turn 0.
+    pub fn verdict(&self, ran: &Ran, turn: u64, whole: &str) -> Verdict {
+        let is_right = self.is_set && self.is_right(ran);
+        let is_each = self.setting.each != Each::None;
+        if is_each && (turn == 0 && is_right || turn > 0 && self.is_stopped(ran, turn, whole)) {
+            Verdict::GoesOn
+        } else if is_right && !(is_each && self.is_made(turn, whole.len())) {
+            Verdict::Fits
         } else {
-            Ok(Outcome::Differs(answered, said, code))
+            Verdict::Differs
         }
+    }
+
+    /// Whether all was answered, said and ended as it is written.
+    fn is_right(&self, ran: &Ran) -> bool {
+        fits(
+            self.wanted.as_slice(),
+            usize::MAX,
+            usize::MAX,
+            ran.answered.as_str(),
+        ) && fits(
+            self.said.as_slice(),
+            usize::MAX,
+            usize::MAX,
+            ran.said.as_str(),
+        ) && u64::from(ran.code) == self.code()
+    }
+
+    /// Whether a run stopped as it should at the call that failed: the lines whose end was taken before are answered, or
+    /// a front was put of all answers, of at least a byte a call.
+    fn is_stopped(&self, ran: &Ran, call: u64, whole: &str) -> bool {
+        let moved = self.moved(call.saturating_sub(1));
+        let answered = ran.answered.as_str();
+        let wanted = self.wanted.as_slice();
+        let (is_front, said, code) = match self.setting.each {
+            Each::None => (false, "", 0),
+            Each::Input => {
+                let taken = moved.min(self.input.len());
+                (fits(wanted, taken, usize::MAX, answered), "read fault\n", 3)
+            }
+            Each::Records => {
+                let taken = moved.min(self.records.len());
+                (fits(wanted, 0, taken, answered), "read fault\n", 3)
+            }
+            Each::Output => {
+                let least = whole.len().min(call.saturating_sub(1) as usize);
+                let put = answered.len();
+                (
+                    whole.starts_with(answered) && least <= put && put <= moved,
+                    "write fault\n",
+                    4,
+                )
+            }
+        };
+        is_front && ran.said.as_str() == said && ran.code == code
+    }
+
+    /// Whether a run comes to this call: no call moves more than a piece, and one more is made at the end.
+    fn is_made(&self, call: u64, whole: usize) -> bool {
+        let length = match self.setting.each {
+            Each::Input => self.input.len(),
+            Each::Records => self.records.len(),
+            _ => whole,
+        };
+        call < 2 || self.moved(call.saturating_sub(2)) < length
+    }
+
+    /// How many bytes so many calls move at the most.
+    fn moved(&self, calls: u64) -> usize {
+        (calls as usize).saturating_mul(self.setting.piece)
     }
 }

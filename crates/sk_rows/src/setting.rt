@@ -2,6 +2,15 @@
 use sk_engine::Status;
 use std::alloc::{AllocError, Global};
 
+/// A stream, each call of which is to fail in turn.
+#[derive(Clone, Copy, Debug, PartialEq, Eq)]
+pub enum Each {
+    None,
+    Input,
+    Records,
+    Output,
+}
+
 /// The words that the program is started with, how its streams give and take, and the number that it is to end with.
 #[derive(Debug, Drop)]
 pub struct Setting {
@@ -17,6 +26,7 @@ pub struct Setting {
     pub read: u64,
     pub records: u64,
     pub write: u64,
+    pub each: Each,
     /// How often a line of the records stands there that comes behind what sets this.
     pub times: u64,
     /// None where the section does not say it.
@@ -34,6 +44,7 @@ impl Setting {
             read: 0,
             records: 0,
             write: 0,
+            each: Each::None,
             times: 1,
             code: None,
         }
@@ -47,6 +58,11 @@ impl Setting {
             };
             if name == "word" {
                 self.words.push(String::from_str(alloc, value)?)?;
+            } else if name == "each" {
+                self.each = each(value);
+                if self.each == Each::None {
+                    return Ok(false);
+                }
             } else if !self.set_number(name, value) {
                 return Ok(false);
             }
@@ -73,6 +89,16 @@ impl Setting {
             _ => return false,
         }
         true
+    }
+}
+
+/// The stream of a name: none under another.
+fn each(name: &str) -> Each {
+    match name {
+        "input" => Each::Input,
+        "records" => Each::Records,
+        "output" => Each::Output,
+        _ => Each::None,
     }
 }
 
