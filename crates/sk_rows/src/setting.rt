@@ -59,7 +59,7 @@ impl Setting {
             if name == "word" {
                 self.words.push(String::from_str(alloc, value)?)?;
             } else if name == "each" {
-                self.each = each(value);
+                self.each = stream_named(value);
                 if self.each == Each::None {
                     return Ok(false);
                 }
@@ -93,7 +93,7 @@ impl Setting {
 }
 
 /// The stream of a name: none under another.
-fn each(name: &str) -> Each {
+fn stream_named(name: &str) -> Each {
     match name {
         "input" => Each::Input,
         "records" => Each::Records,
