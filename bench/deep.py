@@ -47,6 +47,14 @@ def different(count):
     return " ".join("".join(chr(97 + number // 26**place % 26) for place in range(5)) for number in range(count))
 
 
+def replace(number):
+    return json.dumps({"replace": number, "with": {"body": "a", "year": number, "site": "x"}})
+
+
+def by_value(options):
+    return json.dumps({"find": "a", "order": "value", "by": "year", **options})
+
+
 FOUND, TOO_MANY = "found ", "refused 9 BadQuery TooMany at 2048"
 BAD_SHAPE, NOT_JSON, BAD_TREE = "refused 5 BadShape", "refused 2 NotJson", "refused 10 BadTree"
 DOCUMENT = [add("a b a")]
@@ -118,6 +126,16 @@ KINDS = [
     ("a phrase of 1,000 words in a long document", 52_000, lambda n: [add("a b " * n), tree({"phrase": [1_048_576] + ["a", "b"] * 500})], FOUND),
     ("words near in a long document", 260_000, lambda n: [add("a " * n + "b " * n), tree({"near": [2_000, "a", "b", "a", "b"]})], FOUND),
     ("words too far away", 260_000, lambda n: [add("a " * n + "c " * 300 + "b " * n), tree({"near": [300, "a", "b"]})], FOUND),
+    ("a phrase that fails at its last word", 50, lambda n: [add(("a " * 1_023 + "b ") * n), tree({"phrase": [1_024] + ["a"] * 1_024})], FOUND),
+    ("a phrase in each document", 20_000, lambda n: [add("a b")] * n + [tree({"phrase": [1_000] + ["a", "b"] * 500})], FOUND),
+    ("an xor of 1,000 words", 20_000, lambda n: [add("a")] * n + [tree({"xor": [{"term": "a"}] * 1_000})], FOUND),
+    ("words in falling order", 20_000, lambda n: [add(f"w{n - number:08}") for number in range(n)], "ok id "),
+    ("ids in falling order", 20_000, lambda n: [replace(n - number) for number in range(n)], "ok id 1"),
+    ("ids from both ends", 20_000, lambda n: [replace(number + 1 if number % 2 else 2 * n - number) for number in range(n)], "ok id "),
+    ("documents removed from the first on", 20_000, lambda n: [add("a")] * n + [f'{{"delete":{number + 1}}}' for number in range(n)], "ok deleted 1"),
+    ("documents removed at once", 20_000, lambda n: ['{"add":{"lang":"en"}}'] * n + ['{"delete_by":["lang","en"]}'], "ok deleted "),
+    ("documents by value, a page of all", 20_000, lambda n: [replace(number + 1) for number in range(n)] + [by_value({"size": 100_000})], FOUND),
+    ("documents by value, all of one key", 20_000, lambda n: [replace(number + 1) for number in range(n)] + [by_value({"size": 100_000, "collapse": "site", "max": 100_000})], FOUND),
     ("documents of one word", 20_000, lambda n: [add("a")] * n + [find("a a a")], FOUND),
     ("documents of one value", 20_000, lambda n: ['{"add":{"body":"a","site":"x"}}'] * n + ['{"find":"a","collapse":"site","size":100000}'], FOUND),
     ("one document, replaced", 20_000, lambda n: ['{"replace":1,"with":{"body":"a b c"}}'] * n, "ok id 1"),

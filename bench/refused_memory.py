@@ -1,7 +1,8 @@
 #!/usr/bin/env python3
 """Runs the built sk_tool with one request for memory refused, the first, the second and so on, until a run makes no more, and
 then with that one and all behind it refused. Each run must end with 5, say `no memory`, and have put whole answers, to
-first lines; or put all, and end as if nothing was refused. Ends with 1 where one does not.
+first lines; or put all, and end as if nothing was refused (where a vector that takes an iterator's items is refused what the
+iterator announced, the library asks again, for one). Ends with 1 where one does not.
 
 Wants cc and the built program: (cd crates/sk_tool && rt run). Run it at the top of the repository:
 python3 bench/refused_memory.py [STEP [FOLDER]], every STEPth request being refused and FOLDER being where crates/ is.
@@ -108,12 +109,12 @@ def tried(runs, step):
     """The number of requests, and what each refused one came to that was neither a stop as it should be nor the whole."""
     code, whole, said, count = runs.run(0)
     wrong = []
-    passed = []
-    for others in (False, True):
+    passed = {False: [], True: []}
+    for others in passed:
         for refused in range(1, count + 1, step):
             ended = runs.run(refused, others)
             if ended[:3] == (code, whole, said):
-                passed.append(refused)
+                passed[others].append(refused)
             elif ended[0] != 5 or ended[2] != b"no memory\n" or not is_front(ended[1], whole):
                 wrong.append((refused, *ended))
     if runs.run(count + 1)[:3] != (code, whole, said):
@@ -132,7 +133,8 @@ def main():
         for title, words, records, text in ROWS:
             code, count, passed, wrong = tried(Runs(program, folder, words, records, text), step)
             bad += len(wrong)
-            print(f"{title}: ends with {code}, {count} requests; whole in spite of a refusal: {sorted(set(passed)) or 'none'}; {len(wrong)} wrong")
+            print(f"{title}: ends with {code}, {count} requests; {len(wrong)} wrong")
+            print(f"    whole without these: {passed[False] or 'none'}; without these and all behind: {passed[True] or 'none'}", flush=True)
             for refused in wrong[:5]:
                 print("   ", refused)
     print(f"{bad} runs ended as they must not")
