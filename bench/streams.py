@@ -56,7 +56,7 @@ class Stream:
         self.picks.shuffle(self.fields)
         self.made = 0
         # A chunk of a list has 128 entries at the most, so lists of about that many are halved and joined.
-        self.sizes = self.picks.choice([0, 3, 12, 40, 90, 127, 130, 256, 300])
+        self.sizes = self.picks.choice([0, 3, 12, 40, 90, 127, 130, 256, 300, 700])
 
     def named(self, *kinds):
         return [field["name"] for field in self.fields if field["kind"] in kinds]
@@ -139,7 +139,7 @@ class Stream:
 
     def leaf(self):
         picks = self.picks
-        term = lambda: picks.choice(["", "", "S", "L", "XCAT"]) + picks.choice(["a", "b", "c", "en", "fr", "fox", "café", ":x", "Dog"])
+        term = lambda: picks.choice(["", "", "", "S", "L", "XCAT"]) + picks.choice(["a", "a", "b", "b", "c", "d", "en", "fr", "fox", "café", ":x", "Dog"])
         bound = lambda: picks.choice([None, number(picks), picks.choice(SITES)])
         return picks.choice(
             [
