@@ -333,7 +333,7 @@ def main():
             print(f"seed {seed} differs, under {words}:")
             for line in records + [b"--"] + lines:
                 print("   ", line[:2000])
-            print("   ", *how, sep="\n    ")
+            print(*(f"    {answer}" for answer in how), sep="\n")
     print(", ".join(f"{name}: {seen[name]}" for name in sorted(seen)))
     print(f"{count} streams from seed {first}, {wrong} differ")
     sys.exit(1 if wrong else 0)
