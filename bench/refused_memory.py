@@ -5,14 +5,18 @@ first lines; or put all, and end as if nothing was refused (where a vector that 
 iterator announced, the library asks again, for one). Ends with 1 where one does not.
 
 Wants cc and the built program: (cd crates/sk_tool && rt run). Run it at the top of the repository:
-python3 bench/refused_memory.py [STEP [FOLDER]], every STEPth request being refused and FOLDER being where crates/ is.
+python3 bench/refused_memory.py [STEP [FOLDER [STREAMS]]], every STEPth request being refused, FOLDER being where crates/ is,
+and 30 requests of each of so many streams of bench/streams.py being refused, by chance, behind the rows.
 
 refused_memory.c stands before the C library's allocator, and counts from the program's main on: what the loader and the
 library take before is not refused."""
 import os
+import random
 import subprocess
 import sys
 import tempfile
+
+import streams
 
 HERE = os.path.dirname(os.path.realpath(__file__))
 
@@ -86,10 +90,10 @@ class Runs:
 
     def __init__(self, program, folder, words, records, text):
         self.file = os.path.join(folder, "records")
-        with open(self.file, "w") as file:
+        with open(self.file, "wb") as file:
             file.write(records)
         self.words = [program] + [self.file if word == "FILE" else word for word in words]
-        self.text = text.encode()
+        self.text = text
         self.settings = os.environ | {"LD_PRELOAD": os.path.join(folder, "refused.so"), "COUNTED": os.path.join(folder, "counted")}
 
     def run(self, refused, others=False):
@@ -105,38 +109,62 @@ def is_front(put, whole):
     return whole.startswith(put) and put[-1:] in (b"", b"\n") and not whole[len(put) :].startswith(b"hit ")
 
 
+def came_to(ended, whole):
+    """Whether a run is the whole one, or stopped as it must, or neither."""
+    if ended[:3] == whole[:3]:
+        return "whole"
+    code, put, said, _ = ended
+    return "stopped" if code == 5 and said == b"no memory\n" and is_front(put, whole[1]) else "wrong"
+
+
 def tried(runs, step):
-    """The number of requests, and what each refused one came to that was neither a stop as it should be nor the whole."""
-    code, whole, said, count = runs.run(0)
+    """How the run without a refusal ends, which refused requests left a run whole, and what came to neither."""
+    whole = runs.run(0)
     wrong = []
     passed = {False: [], True: []}
     for others in passed:
-        for refused in range(1, count + 1, step):
+        for refused in range(1, whole[3] + 1, step):
             ended = runs.run(refused, others)
-            if ended[:3] == (code, whole, said):
+            if came_to(ended, whole) == "whole":
                 passed[others].append(refused)
-            elif ended[0] != 5 or ended[2] != b"no memory\n" or not is_front(ended[1], whole):
-                wrong.append((refused, *ended))
-    if runs.run(count + 1)[:3] != (code, whole, said):
-        wrong.append(("none", *runs.run(count + 1)))
-    return code, count, passed, wrong
+            elif came_to(ended, whole) == "wrong":
+                wrong.append((refused, others, *ended))
+    ended = runs.run(whole[3] + 1)
+    if came_to(ended, whole) != "whole":
+        wrong.append(("none", *ended))
+    return whole, passed, wrong
+
+
+def tried_by_chance(program, folder, seed):
+    """What came to neither, of 30 requests of a stream."""
+    words, records, lines, _ = streams.of_seed(seed)
+    picks = random.Random(seed)
+    runs = Runs(program, folder, words, b"".join(line + b"\n" for line in records), b"\n".join(lines))
+    whole = runs.run(0)
+    tries = [(picks.randint(1, whole[3]), picks.random() < 0.5) for _ in range(30)]
+    wrong = [(seed, *one) for one in tries if came_to(runs.run(*one), whole) == "wrong"]
+    for one in wrong:
+        print("    seed, request, and all behind it:", one)
+    return wrong
 
 
 def main():
     step = int(sys.argv[1]) if len(sys.argv) > 1 else 1
     top = sys.argv[2] if len(sys.argv) > 2 else os.path.join(HERE, "..")
     program = os.path.realpath(os.path.join(top, "crates", "sk_tool", "out", "sk_tool"))
+    count = int(sys.argv[3]) if len(sys.argv) > 3 else 0
     bad = 0
     with tempfile.TemporaryDirectory() as folder:
         shim = ["cc", "-O2", "-shared", "-fPIC", "-o", os.path.join(folder, "refused.so"), os.path.join(HERE, "refused_memory.c")]
         subprocess.run(shim, check=True)
         for title, words, records, text in ROWS:
-            code, count, passed, wrong = tried(Runs(program, folder, words, records, text), step)
+            whole, passed, wrong = tried(Runs(program, folder, words, records.encode(), text.encode()), step)
             bad += len(wrong)
-            print(f"{title}: ends with {code}, {count} requests; {len(wrong)} wrong")
+            print(f"{title}: ends with {whole[0]}, {whole[3]} requests; {len(wrong)} wrong")
             print(f"    whole without these: {passed[False] or 'none'}; without these and all behind: {passed[True] or 'none'}", flush=True)
             for refused in wrong[:5]:
                 print("   ", refused)
+        bad += sum(len(tried_by_chance(program, folder, seed)) for seed in range(count))
     print(f"{bad} runs ended as they must not")
     sys.exit(1 if bad else 0)
 
