@@ -1,7 +1,7 @@
 #!/usr/bin/env python3
-"""Times the built sk_tool on long, deep and wide lines, on a stack of 8 MiB: each kind of line in a size and in a tenth of it.
-What it is answered must begin as the rules say, and the time of the size must be at most 20 times that of its tenth,
-where it is more than the fifth of a second. Ends with 1 where one is not, two apart that are known to be slower.
+"""Times the built sk_tool on long, deep and wide lines, on a stack of 8 MiB: each kind of line in a size and in a tenth
+of it. What it is answered must begin as the rules say, and the time of the size must be at most 20 times that of its
+tenth, where it is more than the fifth of a second. Ends with 1 where one is not, two apart that are known to be slower.
 
 Wants the built program: (cd crates/sk_tool && rt run). Run it at the top of the repository:
 python3 bench/deep.py [WORD [FOLDER]], the lines whose titles have the word alone, and FOLDER being where crates/ is."""
@@ -51,6 +51,10 @@ def replace(number):
     return json.dumps({"replace": number, "with": {"body": "a", "year": number, "site": "x"}})
 
 
+def removed(count):
+    return [f'{{"delete":{number + 1}}}' for number in range(count)]
+
+
 def by_value(options):
     return json.dumps({"find": "a", "order": "value", "by": "year", **options})
 
@@ -62,7 +66,12 @@ DOCUMENT = [add("a b a")]
 KINDS = [
     ("brackets, all closed", 500_000, lambda n: [find("(" * n + "a" + ")" * n)], "refused 9 BadQuery TooDeep at 100"),
     ("brackets, none closed", 1_000_000, lambda n: [find("(" * n)], "refused 9 BadQuery UnclosedBracket at 0"),
-    ("brackets, half closed", 650_000, lambda n: [find("(" * n + ")" * (n // 2))], "refused 9 BadQuery UnclosedBracket at 0"),
+    (
+        "brackets, half closed",
+        650_000,
+        lambda n: [find("(" * n + ")" * (n // 2))],
+        "refused 9 BadQuery UnclosedBracket at 0",
+    ),
     ("closing brackets", 1_000_000, lambda n: [find(")" * n)], "refused 9 BadQuery StrayBracket at 0"),
     ("empty brackets", 500_000, lambda n: [*DOCUMENT, find("()" * n)], FOUND),
     ("100 brackets, again and again", 5_000, lambda n: [*DOCUMENT, find(("(" * 100 + ")" * 100) * n)], FOUND),
@@ -98,7 +107,12 @@ KINDS = [
     ("objects in a line", 200_000, lambda n: ['{"a":' * n], NOT_JSON),
     ("a line of digits", 1_000_000, lambda n: ["1" * n], NOT_JSON),
     ("a line of zeros behind a point", 1_000_000, lambda n: ["0." + "0" * n], BAD_SHAPE),
-    ("members of an object", 100_000, lambda n: ["{" + ",".join(f'"{number}":0' for number in range(n)) + "}"], BAD_SHAPE),
+    (
+        "members of an object",
+        100_000,
+        lambda n: ["{" + ",".join(f'"{number}":0' for number in range(n)) + "}"],
+        BAD_SHAPE,
+    ),
     ("one member again and again", 100_000, lambda n: ["{" + ",".join('"find":0' for _ in range(n)) + "}"], BAD_SHAPE),
     ("escapes", 170_000, lambda n: ['{"add":{},"data":"' + "\\u0001" * n + '"}', tree({"all": []})], FOUND),
     ("lines", 1_000_000, lambda n: ["\n" * n + "[]"], BAD_SHAPE),
@@ -115,32 +129,113 @@ KINDS = [
     ("an and_not of all", 69_000, lambda n: [*DOCUMENT, tree({"and_not": [{"all": []}] * n})], FOUND),
     ("an and_maybe of all", 69_000, lambda n: [*DOCUMENT, tree({"and_maybe": [{"all": []}] * n})], FOUND),
     ("a filter of all", 69_000, lambda n: [*DOCUMENT, tree({"filter": [{"all": []}] * n})], FOUND),
-    ("a synonym of 1,024 words", 1_024, lambda n: [*DOCUMENT, tree({"synonym": [f"a{number}" for number in range(n)]})], FOUND),
+    (
+        "a synonym of 1,024 words",
+        1_024,
+        lambda n: [*DOCUMENT, tree({"synonym": [f"a{number}" for number in range(n)]})],
+        FOUND,
+    ),
     ("the words of a document", 520_000, lambda n: [add("a " * n), find("a")], FOUND),
     ("different words of a document", 174_000, lambda n: [add(different(n)), find("a*")], FOUND),
     ("different words, removed", 174_000, lambda n: [add(different(n)), '{"delete":1}'], "ok deleted 1"),
-    ("different words, each alone", 20_000, lambda n: [add(word) for word in different(n).split()] + [find("a*")], FOUND),
-    ("filters of a document", 100_000, lambda n: [json.dumps({"add": {"lang": [str(number) for number in range(n)]}})], "ok id 1"),
+    (
+        "different words, each alone",
+        20_000,
+        lambda n: [add(word) for word in different(n).split()] + [find("a*")],
+        FOUND,
+    ),
+    (
+        "filters of a document",
+        100_000,
+        lambda n: [json.dumps({"add": {"lang": [str(number) for number in range(n)]}})],
+        "ok id 1",
+    ),
     ("one filter again and again", 200_000, lambda n: [json.dumps({"add": {"lang": ["a"] * n}})], "ok id 1"),
     ("a phrase in a long document", 260_000, lambda n: [add("a b " * n), '{"find":"\\"b b\\""}'], FOUND),
-    ("a phrase of 1,000 words in a long document", 52_000, lambda n: [add("a b " * n), tree({"phrase": [1_048_576] + ["a", "b"] * 500})], FOUND),
-    ("words near in a long document", 260_000, lambda n: [add("a " * n + "b " * n), tree({"near": [2_000, "a", "b", "a", "b"]})], FOUND),
-    ("words too far away", 260_000, lambda n: [add("a " * n + "c " * 300 + "b " * n), tree({"near": [300, "a", "b"]})], FOUND),
-    ("a phrase that fails at its last word", 50, lambda n: [add(("a " * 1_023 + "b ") * n), tree({"phrase": [1_024] + ["a"] * 1_024})], FOUND),
-    ("a phrase in each document", 20_000, lambda n: [add("a b")] * n + [tree({"phrase": [1_000] + ["a", "b"] * 500})], FOUND),
+    (
+        "a phrase of 1,000 words in a long document",
+        52_000,
+        lambda n: [add("a b " * n), tree({"phrase": [1_048_576] + ["a", "b"] * 500})],
+        FOUND,
+    ),
+    (
+        "words near in a long document",
+        260_000,
+        lambda n: [add("a " * n + "b " * n), tree({"near": [2_000, "a", "b", "a", "b"]})],
+        FOUND,
+    ),
+    (
+        "words too far away",
+        260_000,
+        lambda n: [add("a " * n + "c " * 300 + "b " * n), tree({"near": [300, "a", "b"]})],
+        FOUND,
+    ),
+    (
+        "a phrase that fails at its last word",
+        50,
+        lambda n: [add(("a " * 1_023 + "b ") * n), tree({"phrase": [1_024] + ["a"] * 1_024})],
+        FOUND,
+    ),
+    (
+        "a phrase in each document",
+        20_000,
+        lambda n: [add("a b")] * n + [tree({"phrase": [1_000] + ["a", "b"] * 500})],
+        FOUND,
+    ),
     ("an xor of 1,000 words", 20_000, lambda n: [add("a")] * n + [tree({"xor": [{"term": "a"}] * 1_000})], FOUND),
     ("words in falling order", 20_000, lambda n: [add(f"w{n - number:08}") for number in range(n)], "ok id "),
-    ("documents with values, removed from the first on", 40_000, lambda n: [replace(number + 1) for number in range(n)] + [f'{{"delete":{number + 1}}}' for number in range(n)], "ok deleted 1"),
+    (
+        "documents with values, removed from the first on",
+        40_000,
+        lambda n: [replace(number + 1) for number in range(n)] + removed(n),
+        "ok deleted 1",
+    ),
     ("ids in falling order", 40_000, lambda n: [replace(n - number) for number in range(n)], "ok id 1"),
-    ("ids from both ends", 20_000, lambda n: [replace(number + 1 if number % 2 else 2 * n - number) for number in range(n)], "ok id "),
-    ("documents removed from the first on", 20_000, lambda n: [add("a")] * n + [f'{{"delete":{number + 1}}}' for number in range(n)], "ok deleted 1"),
-    ("documents removed at once", 20_000, lambda n: ['{"add":{"lang":"en"}}'] * n + ['{"delete_by":["lang","en"]}'], "ok deleted "),
-    ("documents by value, a page of all", 20_000, lambda n: [replace(number + 1) for number in range(n)] + [by_value({"size": 100_000})], FOUND),
-    ("documents by value, all of one key", 20_000, lambda n: [replace(number + 1) for number in range(n)] + [by_value({"size": 100_000, "collapse": "site", "max": 100_000})], FOUND),
+    (
+        "ids from both ends",
+        20_000,
+        lambda n: [replace(number + 1 if number % 2 else 2 * n - number) for number in range(n)],
+        "ok id ",
+    ),
+    (
+        "documents removed from the first on",
+        20_000,
+        lambda n: [add("a")] * n + removed(n),
+        "ok deleted 1",
+    ),
+    (
+        "documents removed at once",
+        20_000,
+        lambda n: ['{"add":{"lang":"en"}}'] * n + ['{"delete_by":["lang","en"]}'],
+        "ok deleted ",
+    ),
+    (
+        "documents by value, a page of all",
+        20_000,
+        lambda n: [replace(number + 1) for number in range(n)] + [by_value({"size": 100_000})],
+        FOUND,
+    ),
+    (
+        "documents by value, all of one key",
+        20_000,
+        lambda n: [replace(number + 1) for number in range(n)]
+        + [by_value({"size": 100_000, "collapse": "site", "max": 100_000})],
+        FOUND,
+    ),
     ("documents of one word", 20_000, lambda n: [add("a")] * n + [find("a a a")], FOUND),
-    ("documents of one value", 20_000, lambda n: ['{"add":{"body":"a","site":"x"}}'] * n + ['{"find":"a","collapse":"site","size":100000}'], FOUND),
+    (
+        "documents of one value",
+        20_000,
+        lambda n: ['{"add":{"body":"a","site":"x"}}'] * n + ['{"find":"a","collapse":"site","size":100000}'],
+        FOUND,
+    ),
     ("one document, replaced", 20_000, lambda n: ['{"replace":1,"with":{"body":"a b c"}}'] * n, "ok id 1"),
-    ("a document, added and removed", 20_000, lambda n: ['{"add":{"body":"a"}}\n{"delete":1}'] + ['{"replace":1,"with":{"body":"a"}}\n{"delete":1}'] * n, "ok deleted 1"),
+    (
+        "a document, added and removed",
+        20_000,
+        lambda n: ['{"replace":1,"with":{"body":"a"}}\n{"delete":1}'] * n,
+        "ok deleted 1",
+    ),
 ]
 
 

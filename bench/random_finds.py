@@ -125,7 +125,7 @@ def wanted(find):
 
 
 def agree(ours, plain, few=0):
-    """Whether an answer is one that the plain program's allows, and tells the true count where fewer than `few` match."""
+    """Whether an answer is one that the plain program's allows, and the true count where fewer than `few` match."""
     if not (ours[0].startswith("found ") and plain[0].startswith("found ")):
         return ours == plain
     mine, true = (dict(word.split("=") for word in told[0].split()[1:]) for told in (ours, plain))

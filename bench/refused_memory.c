@@ -1,6 +1,6 @@
 /* Stands before the allocator of the C library, and refuses one request for memory: the one with the number in REFUSED,
-   counted from main, and with REFUSED_ALL all behind it. At its end the program writes the number of requests to the file
-   COUNTED; at the refusal already, so that it tells of it where the program does not come to its end. */
+   counted from main, and with REFUSED_ALL all behind it. At its end the program writes the number of requests to the
+   file COUNTED; at the refusal already, so that it tells of it where the program does not come to its end. */
 #define _GNU_SOURCE
 #include <dlfcn.h>
 #include <errno.h>
@@ -73,8 +73,8 @@ static int begin(int words, char **word, char **settings)
 }
 
 /* What the start of each program calls: its main is put behind begin. */
-int __libc_start_main(int (*main)(int, char **, char **), int words, char **word, void (*init)(void), void (*fini)(void),
-                      void (*rtld_fini)(void), void *stack_end)
+int __libc_start_main(int (*main)(int, char **, char **), int words, char **word, void (*init)(void),
+                      void (*fini)(void), void (*rtld_fini)(void), void *stack_end)
 {
     int (*start)(int (*)(int, char **, char **), int, char **, void (*)(void), void (*)(void), void (*)(void), void *) =
         dlsym(RTLD_NEXT, "__libc_start_main");

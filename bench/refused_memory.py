@@ -1,12 +1,12 @@
 #!/usr/bin/env python3
-"""Runs the built sk_tool with one request for memory refused, the first, the second and so on, until a run makes no more, and
-then with that one and all behind it refused. Each run must end with 5, say `no memory`, and have put whole answers, to
-first lines; or put all, and end as if nothing was refused (where a vector that takes an iterator's items is refused what the
-iterator announced, the library asks again, for one). Ends with 1 where one does not.
+"""Runs the built sk_tool with one request for memory refused, the first, the second and so on, until a run makes no
+more, and then with that one and all behind it refused. Each run must end with 5, say `no memory`, and have put whole answers,
+to first lines; or put all, and end as if nothing was refused (where a vector that takes an iterator's items is refused
+what the iterator announced, the library asks again, for one). Ends with 1 where one does not.
 
 Wants cc and the built program: (cd crates/sk_tool && rt run). Run it at the top of the repository:
-python3 bench/refused_memory.py [STEP [FOLDER [STREAMS]]], every STEPth request being refused, FOLDER being where crates/ is,
-and 30 requests of each of so many streams of bench/streams.py being refused, by chance, behind the rows.
+python3 bench/refused_memory.py [STEP [FOLDER [STREAMS]]], every STEPth request being refused, FOLDER being where
+crates/ is, and 30 requests of each of so many streams of bench/streams.py being refused, by chance, behind the rows.
 
 refused_memory.c stands before the C library's allocator, and counts from the program's main on: what the loader and the
 library take before is not refused."""
@@ -21,8 +21,8 @@ import streams
 HERE = os.path.dirname(os.path.realpath(__file__))
 
 DOCUMENTS = """\
-{"schema":[{"name":"body","kind":"text"},{"name":"lang","kind":"filter","prefix":"L"},{"name":"year","kind":"number","slot":0},\
-{"name":"site","kind":"word","slot":1}]}
+{"schema":[{"name":"body","kind":"text"},{"name":"lang","kind":"filter","prefix":"L"},\
+{"name":"year","kind":"number","slot":0},{"name":"site","kind":"word","slot":1}]}
 {"add":{"body":"red fox red","lang":"en","year":1990,"site":"a"},"data":"one"}
 {"add":{"body":"Red hen","lang":"en","year":2000,"site":"a"}}
 {"add":{"body":"fox den","lang":"fr","year":2010,"site":"b"}}
@@ -66,7 +66,12 @@ GONE = "".join(f'{{"delete":{number}}}\n' for number in range(20, 130))
 # A title, the words, the records and the input.
 ROWS = [
     ("two words", ["run"], "", DOCUMENTS + '{"find":"red fox"}\n'),
-    ("collapsed", ["run"], "", DOCUMENTS + '{"find":"red fox","collapse":"site"}\n{"find":"red fox","collapse":"site","max":2}\n'),
+    (
+        "collapsed",
+        ["run"],
+        "",
+        DOCUMENTS + '{"find":"red fox","collapse":"site"}\n{"find":"red fox","collapse":"site","max":2}\n',
+    ),
     (
         "by value",
         ["run"],
@@ -94,7 +99,8 @@ class Runs:
             file.write(records)
         self.words = [program] + [self.file if word == "FILE" else word for word in words]
         self.text = text
-        self.settings = os.environ | {"LD_PRELOAD": os.path.join(folder, "refused.so"), "COUNTED": os.path.join(folder, "counted")}
+        shim, counted = (os.path.join(folder, name) for name in ("refused.so", "counted"))
+        self.settings = os.environ | {"LD_PRELOAD": shim, "COUNTED": counted}
 
     def run(self, refused, others=False):
         """How a run ended, and how many requests it made: those up to the refused one, where it did not tell more."""
@@ -155,13 +161,14 @@ def main():
     count = int(sys.argv[3]) if len(sys.argv) > 3 else 0
     bad = 0
     with tempfile.TemporaryDirectory() as folder:
-        shim = ["cc", "-O2", "-shared", "-fPIC", "-o", os.path.join(folder, "refused.so"), os.path.join(HERE, "refused_memory.c")]
-        subprocess.run(shim, check=True)
+        shim, source = os.path.join(folder, "refused.so"), os.path.join(HERE, "refused_memory.c")
+        subprocess.run(["cc", "-O2", "-shared", "-fPIC", "-o", shim, source], check=True)
         for title, words, records, text in ROWS:
             whole, passed, wrong = tried(Runs(program, folder, words, records.encode(), text.encode()), step)
             bad += len(wrong)
             print(f"{title}: ends with {whole[0]}, {whole[3]} requests; {len(wrong)} wrong")
-            print(f"    whole without these: {passed[False] or 'none'}; without these and all behind: {passed[True] or 'none'}", flush=True)
+            one, all_behind = (numbers or "none" for numbers in passed.values())
+            print(f"    whole without these: {one}; without these and all behind: {all_behind}", flush=True)
             for refused in wrong[:5]:
                 print("   ", refused)
         bad += sum(len(tried_by_chance(program, folder, seed)) for seed in range(count))

@@ -1,9 +1,9 @@
 #!/usr/bin/env python3
-"""Holds the built sk_tool against the built sk_reference over hostile streams of lines, made from a seed: schemas, edits by id
-and by filter, finds by text and by tree with options, shows, query texts behind records, numbers at their bounds, and
-lines that are cut, doubled, flipped or too long. Answer by answer: hits, order, weights and payloads equal, counts
+"""Holds the built sk_tool against the built sk_reference over hostile streams of lines, made from a seed: schemas, edits
+by id and by filter, finds by text and by tree with options, shows, query texts behind records, numbers at their bounds,
+and lines that are cut, doubled, flipped or too long. Answer by answer: hits, order, weights and payloads equal, counts
 enclosed, refusals equal, and no more steps than the rules allow, which is what sk_reference prints; the status and the
-errors equal. A stream that differs is told by its seed, and cut down to few lines that differ still; then it ends with 1.
+errors equal. A stream that differs is told by its seed, and cut down to few lines that differ; then it ends with 1.
 
 Wants both programs: (cd crates/sk_tool && rt run; cd ../sk_reference && rt run). Run it at the top of the repository:
 python3 bench/streams.py [STREAMS [FIRST [FOLDER]]], FIRST being the first seed and FOLDER where crates/ is."""
@@ -22,11 +22,13 @@ BOUNDS = [0, 1, 2, 127, 128, 255, 256, 2**31, 2**32 - 2, 2**32 - 1, 2**32, 2**53
 NUMBERS = [str(bound) for bound in BOUNDS] + ["-1", "-0", "1.0", "1e0", "1e3", "01", "1e400", "9" * 400, "null", "true"]
 PLAIN = ["a", "b", "c", "d", "e"]
 ODD = [
-    "fox", "FOX", "foxes", "don't", "don’t", "'a'", "café", "cafe\u0301", "CAFÉ", "straße", "STRASSE", "ﬁne", "ΌΣΟΣ", "日本",
-    "x_1", "me@example.org", "a-b", "a.b-c", "http://e.org/a", "1990", "AND", "NOT", "NEAR", "_", "x" * 64, "x" * 65,
-    "é" * 32, "é" * 33, "\u0301", "a\u0323\u0301", "a\u0301\u0323", "\U0001f98a", "\u2028", "ǅ", "İ", "\u0345", "가", "𝐀", "a\u200db",
+    "fox", "FOX", "foxes", "don't", "don’t", "'a'", "café", "cafe\u0301", "CAFÉ", "straße", "STRASSE", "ﬁne", "ΌΣΟΣ",
+    "日本", "x_1", "me@example.org", "a-b", "a.b-c", "http://e.org/a", "1990", "AND", "NOT", "NEAR", "_", "x" * 64, "x" * 65,
+    "é" * 32, "é" * 33, "\u0301", "a\u0323\u0301", "a\u0301\u0323", "\U0001f98a", "\u2028", "ǅ", "İ", "\u0345", "가", "𝐀",
+    "a\u200db",
 ]  # fmt: skip
-PAYLOADS = ["", "one", 'a"b\\c', "\n\t\r\b\f\0\x1f\x7f", "é\u2028\U0001f98a", "\nhit rank=0 id=1 weight=1 collapsed=9 data=", "</a>"]
+PAYLOADS = ["", "one", 'a"b\\c', "\n\t\r\b\f\0\x1f\x7f", "é\u2028\U0001f98a", "</a>"]
+PAYLOADS += ["\nhit rank=0 id=1 weight=1 collapsed=9 data="]
 FIELDS = [
     {"name": "title", "kind": "text", "prefix": "S", "step": 2},
     {"name": "note", "kind": "text", "step": 256},
@@ -35,6 +37,10 @@ FIELDS = [
     {"name": "year", "kind": "number", "slot": 0},
     {"name": "site", "kind": "word", "slot": 255},
 ]
+DISTANCES = ["", "/0", "/1", "/2", "/10000", "/10001", "/70000"]
+TERMS = ["a", "a", "b", "b", "c", "d", "en", "fr", "fox", "café", ":x", "Dog"]
+SIGNS = [b'"', b"{", b"}", b"[", b"]", b",", b":", b"\\", b" ", b"\0", b"\\u0000", b"\\ud800"]
+MEMBERS = [b'"data":"x"', b'"max":2', b'"op":"and"', b'"size":3', b'"x":0']
 FILTERS = ["en", "fr", "En", ":x", "", "Dog", "dog", "a b", "é"]
 SITES = ["x", "y", "z", "", "xx", "\0", "é"]
 
@@ -62,7 +68,8 @@ class Stream:
         return [field["name"] for field in self.fields if field["kind"] in kinds]
 
     def words(self, most):
-        return self.picks.choice([" ", " ", ", ", "-", ". "]).join(word(self.picks) for _ in range(self.picks.randint(0, most)))
+        between = self.picks.choice([" ", " ", ", ", "-", ". "])
+        return between.join(word(self.picks) for _ in range(self.picks.randint(0, most)))
 
     def value(self, kind):
         picks = self.picks
@@ -117,7 +124,7 @@ class Stream:
             lambda: word(picks),
             lambda: picks.choice("ab") + "*",
             lambda: '"' + self.words(3) + picks.choice(['"', '"', '"', ""]),
-            lambda: f"{word(picks)} {picks.choice(['NEAR', 'ADJ'])}{picks.choice(['', '/0', '/1', '/2', '/10000', '/10001', '/70000'])} {word(picks)}",
+            lambda: f"{word(picks)} {picks.choice(['NEAR', 'ADJ'])}{picks.choice(DISTANCES)} {word(picks)}",
             lambda: f"{picks.choice(texts)}:{word(picks)}",
             lambda: f'{picks.choice(texts)}:"{self.words(3)}"',
             lambda: f"{picks.choice(texts)}:({self.text(depth - 1)})",
@@ -139,7 +146,8 @@ class Stream:
 
     def leaf(self):
         picks = self.picks
-        term = lambda: picks.choice(["", "", "", "S", "L", "XCAT"]) + picks.choice(["a", "a", "b", "b", "c", "d", "en", "fr", "fox", "café", ":x", "Dog"])
+        term = lambda: picks.choice(["", "", "", "S", "L", "XCAT"]) + picks.choice(TERMS)
+        terms = lambda: [term() for _ in range(picks.randint(1, 3))]
         bound = lambda: picks.choice([None, number(picks), picks.choice(SITES)])
         return picks.choice(
             [
@@ -150,8 +158,8 @@ class Stream:
                 lambda: {"wildcard": picks.choice(["a", "f", "L", "XCAT", "S", "x", "zz"])},
                 lambda: {"range": [picks.choice([0, 0, 255, 1, 256]), bound(), bound()]},
                 lambda: {"synonym": list({term(), term(), term()})},
-                lambda: {"near": [picks.choice([1, 2, 3, 5, 1_048_576, 0]), *[term() for _ in range(picks.randint(1, 3))]]},
-                lambda: {"phrase": [picks.choice([1, 2, 3, 5, 1_048_576, 1_048_577]), *[term() for _ in range(picks.randint(1, 3))]]},
+                lambda: {"near": [picks.choice([1, 2, 3, 5, 1_048_576, 0]), *terms()]},
+                lambda: {"phrase": [picks.choice([1, 2, 3, 5, 1_048_576, 1_048_577]), *terms()]},
             ]
         )()
 
@@ -174,7 +182,7 @@ class Stream:
     def ask(self):
         kind = self.picks.random()
         if kind < 0.1:
-            return {"show": self.text(), **({"op": self.picks.choice(["and", "or"])} if self.picks.random() < 0.3 else {})}
+            return {"show": self.text()} | self.picks.choice([{}, {"op": "and"}, {"op": "or"}])
         if kind < 0.55:
             return {"find": self.text(), **({"op": "and"} if self.picks.random() < 0.3 else {}), **self.options()}
         return {"tree": self.tree(self.picks.randint(0, 3)), **self.options()}
@@ -187,19 +195,20 @@ class Stream:
             to = min(len(line), at + picks.randint(1, 8))
             found = list(re.finditer(rb"\d+", line)) or [re.match(rb"", line)]
             digits = picks.choice(found)
+            bit = 1 << picks.randrange(8)
             line = picks.choice(
                 [
-                    lambda: line[:at] + bytes(byte ^ 1 << picks.randrange(8) for byte in line[at:to][:1]) + line[at + 1 :],
+                    lambda: line[:at] + bytes(byte ^ bit for byte in line[at : at + 1]) + line[at + 1 :],
                     lambda: line[:at],
                     lambda: line[at:],
                     lambda: line[:at] + line[to:],
                     lambda: line[:to] + line[at:to] + line[to:],
                     lambda: line[:at] + picks.randbytes(picks.randint(1, 3)) + line[at:],
-                    lambda: line[:at] + picks.choice([b'"', b"{", b"}", b"[", b"]", b",", b":", b"\\", b" ", b"\0", b"\\u0000", b"\\ud800"]) + line[at:],
+                    lambda: line[:at] + picks.choice(SIGNS) + line[at:],
                     lambda: line[: digits.start()] + picks.choice(NUMBERS).encode() + line[digits.end() :],
                     lambda: line + line,
                     lambda: b" \t" + line + b"\r ",
-                    lambda: line[:-1] + b"," + picks.choice([b'"data":"x"', b'"max":2', b'"op":"and"', b'"size":3', b'"x":0', line[1:-1]]) + b"}",
+                    lambda: line[:-1] + b"," + picks.choice([*MEMBERS, line[1:-1]]) + b"}",
                 ]
             )()
         return line
@@ -209,7 +218,8 @@ class Stream:
         picks = self.picks
         schema = {"schema": self.fields}
         if picks.random() < 0.1:
-            yield picks.choice([{"find": "a"}, {"schema": []}, {"schema": [{"name": "Body", "kind": "text"}]}, {"schema": self.fields * 2}, 7])
+            bad = [{"schema": fields} for fields in ([], [{**FIELDS[0], "name": "T"}], self.fields * 2)]
+            yield picks.choice([{"find": "a"}, 7, *bad])
         if picks.random() < 0.97:
             yield schema
         for _ in range(self.sizes):
@@ -323,7 +333,8 @@ def main():
         seen["lines"] += len(records) + len(lines)
         told = told_by(programs, words, records, lines, is_ended)
         for answer in told[1][0]:
-            seen[" ".join(answer[0].split()[:2]) if answer[0].startswith(("refused", "ok")) else answer[0].split()[0]] += 1
+            kind, number, *_ = answer[0].split(" ")
+            seen[f"{kind} {number}" if kind in ("refused", "ok") else kind] += 1
             seen["hits"] += len(answer) - 1
             seen["finds with hits"] += len(answer) > 1
         seen[f"status {told[1][1]}"] += 1
