@@ -74,21 +74,7 @@ fn word_of(alloc: Global, query: &Query) -> Result<Option<Text>, AllocError>
             let word = Text::new(alloc, term.as_str())?;
             Ok(Some(word))
         }
-        Query::Nothing
-        | Query::All
-        | Query::Wildcard(_)
-        | Query::And(_)
-        | Query::Or(_)
-        | Query::Xor(_)
-        | Query::Max(_)
-        | Query::AndNot(_)
-        | Query::AndMaybe(_)
-        | Query::Filter(_)
-        | Query::Near(_, _)
-        | Query::Phrase(_, _)
-        | Query::Synonym(_)
-        | Query::Scale(_, _)
-        | Query::Range(_, _, _) => Ok(None),
+        _ => Ok(None),
     }
 }
 

@@ -34,17 +34,7 @@ pub fn flat_lists(
             Ok(Some(lists))
         }
         Query::Or(parts) | Query::Max(parts) => terms_in(alloc, parts),
-        Query::Nothing
-        | Query::All
-        | Query::And(_)
-        | Query::Xor(_)
-        | Query::AndNot(_)
-        | Query::AndMaybe(_)
-        | Query::Filter(_)
-        | Query::Near(_, _)
-        | Query::Phrase(_, _)
-        | Query::Scale(_, _)
-        | Query::Range(_, _, _) => Ok(None),
+        _ => Ok(None),
     }
 }
 
@@ -73,18 +63,7 @@ pub fn rare_lists(
             let lists = terms_in(alloc, parts)?;
             Ok(led_by_first(of_two(lists), docs))
         }
-        Query::Nothing
-        | Query::All
-        | Query::Term(_)
-        | Query::Wildcard(_)
-        | Query::Or(_)
-        | Query::Xor(_)
-        | Query::Max(_)
-        | Query::Near(_, _)
-        | Query::Phrase(_, _)
-        | Query::Synonym(_)
-        | Query::Scale(_, _)
-        | Query::Range(_, _, _) => Ok(None),
+        _ => Ok(None),
     }
 }
 

@@ -108,21 +108,7 @@ fn decay_number(
             let lists = of_two(terms_in(alloc, parts)?);
             Ok(decay_of(query, find, docs, ranks, lists, hits))
         }
-        Query::Nothing
-        | Query::All
-        | Query::Term(_)
-        | Query::Wildcard(_)
-        | Query::And(_)
-        | Query::Xor(_)
-        | Query::Max(_)
-        | Query::AndNot(_)
-        | Query::AndMaybe(_)
-        | Query::Filter(_)
-        | Query::Near(_, _)
-        | Query::Phrase(_, _)
-        | Query::Synonym(_)
-        | Query::Scale(_, _)
-        | Query::Range(_, _, _) => Ok(None),
+        _ => Ok(None),
     }
 }
 
