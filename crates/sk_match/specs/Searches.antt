@@ -51,7 +51,7 @@ DecaysBehind index find query tree a b =
     Decays index tree (decay_point query (Query.term b) find index.live.documents) (ceil (Query.term b) find.options.scheme 1 index.live.documents)
     (decay_readings a b (decay_point query (Query.term b) find index.live.documents) index.live.documents 0)
 
--- What a search of this find and query may read: before the point at which a page by relevance is settled it asks its tree for little, of terms alone its tree stops there, where one of its lists leads it reads the others with it, and of two terms either may fade.
+-- What a search of this find and query may read: before the point at which a page by relevance is settled it asks its tree for little, of terms alone its tree stops there, where one of its lists leads it reads the others with it, and of an or of two terms either may fade.
 pub record Accounts (index : Indexed) (find : Find) (query : Query.Tree) (last need : ℕ) (tree : Tree) : Type 0 where
   pub calm : is_plain find ≡ true → IsCalm query find index.live.documents (stop_point query find index.live.documents) last need
   pub stops : is_plain find ≡ true → (lists : List (List ℕ)) → flat_lists query index.live.documents ≡ Some lists
@@ -116,7 +116,7 @@ PassesOver index id old new need =
 abbrev pub KeepsStops : Indexed → ℕ → ℕ → Tree → Tree → Type 0
 KeepsStops index id need old new = (point most : ℕ) → Stops index old point most → (id ≡ last_id) ⊎ MayMove point (id + 1) need old.top.greatest (gives index old point) → Stops index new point most
 
--- A tree of two terms that went past a document goes on to read no more: the fading one was asked for up to the point alone, or nothing of it is enough.
+-- A tree of an or of two terms that went past a document goes on to read no more: at the last id, where the need exceeds the ceiling, where the fading list was asked for up to the point alone, and where nothing of it is enough.
 abbrev pub KeepsDecays : Indexed → ℕ → ℕ → Tree → Tree → Type 0
 KeepsDecays index id need old new = (point greatest most : ℕ) → Decays index old point greatest most → (id ≡ last_id) ⊎ MayFall point greatest (id + 1) need old.top.greatest → Decays index new point greatest most
 

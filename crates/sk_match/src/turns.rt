@@ -63,7 +63,7 @@ pub struct Search {
 /// What a turn of a search came to.
 #[derive(Clone, Copy, Debug, PartialEq, Eq)]
 pub enum Turn {
-    /// It saw one document, and moved past it.
+    /// It moved past one document, which it saw unless that weighs less than the cutoff.
     More,
     /// Nothing that is left can change the page.
     Done,
@@ -111,8 +111,8 @@ impl Search {
         })
     }
 
-    /// Sees the next document, unless nothing that is left can change the page. Where memory runs out the search is only to
-    /// be dropped.
+    /// Moves past the next document, unless nothing that is left can change the page; one that weighs less than the cutoff
+    /// is not seen. Where memory runs out the search is only to be dropped.
     pub fn turn<L: Ledger>(
         &mut self,
         index: &Index,

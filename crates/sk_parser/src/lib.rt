@@ -1,4 +1,4 @@
-//! From the tokens of a query text to its fault or its query.
+//! From a query text to its query, or its first fault.
 #![tactic(auto)]
 
 mod base;
