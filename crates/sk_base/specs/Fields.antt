@@ -1,5 +1,5 @@
 -- The rules on the fields of a schema.
-use Rattle.std.specs.Prelude.{◌≡◌, ◌≤◌, ℕ, Bool, true, false, ◌&&◌, ◌||◌, ◌==◌, not, nat_le, List, [], ◌∷◌, length, Option, bytes_eq, position}
+use Rattle.std.specs.Prelude.{◌≡◌, ◌≤◌, ℕ, Bool, true, false, ◌&&◌, ◌||◌, ◌==◌, not, nat_le, List, [], ◌∷◌, length, Option, Some, None, bytes_eq, position}
 use Rattle.std.specs.List.{list_all}
 use Rattle.sk_base.specs.declared.schema.Field.{Field}
 use Rattle.sk_base.specs.declared.schema.FieldKind.{FieldKind}
@@ -12,6 +12,20 @@ is_kind (FieldKind.Text prefix step) = is_prefix prefix && nat_le 1 step && nat_
 is_kind (FieldKind.Filter prefix) = not (length prefix == 0) && is_prefix prefix
 is_kind (FieldKind.Number slot) = nat_le slot 255
 is_kind (FieldKind.Word slot) = nat_le slot 255
+
+-- The prefix of the terms of a field of this kind, empty where it has none.
+abbrev pub kind_prefix : FieldKind → List ℕ
+kind_prefix (FieldKind.Text prefix step) = prefix
+kind_prefix (FieldKind.Filter prefix) = prefix
+kind_prefix (FieldKind.Number slot) = []
+kind_prefix (FieldKind.Word slot) = []
+
+-- The slot of the values of a field of this kind, none where it has no values.
+abbrev pub kind_slot : FieldKind → Option ℕ
+kind_slot (FieldKind.Text prefix step) = None
+kind_slot (FieldKind.Filter prefix) = None
+kind_slot (FieldKind.Number slot) = Some slot
+kind_slot (FieldKind.Word slot) = Some slot
 
 -- A field keeps the rules of its name and of its kind.
 abbrev pub is_field : Field → Bool

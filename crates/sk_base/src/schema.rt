@@ -97,7 +97,31 @@ impl Field {
 }
 
 impl FieldKind {
-    ghost use Rattle.sk_base.specs.Fields.{is_kind, kinds_clash};
+    ghost use Rattle.sk_base.specs.Fields.{is_kind, kinds_clash, kind_prefix, kind_slot};
+
+    /// The prefix of its terms, empty where it has none.
+    pub fn prefix(&self) -> &str
+        ensures { result.now ≡ kind_prefix self.now }
+    {
+        match self {
+            FieldKind::Text(prefix, _) => prefix.as_str(),
+            FieldKind::Filter(prefix) => prefix.as_str(),
+            FieldKind::Number(_) => "",
+            FieldKind::Word(_) => "",
+        }
+    }
+
+    /// The slot of its values, if it has any.
+    pub fn slot(&self) -> Option<u32>
+        ensures { result ≡ kind_slot self.now }
+    {
+        match self {
+            FieldKind::Text(_, _) => None,
+            FieldKind::Filter(_) => None,
+            FieldKind::Number(slot) => Some(*slot),
+            FieldKind::Word(slot) => Some(*slot),
+        }
+    }
 
     fn is_sound(&self) -> bool
         ensures { result ≡ is_kind self.now }

@@ -212,15 +212,16 @@ impl Chunk {
     }
 
     /// Puts the ids of all entries behind those, for one who changes the list. It is no reading: a shared reference
-    /// does not show them.
-    pub fn put_ids(&mut self, ids: &mut Vec<u32>) -> Result<(), AllocError>
-        ensures ok { OnOk result (ids.new.items ≡ ids.old.items ++ ids_of self.old) }
+    /// does not show them. Where memory runs out the ids are given up.
+    pub fn put_ids(&mut self, ids: Vec<u32>) -> Result<Vec<u32>, AllocError>
+        ensures ids { IfOk result (λ all. all.items ≡ ids.items ++ ids_of self.old) }
         ensures same { self.new ≡ self.old }
     {
+        let mut ids = ids;
         'entries: for entry in self.entries.as_slice() {
             ids.push(entry.id())?;
         }
-        Ok(())
+        Ok(ids)
     }
 }
 

@@ -42,8 +42,7 @@ fn each_call_succeeds_with_memory(rt: HostRuntime) -> Result<(), Fail> {
     let mut next = Chunk::one(rt.alloc(), 4294967295, 5)?;
     chunk.join(&mut next)?;
     assert_eq!(rt; next.head(), Chunk::new(rt.alloc()).head());
-    let mut ids = Vec::new(rt.alloc());
-    chunk.put_ids(&mut ids)?;
+    let ids = chunk.put_ids(Vec::new(rt.alloc()))?;
     assert_eq!(rt; ids.as_slice(), [1, 4294967295].as_slice());
     let text = format!(in rt.alloc(); "{chunk:?}")?;
     assert_eq!(rt; text.as_str(), "Chunk of 2");

@@ -1,5 +1,5 @@
 //! What is kept beside documents.
-ghost use Rattle.std.specs.Prelude.{◌≡◌, ◌≤◌, Some, None, IfOk, OnOk};
+ghost use Rattle.std.specs.Prelude.{◌≡◌, ◌≤◌, Some, None, IfOk};
 ghost use Rattle.sk_sorted.specs.Entries.{RiseAbove};
 ghost use Rattle.sk_base.specs.Numbers.{Docs};
 ghost use Rattle.sk_model.specs.Edits.{document_at, put_document, without_id};
@@ -14,10 +14,10 @@ pub trait Beside: Drop {
     /// It is what these documents make it.
     ghost stands: { Self → Docs → Type 0 };
 
-    /// Notes a document under an id that no document has.
-    fn note(&mut self, id: DocId, doc: &Doc) -> Result<(), AllocError>
+    /// Notes a document under an id that no document has. Where memory runs out it is given up.
+    fn note(self, id: DocId, doc: &Doc) -> Result<Self, AllocError>
         requires { 1 ≤ id }
-        ensures { OnOk result ((docs : Docs) → RiseAbove 0 docs → document_at id docs ≡ None → stands self.old docs → stands self.new (put_document id doc.now docs)) };
+        ensures { IfOk result (λ noted. (docs : Docs) → RiseAbove 0 docs → document_at id docs ≡ None → stands self docs → stands noted (put_document id doc.now docs)) };
 
     /// Forgets a document. Want of memory stops nothing.
     fn forget(&mut self, id: DocId, doc: &Doc)

@@ -140,9 +140,9 @@ impl<B: Beside> Documents<B> {
             schema,
             mut map,
             highest,
-            mut beside,
+            beside,
         } = self;
-        beside.note(id, &doc)?;
+        let beside = beside.note(id, &doc)?;
         let _terms = doc.terms.as_slice();
         map.insert(id, doc)?;
         Ok(Documents {

@@ -1,15 +1,15 @@
 -- The tokens of a list as parts of a query, each bracket being one part already.
-use Rattle.std.specs.Prelude.{ℕ, ◌+◌, ◌-◌, max, Bool, true, false, List, [], ◌∷◌, ◌++◌, length, map, if◌then◌else◌, Option, Some, None}
+use Rattle.std.specs.Prelude.{ℕ, ◌+◌, ◌-◌, max, Bool, true, false, List, [], ◌∷◌, ◌++◌, length, map, if◌then◌else◌, Option, Some, None, unwrap_or}
 use Rattle.std.specs.List.{slice_get}
 use Rattle.std.specs.Str.Parse.{digits_value}
 use Rattle.sk_base.specs.declared.schema.Field.{Field}
 use Rattle.sk_base.specs.declared.schema.FieldKind.{FieldKind}
-use Rattle.sk_base.specs.declared.schema.FieldKind.TheVariants as FieldKind
+use Rattle.sk_base.specs.Fields.{kind_prefix, kind_slot}
 use Rattle.sk_base.specs.Terms.{prefixed}
 use Rattle.sk_query.specs.Trees.{Tree, nothing, term, wildcard, near, phrase, range, Limit, unbounded, number, bytes}
 use Rattle.sk_grammar.specs.declared.token.Kind.{Kind}
 use Rattle.sk_grammar.specs.declared.token.Kind.TheVariants as Kind
-use Rattle.sk_grammar.specs.Bounds.{halves}
+use Rattle.sk_grammar.specs.Bounds.{halves, is_number_kind}
 
 -- A part of a list of tokens.
 pub data Part : Type 0 where
@@ -27,12 +27,6 @@ pub data Part : Type 0 where
   operator : Kind → Part
 
 -- The prefix of a field's terms.
-abbrev pub kind_prefix : FieldKind → List ℕ
-kind_prefix (FieldKind.Text prefix step) = prefix
-kind_prefix (FieldKind.Filter prefix) = prefix
-kind_prefix (FieldKind.Number slot) = []
-kind_prefix (FieldKind.Word slot) = []
-
 abbrev pub prefix_of : Option Field → List ℕ
 prefix_of None = []
 prefix_of (Some field) = kind_prefix (Field.kind field)
@@ -51,17 +45,11 @@ side_by_side (t ∷ u ∷ ts) = phrase (length (t ∷ u ∷ ts)) (t ∷ u ∷ ts
 -- A bound of a field of this kind: an open one, a number, or the text as it is written.
 abbrev pub limit_in : FieldKind → List ℕ → Limit
 limit_in kind [] = unbounded
-limit_in (FieldKind.Number slot) (b ∷ bs) = number (digits_value 10 (b ∷ bs))
-limit_in (FieldKind.Text prefix step) (b ∷ bs) = bytes (b ∷ bs)
-limit_in (FieldKind.Filter prefix) (b ∷ bs) = bytes (b ∷ bs)
-limit_in (FieldKind.Word slot) (b ∷ bs) = bytes (b ∷ bs)
+limit_in kind (b ∷ bs) = if is_number_kind kind then number (digits_value 10 (b ∷ bs)) else bytes (b ∷ bs)
 
--- The slot of a field.
+-- The slot of a field, 0 where it has none.
 abbrev pub slot_of : FieldKind → ℕ
-slot_of (FieldKind.Number slot) = slot
-slot_of (FieldKind.Word slot) = slot
-slot_of (FieldKind.Text prefix step) = 0
-slot_of (FieldKind.Filter prefix) = 0
+slot_of kind = unwrap_or (kind_slot kind) 0
 
 -- The range of a field: its slot, between the two bounds of the text.
 abbrev pub range_in : Option Field → List ℕ → Tree

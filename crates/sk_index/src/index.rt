@@ -100,7 +100,7 @@ impl Index {
         self.documents.beside().terms.find(term)
     }
 
-    /// The numbers of all terms that begin with the prefix, in byte order of the terms. One search finds the first.
+    /// The numbers of terms that begin with the prefix, none left out that a live document has, in byte order of the terms. One search finds the first.
     pub fn with_prefix(&self, prefix: &[u8]) -> Result<Vec<usize>, AllocError>
         ensures { IfOk result (λ ns. AreAllWith prefix.now self.now.terms self.now.live.documents ns.items) }
     {
@@ -242,10 +242,8 @@ fn has_slot(fields: &[Field], slot: u32) -> bool
 fn keeps_slot(kind: &FieldKind, slot: u32) -> bool
     ensures { result ≡ keeps_slot slot kind.now }
 {
-    match kind {
-        FieldKind::Text(_, _) => false,
-        FieldKind::Filter(_) => false,
-        FieldKind::Number(own) => *own == slot,
-        FieldKind::Word(own) => *own == slot,
+    match kind.slot() {
+        None => false,
+        Some(own) => own == slot,
     }
 }

@@ -1,5 +1,5 @@
 //! The lists that an index keeps beside its documents.
-ghost use Rattle.std.specs.Prelude.{◌≡◌, ◌≤◌, Some, None, IfOk, OnOk};
+ghost use Rattle.std.specs.Prelude.{◌≡◌, ◌≤◌, Some, None, IfOk};
 
 use crate::slot_lists::SlotLists;
 use crate::term_lists::TermLists;
@@ -22,11 +22,12 @@ impl Beside for Lists {
 
     ghost stands = { λ l docs. Stands l.all l.terms l.slots docs };
 
-    fn note(&mut self, id: DocId, doc: &Doc) -> Result<(), AllocError> {
-        self.all.insert(id, 0)?;
-        self.terms.put_all(id, doc.terms.as_slice())?;
-        self.slots.set_all(id, doc.values.as_slice())?;
-        Ok(())
+    fn note(self, id: DocId, doc: &Doc) -> Result<Lists, AllocError> {
+        let mut lists = self;
+        lists.all.insert(id, 0)?;
+        lists.terms.put_all(id, doc.terms.as_slice())?;
+        lists.slots.set_all(id, doc.values.as_slice())?;
+        Ok(lists)
     }
 
     fn forget(&mut self, id: DocId, doc: &Doc) {

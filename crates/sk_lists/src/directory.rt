@@ -118,20 +118,21 @@ impl Directory {
         true
     }
 
-    /// The ids of all entries, behind those that are there.
-    pub fn put_ids(&mut self, ids: &mut Vec<u32>) -> Result<(), AllocError>
-        ensures ok { OnOk result (ids.new.items ≡ ids.old.items ++ ids_of (flat self.old)) }
+    /// The ids of all entries, behind these, which are given up where memory runs out.
+    pub fn put_ids(&mut self, ids: Vec<u32>) -> Result<Vec<u32>, AllocError>
+        ensures ids { IfOk result (λ all. all.items ≡ ids.items ++ ids_of (flat self.old)) }
         ensures same { self.new ≡ self.old }
     {
+        let mut ids = ids;
         'chunks: for at in 0..self.chunks.len() {
-            self.put_ids_of(at, ids)?;
+            ids = self.put_ids_of(at, ids)?;
         }
-        Ok(())
+        Ok(ids)
     }
 
-    fn put_ids_of(&mut self, at: usize, ids: &mut Vec<u32>) -> Result<(), AllocError>
+    fn put_ids_of(&mut self, at: usize, ids: Vec<u32>) -> Result<Vec<u32>, AllocError>
         requires { at < length self.old }
-        ensures ok { OnOk result (ids.new.items ≡ ids.old.items ++ ids_of (get_or self.old at [])) }
+        ensures ids { IfOk result (λ all. all.items ≡ ids.items ++ ids_of (get_or self.old at [])) }
         ensures same { self.new ≡ self.old }
     {
         self.chunks[at].put_ids(ids)

@@ -151,12 +151,11 @@ impl List {
         ensures ok { IfOk result (λ ids. ids.items ≡ ids_of (flat self.old)) }
         ensures same { self.new ≡ self.old }
     {
-        let mut ids = Vec::new(alloc);
+        let ids = Vec::new(alloc);
         match &mut self.form {
-            Form::Many(directory) => directory.put_ids(&mut ids)?,
-            Form::One(chunk) => chunk.put_ids(&mut ids)?,
+            Form::Many(directory) => directory.put_ids(ids),
+            Form::One(chunk) => chunk.put_ids(ids),
         }
-        Ok(ids)
     }
 }
 

@@ -13,7 +13,8 @@ use Rattle.sk_query.specs.Fits.{is_given}
 use Rattle.sk_grammar.specs.declared.token.Kind.{Kind}
 use Rattle.sk_grammar.specs.Characters.{group_len, inner, is_good, runs_on, terms_in}
 use Rattle.sk_grammar.specs.Pieces.{Piece, token_piece, longer, quote_piece, is_starred, is_one, first_term, distance, distant, operator_of, words_kind, group_kind, group_of_len, group_piece, text_piece, filter_piece, range_piece, value_piece, colon_piece, field_piece, mark_piece, takes_mark, is_marked, last_piece, piece_at}
-use Rattle.sk_grammar.specs.Parts.{kind_prefix, prefix_of}
+use Rattle.sk_base.specs.Fields.{kind_prefix}
+use Rattle.sk_grammar.specs.Parts.{prefix_of}
 use Rattle.sk_meaning.proofs.TermLemmas.{first_holds, terms_given}
 
 -- The words of a token are not empty, and the prefix of a filter's field is not.

@@ -15,6 +15,7 @@ use Rattle.sk_base.specs.declared.record.Entry.{Entry}
 use Rattle.sk_base.specs.declared.record.FieldValue.{FieldValue}
 use Rattle.sk_base.specs.declared.schema.Field.{Field}
 use Rattle.sk_base.specs.declared.schema.FieldKind.{FieldKind}
+use Rattle.sk_base.specs.Fields.{kind_slot}
 use Rattle.sk_base.specs.Terms.{prefixed}
 
 -- A document: its terms with wdf and positions, its values by slot, and its payload.
@@ -147,12 +148,14 @@ document_of fields given = record {
   payload = given.payload;
 }
 
+-- There is a slot, and it is this one.
+abbrev pub is_own : ℕ → Option ℕ → Bool
+is_own slot None = false
+is_own slot (Some own) = own == slot
+
 -- A field of this kind keeps its values in the slot.
 abbrev pub keeps_slot : ℕ → FieldKind → Bool
-keeps_slot slot (FieldKind.Text prefix step) = false
-keeps_slot slot (FieldKind.Filter prefix) = false
-keeps_slot slot (FieldKind.Number own) = own == slot
-keeps_slot slot (FieldKind.Word own) = own == slot
+keeps_slot slot kind = is_own slot (kind_slot kind)
 
 -- A field of the schema keeps its values in the slot.
 abbrev pub has_slot : ℕ → List Field → Bool

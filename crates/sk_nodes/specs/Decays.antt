@@ -18,7 +18,7 @@ pub record Decays (i : Indexed) (t : Tree) (point greatest most : ℕ) : Type 0 
 abbrev pub MayFall : ℕ → ℕ → ℕ → ℕ → ℕ → Type 0
 MayFall point greatest target need ceiling = (ceiling < need) ⊎ MayLeave point greatest target need
 
--- A tree of two terms either of which may fade behind the point.
+-- A tree of an or of two terms, either of which may fade behind the point.
 abbrev pub DecaysBoth : Indexed → Tree → Scheme → ℕ → List ℕ → List ℕ → Type 0
 DecaysBoth i t scheme point a b =
     Decays i t point (term_ceil scheme 1 b i.live.documents) (decay_readings a b point i.live.documents 0) × Decays i t point (term_ceil scheme 1 a i.live.documents) (decay_readings b a point i.live.documents 0)

@@ -28,11 +28,11 @@ pub record StandsOn (i : Indexed) (t : Top) (s : Shape) : Type 0 where
 abbrev pub are_open : ℕ → ℕ → Bool
 are_open a b = nat_lt a (2 ^ 32) && nat_lt b (2 ^ 32)
 
--- What a fading list may read that is sought from the head of the other alone, of which it was given a room: 128 entries of it are spent for an entry behind the point once the list was sought from there. The head of the other list comes first.
+-- What a fading list may read that is sought from the head of the other alone, of which it was given a room: 128 entries of it are spent for an entry behind the point once the list was sought from there; nothing where one has ended. The head of the other list comes first.
 abbrev pub following_room : ℕ → ℕ → ℕ → ℕ → ℕ
 following_room point a b room = if are_open a b then (if nat_lt point a && nat_le a b then room - 128 else room) else 0
 
--- What a fading list may read that leads: where the two meet behind the point, 128 entries are spent, and before it is 255 ahead.
+-- What a fading list may read that leads: where the two stand at one id behind the point, 128 entries are spent, and else it is 255 ahead; nothing where one has ended.
 abbrev pub leading_room : ℕ → ℕ → ℕ → ℕ → ℕ
 leading_room point a b room = if are_open a b then (if nat_lt point a && (a == b) then room - 128 else room + 255) else 0
 
@@ -76,7 +76,7 @@ IsFading i greatest false (pair form ta a tb b) = IsFadingForm form × (StandsOn
 IsFading i greatest first (odd ss) = ⊥
 IsFading i greatest first (tested p t s) = ⊥
 
--- Two sides with these heads may be sought from a target: neither has ended, where the fading list is sought by what the other gives; and no further than from behind the point otherwise.
+-- Two sides with these heads may be sought from a target: neither has ended, where nothing is given without the other list; and no further than from the id behind the point otherwise.
 abbrev pub PairMayFade : Form → Bool → ℕ → ℕ → ℕ → ℕ → Type 0
 PairMayFade Form.And first point target a b = (a < 2 ^ 32) × (b < 2 ^ 32)
 PairMayFade Form.AndMaybe true point target a b = (a < 2 ^ 32) × (b < 2 ^ 32)
@@ -118,6 +118,6 @@ MayLeave point greatest target need = (target ≤ point + 1) ⊎ (greatest < nee
 abbrev pub FadesTo : Indexed → ℕ → ℕ → ℕ → ℕ → Bool → Shape → Shape → Type 0
 FadesTo i point greatest before after first old new = (now : Bool) × (IsFading i greatest now new × (after + fading_room i point now new ≤ before + fading_room i point first old))
 
--- A node was moved on from the target under the need, with this spent before and after, and its top was this.
+-- A node was moved on from the target under the need, with this spent before and after: where it may be, what is spent and what may still be read together have not grown, whichever of the two fades.
 abbrev pub FadesUnder : Indexed → ℕ → ℕ → ℕ → ℕ → Shape → Shape → Type 0
 FadesUnder i target need before after old new = (point greatest : ℕ) (first : Bool) → IsFading i greatest first old → MayLeave point greatest target need → FadesTo i point greatest before after first old new

@@ -14,7 +14,7 @@ use Rattle.sk_nodes.specs.Flat.{room_to}
 use Rattle.sk_nodes.specs.Led.{lead_unread, count_behind}
 use Rattle.sk_nodes.specs.Fading.{room_behind, StandsOn, IsFading, fading_room}
 
--- A leaf over a list, or nothing, stands at the beginning; nothing of it weighs more than the greatest.
+-- A leaf over a list, or nothing, has no more left up to a point and behind it than the list; nothing of it weighs more than the greatest.
 pub record Begins (i : Indexed) (t : Top) (s : Shape) (list : Postings) (greatest : ℕ) : Type 0 where
   pub stands : StandsOn i t s
   pub own : greatest_in s ≤ greatest

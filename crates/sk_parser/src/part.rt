@@ -5,7 +5,7 @@ ghost use Rattle.sk_base.specs.Terms.{prefixed};
 ghost use Rattle.sk_query.specs.Trees.{limit_of, query_view};
 ghost use Rattle.sk_grammar.specs.Bounds.{halves, is_number, is_number_kind, are_numbers};
 ghost use Rattle.sk_grammar.specs.Faults.{is_bad_range, takes_numbers};
-ghost use Rattle.sk_grammar.specs.Parts.{chain, unit, kind_prefix, prefix_of, prefix_in, side_by_side, limit_in, slot_of, range_in, all_prefixed, part_of, chain_tree};
+ghost use Rattle.sk_grammar.specs.Parts.{chain, unit, prefix_of, prefix_in, side_by_side, limit_in, slot_of, range_in, all_prefixed, part_of, chain_tree};
 ghost use Rattle.sk_parser.specs.Views.{part_view, kind_range};
 
 use sk_base::{Field, FieldKind, Items, Text, prefixed};
@@ -31,23 +31,12 @@ pub(crate) enum Part {
     Operator(Kind),
 }
 
-fn kind_prefix(kind: &FieldKind) -> &str
-    ensures { result.now ≡ kind_prefix kind.now }
-{
-    match kind {
-        FieldKind::Text(prefix, _) => prefix.as_str(),
-        FieldKind::Filter(prefix) => prefix.as_str(),
-        FieldKind::Number(_) => "",
-        FieldKind::Word(_) => "",
-    }
-}
-
 /// The prefix of the field at this place.
 pub(crate) fn prefix_of(fields: &[Field], place: usize) -> &str
     ensures { result.now ≡ prefix_of (slice_get fields.now place) }
 {
     match fields.get(place) {
-        Some(field) => kind_prefix(&field.kind),
+        Some(field) => field.kind.prefix(),
         None => "",
     }
 }
@@ -148,12 +137,7 @@ fn limit_in(alloc: Global, kind: &FieldKind, text: &str) -> Result<Bound, AllocE
 fn slot_of(kind: &FieldKind) -> u32
     ensures { result ≡ slot_of kind.now }
 {
-    match kind {
-        FieldKind::Number(slot) => *slot,
-        FieldKind::Word(slot) => *slot,
-        FieldKind::Text(_, _) => 0,
-        FieldKind::Filter(_) => 0,
-    }
+    kind.slot().unwrap_or(0)
 }
 
 /// The range that a text says of a field.

@@ -13,7 +13,7 @@ use Rattle.sk_base.specs.declared.record.FieldValue.{FieldValue}
 use Rattle.sk_base.specs.declared.record.Record.{Record}
 use Rattle.sk_base.specs.declared.schema.Field.{Field}
 use Rattle.sk_base.specs.declared.schema.FieldKind.{FieldKind}
-use Rattle.sk_base.specs.Fields.{are_fields}
+use Rattle.sk_base.specs.Fields.{are_fields, kind_slot}
 use Rattle.sk_base.specs.Terms.{prefixed}
 use Rattle.sk_record.specs.declared.row.Sort.{Sort}
 use Rattle.sk_json.specs.Values.{all_names, whole_number, texts_of}
@@ -79,26 +79,17 @@ abbrev pub record_of : List Field → Given → Option Record
 record_of fields given = option_map (λ entries. record { values = entries; payload = given.payload }) (entries_of fields given.values)
 
 -- The prefix of a filter.
-abbrev pub kind_prefix : FieldKind → Option (List ℕ)
-kind_prefix (FieldKind.Text prefix step) = None
-kind_prefix (FieldKind.Filter prefix) = Some prefix
-kind_prefix (FieldKind.Number slot) = None
-kind_prefix (FieldKind.Word slot) = None
+abbrev pub filter_prefix : FieldKind → Option (List ℕ)
+filter_prefix (FieldKind.Filter prefix) = Some prefix
+filter_prefix _ = None
 
 -- The prefix of the named filter.
 abbrev pub prefix_named : List Field → List ℕ → Option (List ℕ)
-prefix_named fields name = option_and_then (λ field. kind_prefix field.kind) (field_named fields name)
+prefix_named fields name = option_and_then (λ field. filter_prefix field.kind) (field_named fields name)
 
 -- The term of a text of the named filter.
 abbrev pub term_of : List Field → List ℕ × List ℕ → Option (List ℕ)
 term_of fields pair = option_map (λ prefix. prefixed prefix pair.1) (prefix_named fields pair.0)
-
--- The slot of a number or a word.
-abbrev pub kind_slot : FieldKind → Option ℕ
-kind_slot (FieldKind.Text prefix step) = None
-kind_slot (FieldKind.Filter prefix) = None
-kind_slot (FieldKind.Number slot) = Some slot
-kind_slot (FieldKind.Word slot) = Some slot
 
 -- The slot of the named number or word.
 abbrev pub slot_named : List Field → List ℕ → Option ℕ

@@ -5,7 +5,7 @@ ghost use Rattle.serde_json.specs.Find.{as_str};
 ghost use Rattle.sk_json.specs.Values.{all_names};
 ghost use Rattle.sk_record.specs.Shown.{pair_shown, given_shown, asked_shown, sorted_shown, collapsed_shown, wanted_shown, shape_shown};
 ghost use Rattle.sk_record.specs.Told.{asked_by, sought_by, told_by};
-ghost use Rattle.sk_record.specs.FieldRules.{field_named, filter_texts, value_of, member_value, with_entry, entries_from, names_fields, entries_of, record_of, prefix_named, kind_prefix, term_of, slot_named, kind_slot, keyed, order_of, collapse_of, sought_of, replaced_by, command_of};
+ghost use Rattle.sk_record.specs.FieldRules.{field_named, filter_texts, value_of, member_value, with_entry, entries_from, names_fields, entries_of, record_of, prefix_named, filter_prefix, term_of, slot_named, keyed, order_of, collapse_of, sought_of, replaced_by, command_of};
 
 use crate::row::{AskRow, CollapseRow, FindRow, OrderRow, RecordRow, Row, Sort, TextRow};
 use serde_json::{Map, Value};
@@ -93,11 +93,11 @@ fn term_of(alloc: Global, fields: &[Field], pair: TextRow<'_>) -> Result<Option<
 fn prefix_named<'a>(fields: &'a [Field], name: &str) -> Option<&'a str>
     ensures { option_map (λ s. s.now) result ≡ prefix_named fields.entry.now name.now }
 {
-    kind_prefix(&field_named(fields, name)?.kind)
+    filter_prefix(&field_named(fields, name)?.kind)
 }
 
-fn kind_prefix(kind: &FieldKind) -> Option<&str>
-    ensures { option_map (λ s. s.now) result ≡ kind_prefix kind.entry.now }
+fn filter_prefix(kind: &FieldKind) -> Option<&str>
+    ensures { option_map (λ s. s.now) result ≡ filter_prefix kind.entry.now }
 {
     match kind {
         FieldKind::Filter(prefix) => Some(prefix.as_str()),
@@ -108,17 +108,7 @@ fn kind_prefix(kind: &FieldKind) -> Option<&str>
 fn slot_named(fields: &[Field], name: &str) -> Option<u32>
     ensures { result ≡ slot_named fields.now name.now }
 {
-    kind_slot(&field_named(fields, name)?.kind)
-}
-
-fn kind_slot(kind: &FieldKind) -> Option<u32>
-    ensures { result ≡ kind_slot kind.now }
-{
-    match kind {
-        FieldKind::Number(slot) => Some(*slot),
-        FieldKind::Word(slot) => Some(*slot),
-        _ => None,
-    }
+    field_named(fields, name)?.kind.slot()
 }
 
 /// The find, with the slots of its fields.

@@ -1,5 +1,5 @@
 //! The live documents, with nothing beside them.
-ghost use Rattle.std.specs.Prelude.{◌≡◌, ◌<◌, ◌^◌, length, All, Some, None, IfOk, OnOk};
+ghost use Rattle.std.specs.Prelude.{◌≡◌, ◌<◌, ◌^◌, length, All, Some, None, IfOk};
 ghost use Rattle.sk_base.specs.Records.{FitsEdit};
 ghost use Rattle.sk_base.specs.Documents.{has_term};
 ghost use Rattle.sk_base.specs.Loads.{IsLight};
@@ -20,8 +20,8 @@ struct Nothing {
 impl Beside for Nothing {
     ghost stands = { λ nothing docs. Unit {0} };
 
-    fn note(&mut self, _id: DocId, _doc: &Doc) -> Result<(), AllocError> {
-        Ok(())
+    fn note(self, _id: DocId, _doc: &Doc) -> Result<Nothing, AllocError> {
+        Ok(self)
     }
 
     fn forget(&mut self, _id: DocId, _doc: &Doc) {}
