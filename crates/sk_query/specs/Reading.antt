@@ -66,6 +66,16 @@ leaf_named name (boolean b) = None
 leaf_named name (number n) = None
 leaf_named name (object ms) = None
 
+-- The name of a form of several queries.
+abbrev pub name_of : Form → List ℕ
+name_of Form.And = codes "and"
+name_of Form.Or = codes "or"
+name_of Form.Xor = codes "xor"
+name_of Form.Max = codes "max"
+name_of Form.AndNot = codes "and_not"
+name_of Form.AndMaybe = codes "and_maybe"
+name_of Form.Filter = codes "filter"
+
 -- The form of several queries, by its name.
 abbrev pub parts_named : List ℕ → Option Form
 parts_named name =

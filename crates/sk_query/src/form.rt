@@ -2,7 +2,7 @@
 ghost use Rattle.std.specs.Prelude.{◌≡◌};
 ghost use Rattle.std.specs.Option.{option_map};
 ghost use Rattle.sk_query.specs.Trees.{parts, form_of, query_view, queries_view};
-ghost use Rattle.sk_query.specs.Reading.{parts_named};
+ghost use Rattle.sk_query.specs.Reading.{name_of, parts_named};
 
 use crate::{Queries, Query};
 
@@ -31,6 +31,23 @@ pub fn parts_named(name: &str) -> Option<Form>
         "and_maybe" => Some(Form::AndMaybe),
         "filter" => Some(Form::Filter),
         _ => None,
+    }
+}
+
+impl Form {
+    /// The name of the form.
+    pub fn name(self) -> &'static str
+        ensures { result.now ≡ name_of self }
+    {
+        match self {
+            Form::And => "and",
+            Form::Or => "or",
+            Form::Xor => "xor",
+            Form::Max => "max",
+            Form::AndNot => "and_not",
+            Form::AndMaybe => "and_maybe",
+            Form::Filter => "filter",
+        }
     }
 }
 

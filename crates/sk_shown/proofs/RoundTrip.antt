@@ -8,8 +8,8 @@ use Rattle.sk_query.specs.declared.form.Form.{Form}
 use Rattle.sk_query.specs.Trees.{Limit, unbounded, Tree, nothing, all, term, wildcard, parts, near, phrase, synonym, scale, range, Trees, no_trees, tree}
 use Rattle.sk_query.specs.Trees.{number as number_limit, bytes as bytes_limit}
 use Rattle.sk_query.specs.Fits.{is_window, is_factor, is_slot, is_sound, are_sound, depth_of, depth_in, fits_tree}
-use Rattle.sk_query.specs.Reading.{number_if, windowed, limit_of_value, parts_named, read_tree, read_named, read_trees, fitting, tree_of}
-use Rattle.sk_shown.specs.Writing.{name_of, strings_of, value_of_limit, value_of, values_of}
+use Rattle.sk_query.specs.Reading.{name_of, number_if, windowed, limit_of_value, parts_named, read_tree, read_named, read_trees, fitting, tree_of}
+use Rattle.sk_shown.specs.Writing.{strings_of, value_of_limit, value_of, values_of}
 
 first : (a b : Bool) → (a && b) ≡ true → a ≡ true
 first true b h = refl

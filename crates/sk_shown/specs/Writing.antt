@@ -2,23 +2,13 @@
 use Rattle.std.specs.Prelude.{ℕ, List, map, codes}
 use Rattle.serde_json.specs.Data.{Data, null, number, string, array, object, Items, no_items, item, no_members, member, unsigned}
 use Rattle.serde_json.specs.View.{items_of}
-use Rattle.sk_query.specs.declared.form.Form.{Form}
 use Rattle.sk_query.specs.Trees.{Limit, unbounded, Tree, nothing, all, term, wildcard, parts, near, phrase, synonym, scale, range, Trees, no_trees, tree}
 use Rattle.sk_query.specs.Trees.{number as number_limit, bytes as bytes_limit}
+use Rattle.sk_query.specs.Reading.{name_of}
 
 -- An object with one member.
 abbrev pub named : List ℕ → Data → Data
 named name d = object (member name d no_members)
-
--- The name of a form of several queries.
-abbrev pub name_of : Form → List ℕ
-name_of Form.And = codes "and"
-name_of Form.Or = codes "or"
-name_of Form.Xor = codes "xor"
-name_of Form.Max = codes "max"
-name_of Form.AndNot = codes "and_not"
-name_of Form.AndMaybe = codes "and_maybe"
-name_of Form.Filter = codes "filter"
 
 -- The strings, in order.
 abbrev pub strings_of : List (List ℕ) → Items

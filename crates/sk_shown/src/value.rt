@@ -5,7 +5,7 @@ ghost use Rattle.serde_json.specs.View.{view, items_view};
 ghost use Rattle.sk_query.specs.Trees.{limit_of, query_view, queries_view};
 ghost use Rattle.sk_query.specs.Fits.{fits_tree};
 ghost use Rattle.sk_query.specs.Reading.{tree_of};
-ghost use Rattle.sk_shown.specs.Writing.{named, name_of, windowed, value_of_limit, value_of, values_of};
+ghost use Rattle.sk_shown.specs.Writing.{named, windowed, value_of_limit, value_of, values_of};
 
 use serde_json::{Map, Value};
 use sk_base::Text;
@@ -29,18 +29,18 @@ fn value_of(alloc: Global, query: &Query) -> Result<Value, AllocError>
         Query::All => array_named(alloc, "all", Vec::new(alloc)),
         Query::Term(term) => text_named(alloc, "term", term),
         Query::Wildcard(prefix) => text_named(alloc, "wildcard", prefix),
-        Query::And(parts) => array_named(alloc, name_of(Form::And), values_of(alloc, parts)?),
-        Query::Or(parts) => array_named(alloc, name_of(Form::Or), values_of(alloc, parts)?),
-        Query::Xor(parts) => array_named(alloc, name_of(Form::Xor), values_of(alloc, parts)?),
-        Query::Max(parts) => array_named(alloc, name_of(Form::Max), values_of(alloc, parts)?),
+        Query::And(parts) => array_named(alloc, Form::And.name(), values_of(alloc, parts)?),
+        Query::Or(parts) => array_named(alloc, Form::Or.name(), values_of(alloc, parts)?),
+        Query::Xor(parts) => array_named(alloc, Form::Xor.name(), values_of(alloc, parts)?),
+        Query::Max(parts) => array_named(alloc, Form::Max.name(), values_of(alloc, parts)?),
         Query::AndNot(parts) => {
-            array_named(alloc, name_of(Form::AndNot), values_of(alloc, parts)?)
+            array_named(alloc, Form::AndNot.name(), values_of(alloc, parts)?)
         }
         Query::AndMaybe(parts) => {
-            array_named(alloc, name_of(Form::AndMaybe), values_of(alloc, parts)?)
+            array_named(alloc, Form::AndMaybe.name(), values_of(alloc, parts)?)
         }
         Query::Filter(parts) => {
-            array_named(alloc, name_of(Form::Filter), values_of(alloc, parts)?)
+            array_named(alloc, Form::Filter.name(), values_of(alloc, parts)?)
         }
         Query::Near(window, texts) => windowed(alloc, "near", *window, texts.as_slice()),
         Query::Phrase(window, texts) => windowed(alloc, "phrase", *window, texts.as_slice()),
@@ -74,21 +74,6 @@ fn values_of(alloc: Global, parts: &[Query]) -> Result<Vec<Value>, AllocError>
         made.push(value_of(alloc, part)?)?;
     }
     Ok(made)
-}
-
-/// The name of a form of several queries.
-fn name_of(form: Form) -> &'static str
-    ensures { result.now ≡ name_of form }
-{
-    match form {
-        Form::And => "and",
-        Form::Or => "or",
-        Form::Xor => "xor",
-        Form::Max => "max",
-        Form::AndNot => "and_not",
-        Form::AndMaybe => "and_maybe",
-        Form::Filter => "filter",
-    }
 }
 
 /// A window, and behind it the texts.
