@@ -1,10 +1,15 @@
 -- The words on terms, computed.
 use Rattle.std.proofs.Common.{◌≡◌, ℕ, List, [], ◌∷◌, Some, None, true, false, codes, refl}
 use Rattle.std.specs.declared.cmp.Ordering.TheVariants.{Less, Greater}
+use Rattle.sk_dict.specs.Cuts.{cut}
 use Rattle.sk_dict.specs.Terms.{term_at, number_of, number_for, with_term, term_cmp, begins_with}
 
 abbrev three : List (List ℕ)
 three = codes "fo" ∷ [] ∷ codes "foo" ∷ []
+
+-- they stand one behind the other, the empty one between the two
+packed : cut 0 (2 ∷ 2 ∷ 5 ∷ []) (codes "fofoo") ≡ three
+packed = refl
 
 -- a term has the number of the place where it came
 known : number_of (codes "foo") three ≡ Some 2

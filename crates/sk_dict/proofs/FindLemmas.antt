@@ -1,7 +1,6 @@
 -- The number of a term by its place in the order.
 use Rattle.std.proofs.Common.{◌≡◌, ◌≢◌, ℕ, true, false, None, List, [], ◌∷◌, ◌++◌, length, sym, ap, subst, ◌∙◌}
 use Rattle.std.proofs.lemmas.Cmp.{nat_list_cmp_total, tied_itself}
-use Rattle.std.proofs.lemmas.List.{get_or_push}
 use Rattle.sk_dict.specs.Terms.{term_at, term_cmp, number_of, Precedes}
 use Rattle.sk_dict.specs.Searches.{passed, stands_before, passes, IsFirst, AllPassed}
 use Rattle.sk_dict.specs.Order.{Each, IsKnown, IsRising, IsOrder, IsPutIn}
@@ -26,8 +25,8 @@ module _ (terms : List (List ℕ)) (key : List ℕ) where
       cc))
 
 -- what was read of a term
-pub read_term : (now terms : List (List ℕ)) (n : ℕ) (text bytes : List ℕ) → terms ≡ now → text ≡ term_at terms n → bytes ≡ text → bytes ≡ term_at now n
-read_term now terms n text bytes is e f = f ∙ e ∙ ap (λ w. term_at w n) is
+pub read_term : (now terms : List (List ℕ)) (n : ℕ) (bytes : List ℕ) → terms ≡ now → bytes ≡ term_at terms n → bytes ≡ term_at now n
+read_term now terms n bytes is e = e ∙ ap (λ w. term_at w n) is
 
 -- the order of terms to which another was put keeps rising, and all its numbers have a term
 pub order_kept : (terms more : List (List ℕ)) (order : List ℕ) (term : List ℕ) → more ≡ terms ++ term ∷ [] → IsOrder terms order → IsRising more order × Each (IsKnown more) order
@@ -37,12 +36,10 @@ order_kept terms more order term made o = (
 )
 
 -- the order with a term that was not there, by what was read and written on the way
-pub order_added : (now terms more : List (List ℕ)) (order new term key : List ℕ) (number : ℕ) → terms ≡ now → more ≡ terms ++ term ∷ [] → key ≡ term_at more number → number ≡ length terms
-    → number_of term now ≡ None → IsOrder terms order → IsPutIn (passes more key false) number order new → IsOrder more new
-order_added now terms more order new term key number is made read next none o p =
+pub order_added : (now terms more : List (List ℕ)) (order new term : List ℕ) (number : ℕ) → terms ≡ now → more ≡ terms ++ term ∷ [] → number ≡ length terms
+    → number_of term now ≡ None → IsOrder terms order → IsPutIn (passes more term false) number order new → IsOrder more new
+order_added now terms more order new term number is made next none o p =
     let absent : number_of term terms ≡ None = ap (number_of term) is ∙ none in
-    let same : key ≡ term = read ∙ ap (λ w. term_at w number) made ∙ get_or_push terms term [] number (sym next) in
     let put : IsPutIn (passes (terms ++ term ∷ []) term false) (length terms) order new =
-    subst (λ w. IsPutIn (passes (terms ++ term ∷ []) term false) w order new) next
-    (subst (λ w. IsPutIn (passes (terms ++ term ∷ []) w false) number order new) same (subst (λ w. IsPutIn (passes w key false) number order new) made p)) in
+    subst (λ w. IsPutIn (passes (terms ++ term ∷ []) term false) w order new) next (subst (λ w. IsPutIn (passes w term false) number order new) made p) in
     subst (λ w. IsOrder w new) (sym made) (IsOrder-put terms term order new o (absent_from-number_of terms term absent) put)

@@ -1,16 +1,16 @@
 -- Terms are in the order of their heads, where these differ.
-use Rattle.std.proofs.Common.{◌≡◌, ℕ, zero, suc, ◌+◌, ◌*◌, ◌^◌, ◌<◌, ◌≤◌, ◌-◌, inl, inr, min, lit<, Bool, true, false, List, [], ◌∷◌, length, get_or, drop, take, map, slice_index, sym, ap, subst, ◌∙◌, refl, arith}
+use Rattle.std.proofs.Common.{◌≡◌, ℕ, zero, suc, ◌+◌, ◌*◌, ◌^◌, ◌<◌, ◌≤◌, ◌-◌, inl, inr, lit<, Bool, true, false, List, [], ◌∷◌, drop, slice_index, sym, ap, subst, ◌∙◌, refl, arith}
 use Rattle.std.specs.Ordering.{nat_cmp, ordering_then}
 use Rattle.std.specs.declared.cmp.Ordering.{Ordering}
 use Rattle.std.specs.declared.cmp.Ordering.TheVariants.{Less, Equal}
 use Rattle.std.proofs.lemmas.Bool.{cases_lt}
 use Rattle.std.proofs.lemmas.Bool.Decides.{nat_tests}
-use Rattle.std.proofs.lemmas.List.{drop-drop, get_or-drop, get_or-map, get_or-take, get_or_read, length-map, length-take, take-map}
+use Rattle.std.proofs.lemmas.List.{drop-drop, get_or-drop}
 use Rattle.std.proofs.lemmas.Grind.{pow_more}
 use Rattle.std.proofs.Math.Nat.{pow-le-pow_right}
-use Rattle.sk_dict.specs.Terms.{term_at, term_cmp}
+use Rattle.sk_dict.specs.Terms.{term_cmp}
 use Rattle.sk_dict.specs.Searches.{passed, stands_before}
-use Rattle.sk_dict.specs.Heads.{AreBytes, followed_by, head_of, AreHeads}
+use Rattle.sk_dict.specs.Heads.{AreBytes, followed_by, head_of}
 use Rattle.sk_dict.proofs.OrderLemmas.{turned}
 
 -- what follows the first byte
@@ -66,30 +66,14 @@ head_first : (a b : List ℕ) → AreBytes a → AreBytes b → head_of a < head
 unfolding head_of
 head_first a b ha hb lt = lower_first 8 0 a b ha hb lt
 
-module _ (terms now : List (List ℕ)) (heads : List ℕ) (n own head : ℕ) (key : List ℕ) (behind : Bool) (is : terms ≡ now) (h : AreHeads terms heads) (lt : n < length now)
-    (read : own ≡ get_or heads n own) (bytes : AreBytes key) (same : head ≡ head_of key) where
-  -- what was read is the head of the term
-  own_head : own ≡ head_of (term_at terms n)
-  own_head =
-      let there : n < length terms = subst (λ w. n < length w) (sym is) lt in
-      let size : length heads ≡ length terms = ap length h.heads_are ∙ length-map terms head_of in
-      get_or_read heads n own (omega arith) read 0 ∙ ap (λ w. get_or w n 0) h.heads_are ∙ get_or-map head_of terms n [] 0 there
-
-  -- the term's bytes
-  own_bytes : AreBytes (term_at terms n)
-  own_bytes = h.bytes n (subst (λ w. n < length w) (sym is) lt)
-
+module _ (own head : ℕ) (term key : List ℕ) (behind : Bool) (small : AreBytes term) (bytes : AreBytes key) (read : own ≡ head_of term) (same : head ≡ head_of key) where
   -- a lower head is passed
-  pub lower_is_passed : own < head → true ≡ stands_before key behind (term_at now n)
-  lower_is_passed less =
-      let first : term_cmp (term_at terms n) key ≡ Less = head_first (term_at terms n) key own_bytes bytes (omega (arith, own_head, same)) in
-      sym (ap (passed behind) first) ∙ ap (λ w. stands_before key behind (term_at w n)) is
+  pub lower_is_passed : own < head → true ≡ stands_before key behind term
+  lower_is_passed less = sym (ap (passed behind) (head_first term key small bytes (omega arith)))
 
   -- a higher one is not
-  pub higher_is_left : head < own → false ≡ stands_before key behind (term_at now n)
-  higher_is_left more =
-      let first : term_cmp key (term_at terms n) ≡ Less = head_first key (term_at terms n) bytes own_bytes (omega (arith, own_head, same)) in
-      sym (ap (passed behind) (turned key (term_at terms n) first)) ∙ ap (λ w. stands_before key behind (term_at w n)) is
+  pub higher_is_left : head < own → false ≡ stands_before key behind term
+  higher_is_left more = sym (ap (passed behind) (turned key term (head_first key term bytes small (omega arith))))
 
 -- one byte more of a number that has room
 pub head_more : (high i byte : ℕ) → i < 8 → high < 256 ^ i → byte < 256 → (high * 256 + byte < 256 ^ (i + 1)) × (high * 256 + byte < 2 ^ 64)
@@ -118,13 +102,3 @@ pub head_of-end : (high i : ℕ) (bs : List ℕ) → 8 ≤ i → followed_by hig
 head_of-end high i bs le e =
     let none : 8 - i ≡ 0 = omega arith in
     sym (ap (λ k. followed_by high k (drop i bs)) none) ∙ e
-
--- the first terms alone
-pub AreHeads-take : (terms fewer : List (List ℕ)) (heads left : List ℕ) (count : ℕ) → AreHeads terms heads → fewer ≡ take count terms → left ≡ take count heads → AreHeads fewer left
-AreHeads-take terms fewer heads left count h is cut = record {
-  heads_are = cut ∙ ap (take count) h.heads_are ∙ take-map head_of count terms ∙ ap (map head_of) (sym is);
-  bytes = λ n lt.
-      let there : n < length (take count terms) = subst (λ w. n < length w) is lt in
-      let size : length (take count terms) ≡ min count (length terms) = length-take count terms in
-      subst (λ w. AreBytes (term_at w n)) (sym is) (subst AreBytes (sym (get_or-take count terms n [] (omega arith))) (h.bytes n (omega arith)));
-}

@@ -6,6 +6,7 @@ mod RisingLemmas
 mod BlockLemmas
 mod OrderLemmas
 mod HeadLemmas
+mod CutLemmas
 mod FindLemmas
 mod PrefixLemmas
 mod WalkLemmas

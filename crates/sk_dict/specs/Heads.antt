@@ -1,6 +1,5 @@
 -- The first eight bytes of a term as a number.
-use Rattle.std.specs.Prelude.{◌≡◌, ◌<◌, ◌+◌, ◌*◌, ℕ, zero, suc, List, length, drop, map, slice_index}
-use Rattle.sk_dict.specs.Terms.{term_at}
+use Rattle.std.specs.Prelude.{◌<◌, ◌+◌, ◌*◌, ℕ, zero, suc, List, drop, slice_index}
 
 -- Each is a byte.
 abbrev pub AreBytes : List ℕ → Type 0
@@ -14,8 +13,3 @@ followed_by high (suc n) bs = followed_by (high * 256 + slice_index bs 0) n (dro
 -- The first eight bytes, the first the highest.
 unfoldable pub head_of : List ℕ → ℕ
 head_of bs = followed_by 0 8 bs
-
--- The heads of all terms, which are bytes.
-pub record AreHeads (terms : List (List ℕ)) (heads : List ℕ) : Type 0 where
-  pub heads_are : heads ≡ map head_of terms
-  pub bytes : (n : ℕ) → n < length terms → AreBytes (term_at terms n)

@@ -7,7 +7,6 @@ ghost use Rattle.sk_dict.specs.Searches.{start_of, IsFirst, AllPassed};
 use crate::block::Block;
 use crate::order::{find_place, number_at, numbers_with, put};
 use crate::terms::Terms;
-use sk_base::Term;
 use std::alloc::{AllocError, Global};
 use std::fmt::{Debug, Error, Formatter, Write};
 use std::marker::Model;
@@ -52,7 +51,7 @@ impl Dict {
     }
 
     /// The term with this number.
-    pub fn term(&self, number: usize) -> &str
+    pub fn term(&self, number: usize) -> &[u8]
         requires { number < length self.now }
         ensures { result.now ≡ term_at self.now number }
     {
@@ -65,7 +64,7 @@ impl Dict {
         ensures there { IfSome result (λ n. n < length self.now) }
     {
         let number = self.first(term, false)?;
-        if self.terms.get(number).as_bytes() == term {
+        if self.terms.get(number) == term {
             Some(number)
         } else {
             None
@@ -73,14 +72,14 @@ impl Dict {
     }
 
     /// The number of the term, which is given the next one where it is new.
-    pub fn add(&mut self, term: Term) -> Result<usize, AllocError>
-        ensures ok { IfOk result (λ n. n ≡ number_for term self.old) }
-        ensures after { OnOk result (self.new ≡ with_term term self.old) }
-        ensures found { IfOk result (λ n. number_of term self.new ≡ Some n) }
+    pub fn add(&mut self, term: &[u8]) -> Result<usize, AllocError>
+        ensures ok { IfOk result (λ n. n ≡ number_for term.now self.old) }
+        ensures after { OnOk result (self.new ≡ with_term term.now self.old) }
+        ensures found { IfOk result (λ n. number_of term.now self.new ≡ Some n) }
         ensures there { IfOk result (λ n. n < length self.new) }
         ensures err { OnErr result (self.new ≡ self.old) }
     {
-        match self.find(term.as_str().as_bytes()) {
+        match self.find(term) {
             Some(number) => Ok(number),
             None => self.add_new(term),
         }
@@ -94,7 +93,7 @@ impl Dict {
         ensures { MatchOption result (HasNoNext self.now prefix.now after) (λ n. IsNext self.now prefix.now after n) }
     {
         let number = self.first(self.start(prefix, after), after.is_some())?;
-        if self.term(number).as_bytes().starts_with(prefix) {
+        if self.term(number).starts_with(prefix) {
             Some(number)
         } else {
             None
@@ -131,27 +130,26 @@ impl Dict {
     {
         match after {
             None => prefix,
-            Some(number) => self.term(number).as_bytes(),
+            Some(number) => self.term(number),
         }
     }
 
     // Gives the next number to a term that is not there.
-    fn add_new(&mut self, term: Term) -> Result<usize, AllocError>
-        requires { number_of term self.old ≡ None }
+    fn add_new(&mut self, term: &[u8]) -> Result<usize, AllocError>
+        requires { number_of term.now self.old ≡ None }
         ensures ok { IfOk result (λ n. n ≡ length self.old) }
-        ensures after { OnOk result (self.new ≡ self.old ++ term ∷ []) }
-        ensures found { IfOk result (λ n. number_of term self.new ≡ Some n) }
+        ensures after { OnOk result (self.new ≡ self.old ++ term.now ∷ []) }
+        ensures found { IfOk result (λ n. number_of term.now self.new ≡ Some n) }
         ensures there { IfOk result (λ n. n < length self.new) }
         ensures err { OnErr result (self.new ≡ self.old) }
     {
         let number = self.terms.len();
         self.terms.push(term)?;
-        let key = self.terms.get(number).as_bytes();
         match put(
             &mut self.blocks,
             self.terms.allocator(),
             &self.terms,
-            key,
+            term,
             number,
         ) {
             Ok(()) => Ok(number),

@@ -137,7 +137,7 @@ pub(crate) fn numbers_with(
         let Some((number, behind)) = step(blocks, place) else {
             return Ok(found);
         };
-        if !terms.get(number).as_bytes().starts_with(prefix) {
+        if !terms.get(number).starts_with(prefix) {
             return Ok(found);
         }
         found.push(number)?;

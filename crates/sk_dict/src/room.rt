@@ -1,5 +1,5 @@
 //! Room in vectors that take much memory.
-ghost use Rattle.std.specs.Prelude.{◌≡◌, ◌<◌, OnOk};
+ghost use Rattle.std.specs.Prelude.{◌≡◌, ◌<◌, ◌≤◌, ◌+◌, OnOk};
 ghost use Rattle.std.specs.Vec.{vec_len, vec_capacity};
 
 use std::alloc::AllocError;
@@ -11,8 +11,17 @@ pub fn make_room<T>(items: &mut Vec<T>) -> Result<(), AllocError>
     ensures len { vec_len items.new ≡ vec_len items.old }
     ensures ok { OnOk result (vec_len items.new < vec_capacity items.new) }
 {
-    if items.len() < items.capacity() {
+    make_room_for(items, 1)
+}
+
+/// The same for several more.
+pub(crate) fn make_room_for<T>(items: &mut Vec<T>, count: usize) -> Result<(), AllocError>
+    ensures same { items.new.items ≡ items.old.items }
+    ensures len { vec_len items.new ≡ vec_len items.old }
+    ensures ok { OnOk result (vec_len items.new + count ≤ vec_capacity items.new) }
+{
+    if count <= items.capacity() - items.len() {
         return Ok(());
     }
-    items.reserve_exact(items.len() / 8 + 1)
+    items.reserve_exact(count.max(items.len() / 8 + 1))
 }

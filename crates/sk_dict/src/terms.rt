@@ -1,32 +1,33 @@
-//! The terms by number, with the first bytes of each beside them.
-ghost use Rattle.std.specs.Prelude.{◌≡◌, ◌<◌, ◌++◌, ◌∷◌, [], length, take, slice_index, OnOk, OnErr};
+//! The terms by number, one behind the other, with the first bytes of each beside them.
+ghost use Rattle.std.specs.Prelude.{◌≡◌, ◌<◌, ◌≤◌, ◌++◌, ◌∷◌, [], length, take, slice_index, OnOk, OnErr};
 ghost use Rattle.sk_dict.specs.Terms.{term_at};
 ghost use Rattle.sk_dict.specs.Searches.{stands_before};
 ghost use Rattle.sk_dict.specs.Heads.{AreBytes, head_of};
+ghost use Rattle.sk_dict.specs.Cuts.{start_at};
 
-use crate::room::make_room;
-use sk_base::Term;
+use crate::room::{make_room, make_room_for};
 use std::alloc::{AllocError, Global};
 use std::cmp::Ordering;
 use std::marker::Model;
 
-/// Terms, each with its first eight bytes as a number, which most comparisons need alone. Contracts see the list of the
-/// terms.
+/// Terms in one piece of memory, each with its first eight bytes as a number, which most comparisons need alone.
+/// Contracts see the list of the terms.
 #[derive(Drop)]
 pub(crate) struct Terms {
-    terms: Vec<Term>,
+    bytes: Vec<u8>,
+    ends: Vec<usize>,
     heads: Vec<u64>,
 }
 
 impl Model for Terms {
     ghost use Rattle.std.specs.Prelude.{List, ℕ};
-    ghost use Rattle.sk_dict.specs.Heads.{AreHeads};
+    ghost use Rattle.sk_dict.specs.Cuts.{cut, IsPacked};
 
     ghost Value = { List (List ℕ) };
 
-    ghost view = { λ t. t.terms.items };
+    ghost view = { λ t. cut 0 t.ends.items t.bytes.items };
 
-    ghost invariant = { λ t. AreHeads t.terms.items t.heads.items };
+    ghost invariant = { λ t. IsPacked t.bytes.items t.ends.items t.heads.items };
 }
 
 // A byte, or 0 past the end.
@@ -60,32 +61,41 @@ fn is_before(term: &[u8], key: &[u8], behind: bool) -> bool
     }
 }
 
+// Where the term with this number begins; behind the last, where that one ends.
+fn start(ends: &[usize], number: usize) -> usize
+    requires { number ≤ length ends.now }
+    ensures { result ≡ start_at 0 ends.now number }
+{
+    if number == 0 { 0 } else { ends[number - 1] }
+}
+
 impl Terms {
     /// No terms. It keeps the allocator, and takes no memory.
     pub fn new(alloc: Global) -> Terms
         ensures { result ≡ [] }
     {
         Terms {
-            terms: Vec::new(alloc),
+            bytes: Vec::new(alloc),
+            ends: Vec::new(alloc),
             heads: Vec::new(alloc),
         }
     }
 
     pub fn allocator(&self) -> Global {
-        *self.terms.allocator()
+        *self.bytes.allocator()
     }
 
     pub fn len(&self) -> usize
         ensures { result ≡ length self.now }
     {
-        self.terms.len()
+        self.ends.len()
     }
 
-    pub fn get(&self, number: usize) -> &str
+    pub fn get(&self, number: usize) -> &[u8]
         requires { number < length self.now }
         ensures { result.now ≡ term_at self.now number }
     {
-        self.terms[number].as_str()
+        &self.bytes[start(&self.ends, number)..self.ends[number]]
     }
 
     /// Whether the term with this number stands before the key, or at the key where what is wanted stands behind it.
@@ -102,29 +112,30 @@ impl Terms {
         if own > head {
             return false;
         }
-        is_before(self.terms[number].as_str().as_bytes(), key, behind)
+        is_before(self.get(number), key, behind)
     }
 
     /// Puts the term last.
-    pub fn push(&mut self, term: Term) -> Result<(), AllocError>
-        ensures ok { OnOk result (self.new ≡ self.old ++ term ∷ []) }
+    pub fn push(&mut self, term: &[u8]) -> Result<(), AllocError>
+        ensures ok { OnOk result (self.new ≡ self.old ++ term.now ∷ []) }
         ensures err { OnErr result (self.new ≡ self.old) }
     {
-        let head = head_of(term.as_str().as_bytes());
-        make_room(&mut self.terms)?;
+        make_room(&mut self.ends)?;
         make_room(&mut self.heads)?;
-        self.heads.push(head)?;
-        match self.terms.push(term) {
-            Ok(()) => Ok(()),
-            Err(_) => unreachable!(),
-        }
+        make_room_for(&mut self.bytes, term.len())?;
+        self.bytes.extend_from_slice(term)?;
+        self.ends.push_reserved(self.bytes.len());
+        self.heads.push_reserved(head_of(term));
+        Ok(())
     }
 
     /// Keeps the first `count` terms. It takes no memory.
     pub fn truncate(&mut self, count: usize)
         ensures { self.new ≡ take count self.old }
     {
-        self.terms.truncate(count);
+        self.ends.truncate(count);
         self.heads.truncate(count);
+        let end = start(&self.ends, self.ends.len());
+        self.bytes.truncate(end);
     }
 }

@@ -1,5 +1,5 @@
 -- What an edit of one list, and of several, is to the lists of all terms.
-use Rattle.std.proofs.Common.{◌≡◌, ℕ, zero, suc, ◌+◌, ◌<◌, Bool, true, false, cond, if◌then◌else◌, ◌||◌, List, [], ◌∷◌, ◌++◌, length, get_or, drop, set, bytes_eq, Option, None, Some, refl, sym, ap, subst, ◌∙◌, arith}
+use Rattle.std.proofs.Common.{◌≡◌, ℕ, zero, suc, ◌+◌, ◌<◌, Bool, true, false, cond, if◌then◌else◌, ◌||◌, List, [], ◌∷◌, ◌++◌, length, get_or, drop, set, bytes_eq, Option, None, Some, unwrap_or, ◌≤◌, refl, sym, ap, subst, ◌∙◌, arith}
 use mathlib.Core.Bool.{true≢false}
 use Rattle.std.specs.List.{AllPairs}
 use Rattle.std.specs.Cmp.{tied_itself}
@@ -10,7 +10,7 @@ use Rattle.std.proofs.lemmas.Slice.Eq.{bytes_eq-Decides}
 use Rattle.sk_base.specs.declared.doc_entry.DocTerm.{DocTerm}
 use Rattle.sk_base.specs.Order.{Precedes}
 use Rattle.sk_base.specs.Documents.{AreTerms, has_term, wdf_of}
-use Rattle.sk_dict.specs.Terms.{term_at, number_of, with_term}
+use Rattle.sk_dict.specs.Terms.{term_at, number_of, number_for, with_term}
 use Rattle.sk_dict.proofs.NumberLaws.{number_of-Some, number_of-term_at, number_of-kept, number_of-added, absent_from-number_of}
 use Rattle.sk_sorted.specs.Entries.{put, without}
 use Rattle.sk_runs.specs.Runs.{flat}
@@ -185,6 +185,17 @@ takes_on id i terms x start mid next rising lt is before one new all =
 pub found_by : (listed : Listed) (t : List ℕ) (o : Option ℕ) → o ≡ number_of t listed.terms → Rattle.std.proofs.Common.MatchOption o (list_of t listed ≡ []) (λ n. (n < length listed.terms) × (term_at listed.terms n ≡ t))
 found_by listed t None e = list_of-none listed t (sym e)
 found_by listed t (Some n) e = number_of-Some listed.terms t n (sym e)
+
+-- the number that is given to a term is a lower one where it had it
+new_by : (terms : List (List ℕ)) (term : List ℕ) (n : ℕ) (o : Option ℕ) → number_of term terms ≡ o → n ≡ unwrap_or o (length terms) → length terms ≤ n → o ≡ None
+new_by terms term n None e given le = refl
+new_by terms term n (Some m) e given le = absurd (omega (arith, (number_of-Some terms term m e).0))
+
+-- where it is no lower one, the term had none
+pub none-before : (terms : List (List ℕ)) (lists same_lists : List Runs) (term : List ℕ) (n : ℕ) → IsListed (record { terms = terms; lists = lists })
+    → n ≡ number_for term terms → same_lists ≡ lists → length same_lists ≤ n → number_of term terms ≡ None
+none-before terms lists same_lists term n sound given same le =
+    new_by terms term n (number_of term terms) refl given (omega (arith, sound.sizes, ap length same))
 
 -- the lists with one for a new term
 pub IsListed-added : (terms new_terms : List (List ℕ)) (lists new_lists : List Runs) (term : List ℕ) → number_of term terms ≡ None → IsListed (record { terms = terms; lists = lists })

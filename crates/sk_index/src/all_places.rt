@@ -39,6 +39,6 @@ impl<'a> Operands for AllPlaces<'a> {
     fn positions(&self, i: usize) -> &[u32] {
         let numbers = self.numbers;
         let number = numbers[i];
-        positions_in(self.terms, self.index.term(number).as_bytes())
+        positions_in(self.terms, self.index.term(number))
     }
 }

@@ -168,10 +168,7 @@ impl Index {
             ≡ term_positions (term_at self.now.terms places.now.0) (document_at places.now.1 self.now.live.documents) }
         ensures rising { ArePositions result.now }
     {
-        positions_in(
-            self.terms_of(places.id),
-            self.term(places.number).as_bytes(),
-        )
+        positions_in(self.terms_of(places.id), self.term(places.number))
     }
 
     /// The places of the terms with these numbers in the document. It is one reading for each.
@@ -209,7 +206,7 @@ impl Index {
     }
 
     // The term with this number.
-    pub(crate) fn term(&self, number: usize) -> &str
+    pub(crate) fn term(&self, number: usize) -> &[u8]
         requires there { number < length self.now.terms }
         ensures { result.now ≡ term_at self.now.terms number }
     {

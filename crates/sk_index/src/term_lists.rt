@@ -7,7 +7,7 @@ ghost use Rattle.sk_runs.specs.Runs.{flat};
 ghost use Rattle.sk_index.specs.Listed.{list_of, IsListed, IsEdited, SameLists, Puts, TakesOut, PutsAll, TakesOutAll};
 ghost use Rattle.sk_index.specs.Wild.{figure_of, sum_behind};
 
-use sk_base::{DocId, DocTerm, Term};
+use sk_base::{DocId, DocTerm};
 use sk_dict::{Dict, make_room};
 use sk_lists::List;
 use std::alloc::{AllocError, Global};
@@ -59,7 +59,7 @@ impl TermLists {
     }
 
     /// The term with this number.
-    pub fn term(&self, number: usize) -> &str
+    pub fn term(&self, number: usize) -> &[u8]
         requires there { number < length self.now.terms }
         ensures { result.now ≡ term_at self.now.terms number }
     {
@@ -136,7 +136,7 @@ impl TermLists {
         ensures { OnOk result (PutsAll id terms.now self.old self.new) }
     {
         'terms: for one in terms {
-            self.put(id, one.term.as_str(), one.wdf)?;
+            self.put(id, one.term.as_str().as_bytes(), one.wdf)?;
         }
         Ok(())
     }
@@ -151,7 +151,7 @@ impl TermLists {
         }
     }
 
-    fn put(&mut self, id: DocId, term: &str, wdf: u32) -> Result<(), AllocError>
+    fn put(&mut self, id: DocId, term: &[u8], wdf: u32) -> Result<(), AllocError>
         requires { 1 ≤ id }
         ensures { OnOk result (Puts id term.now wdf self.old self.new) }
     {
@@ -189,33 +189,18 @@ impl TermLists {
     }
 
     // The number of the term, which is given the next one and an empty list where it has none.
-    fn number_for(&mut self, term: &str) -> Result<usize, AllocError>
+    fn number_for(&mut self, term: &[u8]) -> Result<usize, AllocError>
         ensures found { IfOk result (λ n. number_of term.now self.new.terms ≡ Some n) }
         ensures there { IfOk result (λ n. n < length self.new.terms) }
         ensures same { OnOk result (SameLists self.old self.new) }
     {
-        match self.dict.find(term.as_bytes()) {
-            Some(number) => Ok(number),
-            None => self.add(term),
-        }
-    }
-
-    fn add(&mut self, term: &str) -> Result<usize, AllocError>
-        requires { number_of term.now self.old.terms ≡ None }
-        ensures found { IfOk result (λ n. number_of term.now self.new.terms ≡ Some n) }
-        ensures there { IfOk result (λ n. n < length self.new.terms) }
-        ensures same { OnOk result (SameLists self.old self.new) }
-    {
-        let term = Term::new(self.alloc, term)?;
         make_room(&mut self.lists)?;
-        self.lists.push(List::new(self.alloc))?;
-        match self.dict.add(term) {
-            Ok(number) => Ok(number),
-            Err(fault) => {
-                self.lists.pop();
-                Err(fault)
-            }
+        let number = self.dict.add(term)?;
+        if number < self.lists.len() {
+            return Ok(number);
         }
+        self.lists.push_reserved(List::new(self.alloc));
+        Ok(number)
     }
 }
 

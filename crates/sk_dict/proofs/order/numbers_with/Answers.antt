@@ -9,7 +9,7 @@ pub walk-preserved : goal.walk-preserved
 walk-preserved c =
     let known = subst (Each (IsKnown c.args.terms.now)) c.in-Some.ensures.rest c.walk.invariant.known in
     let begins : begins_with (term_at c.args.terms.now c.in-Some.number) c.args.prefix.now ≡ true =
-    ap (λ t. begins_with t c.args.prefix.now) (sym (c.as_bytes.ensures.value ∙ c.get.ensures)) ∙ sym c.starts_with.ensures.value ∙ c.if-not-starts_with.false in
+    ap (λ t. begins_with t c.args.prefix.now) (sym c.get.ensures) ∙ sym c.starts_with.ensures.value ∙ c.if-not-starts_with.false in
     record {
       there = c.in-Some.ensures.there;
       known = known.1;

@@ -19,7 +19,7 @@ returns-then-starts_with c =
     subst (λ b. IsFirst c.args.self.now (start_of c.args.self.now c.args.prefix.now c.args.after) b c.in_ok-number.number) c.is_some.ensures
     (subst (λ k. IsFirst c.args.self.now k c.is_some.result c.in_ok-number.number) c.start.ensures c.in_ok-number.ensures) in
     let begins : begins_with (term_at c.args.self.now c.in_ok-number.number) c.args.prefix.now ≡ true =
-    ap (λ t. begins_with t c.args.prefix.now) (sym (c.as_bytes.ensures.value ∙ c.term.ensures)) ∙ sym c.starts_with.ensures.value ∙ c.if-starts_with.true in
+    ap (λ t. begins_with t c.args.prefix.now) (sym c.term.ensures) ∙ sym c.starts_with.ensures.value ∙ c.if-starts_with.true in
     first_follows c.args.self.now c.args.prefix.now c.args.after c.in_ok-number.number first begins
 
 -- it does not
@@ -29,5 +29,5 @@ returns-else-starts_with c =
     subst (λ b. IsFirst c.args.self.now (start_of c.args.self.now c.args.prefix.now c.args.after) b c.in_ok-number.number) c.is_some.ensures
     (subst (λ k. IsFirst c.args.self.now k c.is_some.result c.in_ok-number.number) c.start.ensures c.in_ok-number.ensures) in
     let begins : begins_with (term_at c.args.self.now c.in_ok-number.number) c.args.prefix.now ≡ false =
-    ap (λ t. begins_with t c.args.prefix.now) (sym (c.as_bytes.ensures.value ∙ c.term.ensures)) ∙ sym c.starts_with.ensures.value ∙ c.if-starts_with.false in
+    ap (λ t. begins_with t c.args.prefix.now) (sym c.term.ensures) ∙ sym c.starts_with.ensures.value ∙ c.if-starts_with.false in
     first_is_past c.args.self.now c.args.prefix.now c.args.after c.in_ok-number.number c.requires.begins first begins
