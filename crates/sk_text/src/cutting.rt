@@ -28,14 +28,15 @@ pub fn words(alloc: Global, text: &str) -> Result<Words, AllocError>
     let mut rest = text.chars();
     'chars: while let Some(c) = rest.next() {
         let next = at + c.len_utf8();
-        if belongs(after, c, rest.as_str()) {
+        let in_word = is_word(c);
+        if belongs(in_word, after, c, rest.as_str()) {
             word.push(written(c))?;
         } else {
             number = end(alloc, &mut made, number, from, at, word.as_str())?;
             word.clear();
             from = next;
         }
-        after = is_word(c);
+        after = in_word;
         at = next;
     }
     end(alloc, &mut made, number, from, at, word.as_str())?;

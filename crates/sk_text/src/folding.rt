@@ -35,6 +35,17 @@ impl Folded {
 pub fn fold(alloc: Global, word: &str) -> Result<Folded, AllocError>
     ensures { IfOk result (λ f. f ≡ term_of word.now) }
 {
+    if word.is_ascii() {
+        let text = word.to_ascii_lowercase(alloc)?;
+        return Ok(Folded { text });
+    }
+    fold_by_tables(alloc, word)
+}
+
+/// The term of a word of any characters.
+fn fold_by_tables(alloc: Global, word: &str) -> Result<Folded, AllocError>
+    ensures { IfOk result (λ f. f ≡ term_of word.now) }
+{
     let apart = to_nfd(alloc, word)?;
     let folded = default_case_fold_str(alloc, apart.as_str())?;
     let text = to_nfc(alloc, folded.as_str())?;

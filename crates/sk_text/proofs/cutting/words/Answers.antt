@@ -5,19 +5,18 @@ use Rattle.sk_text.proofs.CuttingLemmas.{step_in, step_out, cut_end}
 use Rattle.sk_text.proofs.LayoutLemmas.{words-AreWords}
 use Rattle.sk_text.proofs.WordLaws.{words-IsWithin, length-words}
 use Rattle.sk_text.proofs.cutting.words.Goals as goal
-use Rattle.sk_text.proofs.cutting.words.Goals.{then-belongs+in_ok-push, else-belongs+in_ok-number}
+
+pub chars-preserved-in_ok-push : goal.chars-preserved-in_ok-push
+chars-preserved-in_ok-push c =
+    let inside = ap (λ bs. belongs c.chars.after c.in-Some.c (chars bs)) (sym c.as_str.ensures) ∙ sym (c.belongs.ensures c.is_word-in_word.ensures) in
+    rw (c.in_ok-push.ensures.bytes, c.written.ensures, c.is_word-in_word.ensures, c.len_utf8.ensures.value)
+    (step_in _ _ _ _ _ _ _ _ _ _ c.chars.invariant c.in-Some.ensures.steps.0 (inside ∙ c.if-belongs.true))
 
 pub chars-preserved : goal.chars-preserved
 chars-preserved c =
-    let inside = ap (λ bs. belongs c.chars.after c.in-Some.c (chars bs)) (sym c.as_str.ensures) ∙ sym c.belongs.ensures in
-    elim c.if-belongs.branch [
-      | then-belongs+in_ok-push w ↦
-          rw (w.made-is, w.number-is, w.from-is, w.word-is, w.in_ok-push.ensures.bytes, w.written.ensures, c.is_word-after.ensures, c.len_utf8.ensures.value)
-          (step_in _ _ _ _ _ _ _ _ _ _ c.chars.invariant c.in-Some.ensures.steps.0 (inside ∙ w.if-belongs.true))
-      | else-belongs+in_ok-number w ↦
-          rw (w.made-is, w.number-is, w.from-is, w.word-is, w.in_ok-number.ensures.made, w.in_ok-number.ensures.number, w.as_str-else-belongs.ensures.value, w.clear.ensures.bytes, c.is_word-after.ensures, c.len_utf8.ensures.value)
-          (step_out _ _ _ _ _ _ _ _ _ _ c.chars.invariant c.in-Some.ensures.steps.0 (inside ∙ w.if-belongs.false))
-    ]
+    let inside = ap (λ bs. belongs c.chars.after c.in-Some.c (chars bs)) (sym c.as_str.ensures) ∙ sym (c.belongs.ensures c.is_word-in_word.ensures) in
+    rw (c.in_ok-number.ensures.made, c.in_ok-number.ensures.number, c.as_str-else-belongs.ensures.value, c.clear.ensures.bytes, c.is_word-in_word.ensures, c.len_utf8.ensures.value)
+    (step_out _ _ _ _ _ _ _ _ _ _ c.chars.invariant c.in-Some.ensures.steps.0 (inside ∙ c.if-belongs.false))
 
 -- what is made at the end
 made : (c : goal.After-drop-word-2) → c.end-2.new.made ≡ words c.args.text.now
