@@ -1,8 +1,10 @@
 //! Words with their differences of case and of spelling in Unicode taken away.
 
-ghost use Rattle.std.specs.Prelude.{◌≡◌, IfOk};
+ghost use Rattle.std.specs.Prelude.{◌≡◌, map, chars, encode_utf8_all, IsAscii, IfOk};
+ghost use Rattle.sk_text.specs.Characters.{written};
 ghost use Rattle.sk_text.specs.Terms.{term_of};
 
+use crate::characters::written;
 use caseless::default_case_fold_str;
 use std::alloc::{AllocError, Global};
 use std::marker::Model;
@@ -36,13 +38,35 @@ pub fn fold(alloc: Global, word: &str) -> Result<Folded, AllocError>
     ensures { IfOk result (λ f. f ≡ term_of word.now) }
 {
     if word.is_ascii() {
-        let text = word.to_ascii_lowercase(alloc)?;
-        return Ok(Folded { text });
+        fold_ascii(alloc, word)
+    } else {
+        fold_by_tables(alloc, word)
     }
-    fold_by_tables(alloc, word)
 }
 
-/// The term of a word of any characters.
+/// The term of a word as it stands in a text, where an apostrophe may be U+2019.
+pub(crate) fn fold_written(alloc: Global, word: &str) -> Result<Folded, AllocError>
+    ensures { IfOk result (λ f. f ≡ term_of (encode_utf8_all (map written (chars word.now)))) }
+{
+    if word.is_ascii() {
+        return fold_ascii(alloc, word);
+    }
+    let mut text = String::new(alloc);
+    'word: for c in word.chars() {
+        text.push(written(c))?;
+    }
+    fold(alloc, text.as_str())
+}
+
+/// The term of a word of ASCII: its capitals made small.
+fn fold_ascii(alloc: Global, word: &str) -> Result<Folded, AllocError>
+    ensures { IsAscii word.now → IfOk result (λ f. f ≡ term_of word.now) }
+{
+    let text = word.to_ascii_lowercase(alloc)?;
+    Ok(Folded { text })
+}
+
+/// The term of a word of any characters, by the tables of Unicode.
 fn fold_by_tables(alloc: Global, word: &str) -> Result<Folded, AllocError>
     ensures { IfOk result (λ f. f ≡ term_of word.now) }
 {
