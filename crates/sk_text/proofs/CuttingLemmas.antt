@@ -169,3 +169,9 @@ pub read_all : (text bs : List ℕ) (made : List Word) (number : ℕ) (after : B
     → made ++ ended number from at (encode_utf8_all (map written (chars word))) ≡ words text
 read_all text bs made number after from at word r e w =
     rw (open_chars text bs from at r.0 word r.1 w) (cut_end text bs made number after from at (encode_utf8_all (map written r.0)) r.2 e)
+
+-- the place behind a character
+pub read_place : (text bs rest : List ℕ) (made : List Word) (number : ℕ) (after : Bool) (from at c : ℕ)
+    → IsReading text bs made number after from at → bs ≡ encode_utf8 c ++ rest → length text - length rest ≡ at + len_utf8 c
+read_place text bs rest made number after from at c r e =
+    let place = step_place text bs rest c at r.2.place e in omega (arith, place)

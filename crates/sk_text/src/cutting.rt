@@ -1,6 +1,6 @@
 //! Cuts a text into its words.
 
-ghost use Rattle.std.specs.Prelude.{◌≡◌, ◌+◌, ◌<◌, ◌≤◌, ◌^◌, ◌++◌, length, map, chars, encode_utf8_all, All, IfOk};
+ghost use Rattle.std.specs.Prelude.{◌≡◌, ◌≢◌, ◌+◌, ◌<◌, ◌≤◌, ◌^◌, ◌++◌, length, map, chars, encode_utf8_all, All, IfOk};
 ghost use Rattle.sk_text.specs.Characters.{written};
 ghost use Rattle.sk_text.specs.Words.{ended, words};
 ghost use Rattle.sk_text.specs.Layout.{AreWords, IsWithin};
@@ -27,9 +27,10 @@ pub fn words(alloc: Global, text: &str) -> Result<Words, AllocError>
     let mut at = 0usize;
     let mut rest = text.chars();
     'chars: while let Some(c) = rest.next() {
-        let next = at + c.len_utf8();
+        let behind = rest.as_str();
+        let next = text.len() - behind.len();
         let in_word = is_word(c);
-        if !belongs(in_word, after, c, rest.as_str()) {
+        if !belongs(in_word, after, c, behind) {
             number = end(alloc, &mut made, number, from, at, &text[from..at])?;
             from = next;
         }
@@ -57,6 +58,21 @@ fn end(
     if from == at {
         return Ok(number);
     }
+    add(alloc, made, number, from, at, word)?;
+    Ok(number + 1)
+}
+
+/// Adds the word from the byte `from` to the byte `at`.
+fn add(
+    alloc: Global,
+    made: &mut Words,
+    number: u32,
+    from: usize,
+    at: usize,
+    word: &str,
+) -> Result<(), AllocError>
+    ensures { from ≢ at → IfOk result (λ _. made.new ≡ made.old ++ ended number from at (encode_utf8_all (map written (chars word.now)))) }
+{
     let term = fold_written(alloc, word)?;
     made.push(Word {
         term,
@@ -64,5 +80,5 @@ fn end(
         to: at,
         number,
     })?;
-    Ok(number + 1)
+    Ok(())
 }

@@ -1,16 +1,13 @@
-use Rattle.std.proofs.Common.{◌≡◌, sym, ap, ◌∙◌, chars, arith}
+use Rattle.std.proofs.Common.{length, ◌-◌, ◌≡◌, sym, ap, ◌∙◌, chars, arith}
 use Rattle.sk_text.specs.Characters.{belongs}
 use Rattle.sk_text.specs.Words.{words}
-use Rattle.sk_text.proofs.CuttingLemmas.{open_from, open_at, read_none, read_in, read_out, read_all}
+use Rattle.sk_text.proofs.CuttingLemmas.{open_from, open_at, read_none, read_place, read_in, read_out, read_all}
 use Rattle.sk_text.proofs.LayoutLemmas.{words-AreWords}
 use Rattle.sk_text.proofs.WordLaws.{words-IsWithin, length-words}
 use Rattle.sk_text.proofs.cutting.words.Goals as goal
 
 pub chars-init : goal.chars-init
 chars-init c = rw (c.chars-rest.ensures.rest, c.new-made.ensures) (read_none c.args.text.now c.utf8.text)
-
-pub overflow_add-next : goal.overflow_add-next
-overflow_add-next c = let place = c.chars.invariant.2.place in omega (arith, place)
 
 pub range-requires-clause-start_le_end : goal.range-requires-clause-start_le_end
 range-requires-clause-start_le_end c = let ends = c.chars.invariant.1.ends in omega (arith, ends)
@@ -26,14 +23,16 @@ end-requires c = let place = c.chars.invariant.2.place in let count = c.chars.in
 
 pub chars-preserved-in_ok-number : goal.chars-preserved-in_ok-number
 chars-preserved-in_ok-number c =
-    let outside = ap (λ bs. belongs c.chars.after c.in-Some.c (chars bs)) (sym c.as_str.ensures) ∙ sym (c.belongs.ensures c.is_word-in_word.ensures) in
-    rw (c.in_ok-number.ensures.made, c.in_ok-number.ensures.number, c.is_word-in_word.ensures, c.len_utf8.ensures.value)
+    let outside = ap (λ bs. belongs c.chars.after c.in-Some.c (chars bs)) (sym c.as_str-behind.ensures) ∙ sym (c.belongs.ensures c.is_word-in_word.ensures) in
+    let place = ap (λ bs. length c.args.text.now - length bs) c.as_str-behind.ensures ∙ read_place _ _ _ _ _ _ _ _ _ c.chars.invariant c.in-Some.ensures.steps.0 in
+    rw (c.in_ok-number.ensures.made, c.in_ok-number.ensures.number, c.is_word-in_word.ensures, place)
     (read_out _ _ _ _ _ _ _ _ _ _ c.chars.invariant c.in-Some.ensures.steps.0 (outside ∙ c.if-not-belongs.true) c.range.ensures.value)
 
 pub chars-preserved : goal.chars-preserved
 chars-preserved c =
-    let inside = ap (λ bs. belongs c.chars.after c.in-Some.c (chars bs)) (sym c.as_str.ensures) ∙ sym (c.belongs.ensures c.is_word-in_word.ensures) in
-    rw (c.is_word-in_word.ensures, c.len_utf8.ensures.value) (read_in _ _ _ _ _ _ _ _ _ c.chars.invariant c.in-Some.ensures.steps.0 (inside ∙ c.if-not-belongs.false))
+    let inside = ap (λ bs. belongs c.chars.after c.in-Some.c (chars bs)) (sym c.as_str-behind.ensures) ∙ sym (c.belongs.ensures c.is_word-in_word.ensures) in
+    let place = ap (λ bs. length c.args.text.now - length bs) c.as_str-behind.ensures ∙ read_place _ _ _ _ _ _ _ _ _ c.chars.invariant c.in-Some.ensures.steps.0 in
+    rw (c.is_word-in_word.ensures, place) (read_in _ _ _ _ _ _ _ _ _ c.chars.invariant c.in-Some.ensures.steps.0 (inside ∙ c.if-not-belongs.false))
 
 pub range-requires-2-clause-start_le_end : goal.range-requires-2-clause-start_le_end
 range-requires-2-clause-start_le_end c = let ends = c.chars.invariant.1.ends in omega (arith, ends)
