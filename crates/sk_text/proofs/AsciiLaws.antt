@@ -1,5 +1,5 @@
 -- What plain ASCII folds to, and which ASCII characters are word characters.
-use Rattle.std.proofs.Common.{◌≡◌, ℕ, suc, ◌<◌, false, ◌||◌, ◌==◌, List, [], ◌∷◌, length, map, IsAscii, encode_utf8_all, chars, refl, ap, ap₂, ◌∙◌, arith}
+use Rattle.std.proofs.Common.{◌≡◌, ℕ, suc, ◌<◌, false, ◌||◌, ◌==◌, List, [], ◌∷◌, length, map, IsAscii, encode_utf8_all, refl, ap, ap₂, ◌∙◌, arith}
 use Rattle.std.proofs.lemmas.Bool.Decides.{nat_tests}
 use Rattle.std.specs.Bool.{beq}
 use Rattle.std.specs.Char.{to_ascii_lowercase, is_ascii_alphanumeric}
@@ -13,7 +13,7 @@ use Rattle.unicode_normalization.specs.Forms.{Nfc, Nfd, nfc, nfd}
 use Rattle.unicode_normalization.proofs.FormsLemmas.{normalize-ascii}
 use Rattle.caseless.specs.Caseless.{default_case_fold}
 use Rattle.caseless.proofs.CaselessLemmas.{default_case_fold-ascii}
-use Rattle.sk_text.specs.Characters.{is_word_category, is_word_char, written}
+use Rattle.sk_text.specs.Characters.{is_word_category, is_word_char, written, written_bytes}
 use Rattle.sk_text.specs.Terms.{folded_bytes, term_of}
 use Rattle.sk_text.proofs.TermLemmas.{term_of-empty, term_of-full}
 
@@ -47,7 +47,7 @@ map_written-ascii : (cs : List ℕ) → IsAscii cs → map written cs ≡ cs
 map_written-ascii [] ascii = refl
 map_written-ascii (c ∷ cs) ascii = ap₂ ◌∷◌ (written-ascii c (ascii 0)) (map_written-ascii cs (λ i. ascii (suc i)))
 
-pub written_bytes-ascii : (word : List ℕ) → IsAscii word → encode_utf8_all (map written (chars word)) ≡ word
+pub written_bytes-ascii : (word : List ℕ) → IsAscii word → written_bytes word ≡ word
 written_bytes-ascii word ascii =
     ap (λ cs. encode_utf8_all (map written cs)) (chars-IsAscii word ascii)
     ∙ ap encode_utf8_all (map_written-ascii word ascii) ∙ encodes-IsAscii word ascii

@@ -1,7 +1,7 @@
 //! Cuts a text into its words.
 
-ghost use Rattle.std.specs.Prelude.{◌≡◌, ◌≢◌, ◌+◌, ◌<◌, ◌≤◌, ◌^◌, ◌++◌, length, map, chars, encode_utf8_all, All, IfOk};
-ghost use Rattle.sk_text.specs.Characters.{written};
+ghost use Rattle.std.specs.Prelude.{◌≡◌, ◌+◌, ◌<◌, ◌≤◌, ◌^◌, ◌++◌, length, All, IfOk};
+ghost use Rattle.sk_text.specs.Characters.{written_bytes};
 ghost use Rattle.sk_text.specs.Words.{ended, words};
 ghost use Rattle.sk_text.specs.Layout.{AreWords, IsWithin};
 
@@ -52,27 +52,12 @@ fn end(
     word: &str,
 ) -> Result<u32, AllocError>
     requires { number + 1 < 2 ^ 32 }
-    ensures made { IfOk result (λ _. made.new ≡ made.old ++ ended number from at (encode_utf8_all (map written (chars word.now)))) }
-    ensures number { IfOk result (λ n. n ≡ number + length (ended number from at (encode_utf8_all (map written (chars word.now))))) }
+    ensures made { IfOk result (λ _. made.new ≡ made.old ++ ended number from at (written_bytes word.now)) }
+    ensures number { IfOk result (λ n. n ≡ number + length (ended number from at (written_bytes word.now))) }
 {
     if from == at {
         return Ok(number);
     }
-    add(alloc, made, number, from, at, word)?;
-    Ok(number + 1)
-}
-
-/// Adds the word from the byte `from` to the byte `at`.
-fn add(
-    alloc: Global,
-    made: &mut Words,
-    number: u32,
-    from: usize,
-    at: usize,
-    word: &str,
-) -> Result<(), AllocError>
-    ensures { from ≢ at → IfOk result (λ _. made.new ≡ made.old ++ ended number from at (encode_utf8_all (map written (chars word.now)))) }
-{
     let term = fold_written(alloc, word)?;
     made.push(Word {
         term,
@@ -80,5 +65,5 @@ fn add(
         to: at,
         number,
     })?;
-    Ok(())
+    Ok(number + 1)
 }

@@ -1,7 +1,8 @@
 //! Words with their differences of case and of spelling in Unicode taken away.
 
-ghost use Rattle.std.specs.Prelude.{◌≡◌, map, chars, encode_utf8_all, IsAscii, IfOk};
-ghost use Rattle.sk_text.specs.Characters.{written};
+ghost use Rattle.std.specs.Prelude.{◌≡◌, ◌==◌, chars, IsAscii, IfOk};
+ghost use Rattle.std.specs.List.{list_all};
+ghost use Rattle.sk_text.specs.Characters.{written, written_bytes};
 ghost use Rattle.sk_text.specs.Terms.{term_of};
 
 use crate::characters::written;
@@ -46,16 +47,26 @@ pub fn fold(alloc: Global, word: &str) -> Result<Folded, AllocError>
 
 /// The term of a word as it stands in a text, where an apostrophe may be U+2019.
 pub(crate) fn fold_written(alloc: Global, word: &str) -> Result<Folded, AllocError>
-    ensures { IfOk result (λ f. f ≡ term_of (encode_utf8_all (map written (chars word.now)))) }
+    ensures { IfOk result (λ f. f ≡ term_of (written_bytes word.now)) }
 {
     if word.is_ascii() {
         return fold_ascii(alloc, word);
+    }
+    if stands_as_written(word) {
+        return fold_by_tables(alloc, word);
     }
     let mut text = String::new(alloc);
     'word: for c in word.chars() {
         text.push(written(c))?;
     }
     fold(alloc, text.as_str())
+}
+
+/// Whether each character is written as it stands in the text.
+fn stands_as_written(word: &str) -> bool
+    ensures { result ≡ list_all (λ c. written c == c) (chars word.now) }
+{
+    word.chars().all(|c| written(c) == c)
 }
 
 /// The term of a word of ASCII: its capitals made small.

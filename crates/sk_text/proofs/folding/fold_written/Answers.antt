@@ -4,12 +4,17 @@ use Rattle.std.proofs.lemmas.Iterator.{YieldsList-from_chars}
 use Rattle.std.proofs.lemmas.Iterator.Consumers.{YieldsList-end}
 use Rattle.sk_text.specs.Characters.{written}
 use Rattle.sk_text.proofs.AsciiLaws.{written_bytes-ascii}
+use Rattle.sk_text.proofs.TermLemmas.{written_bytes-same}
 use Rattle.sk_text.proofs.LayoutLemmas.{encodes-snoc}
 use Rattle.sk_text.proofs.folding.fold_written.Goals as goal
 
 pub returns-then-is_ascii : goal.returns-then-is_ascii
 returns-then-is_ascii c =
     rw (written_bytes-ascii c.args.word.now c.if-is_ascii.ensures.cases) (c.fold_ascii.ensures c.if-is_ascii.ensures.cases)
+
+pub returns-then-stands_as_written : goal.returns-then-stands_as_written
+returns-then-stands_as_written c =
+    rw (written_bytes-same c.args.word.now c.utf8.word (sym c.stands_as_written.ensures ∙ c.if-stands_as_written.true)) c.fold_by_tables.ensures
 
 pub word-preserved : goal.word-preserved
 word-preserved c =
