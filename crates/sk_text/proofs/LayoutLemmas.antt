@@ -26,13 +26,13 @@ EachBelongs-snoc which before (d ∷ ds) c behind p h = (
 )
 
 -- how many bytes one character more takes
-length-snoc : (xs : List ℕ) (c : ℕ) → length (encode_utf8_all (xs ++ c ∷ [])) ≡ length (encode_utf8_all xs) + len_utf8 c
+pub length-snoc : (xs : List ℕ) (c : ℕ) → length (encode_utf8_all (xs ++ c ∷ [])) ≡ length (encode_utf8_all xs) + len_utf8 c
 length-snoc xs c =
     ap length (encodes-append xs (c ∷ [])) ∙ length-append (encode_utf8_all xs) (encode_utf8_all (c ∷ []))
     ∙ ap (λ n. length (encode_utf8_all xs) + n) (ap length (append-nil (encode_utf8 c)) ∙ length-encode c)
 
 -- the bytes of one character more
-encodes-snoc : (xs : List ℕ) (c : ℕ) → encode_utf8_all (map written (xs ++ c ∷ [])) ≡ encode_utf8_all (map written xs) ++ encode_utf8 (written c)
+pub encodes-snoc : (xs : List ℕ) (c : ℕ) → encode_utf8_all (map written (xs ++ c ∷ [])) ≡ encode_utf8_all (map written xs) ++ encode_utf8 (written c)
 encodes-snoc xs c =
     ap encode_utf8_all (map-append written xs (c ∷ [])) ∙ encodes-append (map written xs) (written c ∷ [])
     ∙ ap (λ bs. encode_utf8_all (map written xs) ++ bs) (append-nil (encode_utf8 (written c)))

@@ -1,7 +1,10 @@
 -- The term of a word, step by step.
-use Rattle.std.proofs.Common.{◌≡◌, ℕ, List, length, ◌∙◌, sym, ap, chars, encode_utf8_all, String, string_bytes, true, false, ◌==◌, if◌then◌else◌}
+use Rattle.std.proofs.Common.{◌≡◌, ℕ, List, [], ◌∷◌, map, IsUtf8, refl, ap₂, eqb-true, length, ◌∙◌, sym, ap, chars, encode_utf8_all, String, string_bytes, true, false, ◌==◌, if◌then◌else◌}
 use Rattle.std.specs.String.{string_len}
-use Rattle.std.proofs.lemmas.Str.{chars_from_encodes, IsUtf8-string_bytes}
+use Rattle.std.proofs.lemmas.Str.{chars_from_encodes, encodes-chars, IsUtf8-string_bytes}
+use Rattle.std.proofs.lemmas.Bool.{and_parts}
+use Rattle.std.specs.List.{list_all}
+use Rattle.sk_text.specs.Characters.{written, written_bytes}
 use Rattle.unicode_normalization.specs.Forms.{nfc, nfd}
 use Rattle.caseless.specs.Caseless.{default_case_fold}
 use Rattle.sk_text.specs.Terms.{folded_bytes, term_of}
@@ -35,3 +38,13 @@ term_of-empty word e = ap (λ b. if b then word else folded_bytes word) e
 pub term_of-full : (word : List ℕ) → (length (folded_bytes word) == 0) ≡ false → term_of word ≡ folded_bytes word
 unfolding term_of
 term_of-full word e = ap (λ b. if b then word else folded_bytes word) e
+
+map_written-same : (cs : List ℕ) → list_all (λ c. written c == c) cs ≡ true → map written cs ≡ cs
+map_written-same [] e = refl
+map_written-same (c ∷ cs) e =
+    let parts = and_parts (written c == c) (list_all (λ d. written d == d) cs) e in
+    ap₂ ◌∷◌ (eqb-true (written c) c parts.0) (map_written-same cs parts.1)
+
+-- a word whose characters are written as they stand is written as it stands
+pub written_bytes-same : (word : List ℕ) → IsUtf8 word → list_all (λ c. written c == c) (chars word) ≡ true → written_bytes word ≡ word
+written_bytes-same word u e = ap encode_utf8_all (map_written-same (chars word) e) ∙ encodes-chars word u

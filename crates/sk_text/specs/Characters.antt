@@ -1,5 +1,5 @@
 -- Which characters belong to words.
-use Rattle.std.specs.Prelude.{ℕ, Bool, true, false, ◌&&◌, ◌||◌, ◌==◌, if◌then◌else◌, List, [], ◌∷◌}
+use Rattle.std.specs.Prelude.{ℕ, Bool, true, false, ◌&&◌, ◌||◌, ◌==◌, if◌then◌else◌, List, [], ◌∷◌, map, chars, encode_utf8_all}
 use Rattle.ucd_category.specs.GeneralCategory.{general_category}
 use Rattle.ucd_category.specs.declared.GeneralCategory.{GeneralCategory}
 use Rattle.ucd_category.specs.declared.GeneralCategory.TheVariants.{UppercaseLetter, LowercaseLetter, TitlecaseLetter, ModifierLetter, OtherLetter, NonspacingMark, SpacingMark, EnclosingMark, DecimalNumber, LetterNumber, OtherNumber, ConnectorPunctuation}
@@ -46,3 +46,7 @@ belongs after c behind = is_word_char c || (after && is_apostrophe c && begins_w
 -- how c is written in a word: either apostrophe as U+0027
 abbrev pub written : ℕ → ℕ
 written c = if is_apostrophe c then 0x27 else c
+
+-- the bytes of a piece of text, each character as it is written in a word
+abbrev pub written_bytes : List ℕ → List ℕ
+written_bytes text = encode_utf8_all (map written (chars text))

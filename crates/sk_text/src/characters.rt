@@ -6,9 +6,13 @@ ghost use Rattle.sk_text.specs.Characters.{is_word_char, is_apostrophe, begins_w
 use unicode::properties::GeneralCategory;
 
 /// Whether `c` is a letter, a mark, a number or a connector, by its general category in Unicode.
+/// An ASCII character is told without the table.
 pub fn is_word(c: char) -> bool
     ensures { result ≡ is_word_char c }
 {
+    if c.is_ascii() {
+        return c.is_ascii_alphanumeric() || c == '_';
+    }
     matches!(
         GeneralCategory::for_char(c),
         GeneralCategory::UppercaseLetter
@@ -41,12 +45,12 @@ fn begins_word(text: &str) -> bool
     }
 }
 
-/// Whether `c` belongs to a word, where `after` says that a word character stands right before it,
-/// and `behind` is what follows it.
-pub(crate) fn belongs(after: bool, c: char, behind: &str) -> bool
-    ensures { result ≡ belongs after c (chars behind.now) }
+/// Whether `c` belongs to a word, where `in_word` says that it is a word character, `after` that one stands right
+/// before it, and `behind` is what follows it.
+pub(crate) fn belongs(in_word: bool, after: bool, c: char, behind: &str) -> bool
+    ensures { in_word ≡ is_word_char c → result ≡ belongs after c (chars behind.now) }
 {
-    is_word(c) || (after && is_apostrophe(c) && begins_word(behind))
+    in_word || (after && is_apostrophe(c) && begins_word(behind))
 }
 
 /// How `c` is written in a word.

@@ -1,11 +1,12 @@
 //! Cuts a text into its words.
 
 ghost use Rattle.std.specs.Prelude.{◌≡◌, ◌+◌, ◌<◌, ◌≤◌, ◌^◌, ◌++◌, length, All, IfOk};
+ghost use Rattle.sk_text.specs.Characters.{written_bytes};
 ghost use Rattle.sk_text.specs.Words.{ended, words};
 ghost use Rattle.sk_text.specs.Layout.{AreWords, IsWithin};
 
-use crate::characters::{belongs, is_word, written};
-use crate::folding::fold;
+use crate::characters::{belongs, is_word};
+use crate::folding::fold_written;
 use crate::word::{Word, Words};
 use std::alloc::{AllocError, Global};
 
@@ -20,29 +21,28 @@ pub fn words(alloc: Global, text: &str) -> Result<Words, AllocError>
     ensures count { IfOk result (λ ws. length ws ≤ length text.now) }
 {
     let mut made = Words::new(alloc);
-    let mut word = String::new(alloc);
     let mut number = 1u32;
     let mut after = false;
     let mut from = 0usize;
     let mut at = 0usize;
     let mut rest = text.chars();
     'chars: while let Some(c) = rest.next() {
-        let next = at + c.len_utf8();
-        if belongs(after, c, rest.as_str()) {
-            word.push(written(c))?;
-        } else {
-            number = end(alloc, &mut made, number, from, at, word.as_str())?;
-            word.clear();
+        let behind = rest.as_str();
+        let next = text.len() - behind.len();
+        let in_word = is_word(c);
+        if !belongs(in_word, after, c, behind) {
+            number = end(alloc, &mut made, number, from, at, &text[from..at])?;
             from = next;
         }
-        after = is_word(c);
+        after = in_word;
         at = next;
     }
-    end(alloc, &mut made, number, from, at, word.as_str())?;
+    end(alloc, &mut made, number, from, at, &text[from..at])?;
     Ok(made)
 }
 
-/// Adds the word that ends at the byte `at`, if one began before, and answers the next number.
+/// Adds the word that ends at the byte `at`, if one began before, and answers the next number. `word` is what stands
+/// there in the text.
 fn end(
     alloc: Global,
     made: &mut Words,
@@ -52,13 +52,13 @@ fn end(
     word: &str,
 ) -> Result<u32, AllocError>
     requires { number + 1 < 2 ^ 32 }
-    ensures made { IfOk result (λ _. made.new ≡ made.old ++ ended number from at word.now) }
-    ensures number { IfOk result (λ n. n ≡ number + length (ended number from at word.now)) }
+    ensures made { IfOk result (λ _. made.new ≡ made.old ++ ended number from at (written_bytes word.now)) }
+    ensures number { IfOk result (λ n. n ≡ number + length (ended number from at (written_bytes word.now))) }
 {
     if from == at {
         return Ok(number);
     }
-    let term = fold(alloc, word)?;
+    let term = fold_written(alloc, word)?;
     made.push(Word {
         term,
         from,

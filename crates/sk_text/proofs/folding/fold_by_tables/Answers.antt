@@ -1,6 +1,6 @@
 use Rattle.std.proofs.Common.{sym, ◌∙◌}
 use Rattle.sk_text.proofs.TermLemmas.{three_steps, is_empty-folded, term_of-empty, term_of-full}
-use Rattle.sk_text.proofs.folding.fold.Goals as goal
+use Rattle.sk_text.proofs.folding.fold_by_tables.Goals as goal
 
 pub returns-then-is_empty : goal.returns-then-is_empty
 returns-then-is_empty c =
