@@ -1,7 +1,7 @@
 use Rattle.std.proofs.Common.{◌∙◌, sym, ap, arith}
 use Rattle.sk_model.specs.Ranges.{is_within}
 use Rattle.sk_values.proofs.RangeLaws.{in_range-past}
-use Rattle.sk_values.proofs.range_cursor.stop_from.Goals as goal
+use Rattle.sk_values.proofs.range_cursor.stop_in.Goals as goal
 
 pub entries-preserved : goal.entries-preserved
 entries-preserved g c = record {

@@ -1,6 +1,6 @@
 use Rattle.std.proofs.Common.{◌≡◌, ◌≤◌, ◌+◌, ◌-◌, drop}
 use Rattle.sk_values.specs.RangeCursor.{in_range}
-use Rattle.sk_values.proofs.range_cursor.stop_from.Given as goal
+use Rattle.sk_values.proofs.range_cursor.stop_in.Given as goal
 
 abbrev pub invariant-entries : goal.invariant-entries
 invariant-entries g l = record {
