@@ -67,6 +67,13 @@ impl Piece {
         self.entries.get(id)
     }
 
+    /// Whether the document has a value. It looks at ids alone, which is no reading.
+    pub fn has(&self, id: DocId) -> bool
+        ensures { result ≡ has id self.now }
+    {
+        self.entries.get(id).is_some()
+    }
+
     /// The entry at this place, counted from 0.
     pub fn entry<L: Ledger>(&self, i: u32, steps: &mut Steps<L>) -> (DocId, &[u8])
         requires { i < length self.now }
@@ -99,6 +106,7 @@ impl Piece {
         ensures err { OnErr result (self.new ≡ self.old) }
         ensures succeeds { has id self.old ≡ true → IsOk result }
     {
+        let _sound = self.entries.length();
         self.entries.put(id, value)?;
         Ok(())
     }

@@ -172,7 +172,7 @@ impl SlotList {
         ensures room { IfOk result (λ at. (has id (get_or self.new at []) ≡ true) ⊎ (length (get_or self.new at []) < 128)) }
         ensures succeeds { has id (flat self.old) ≡ true → IsOk result }
     {
-        if self.pieces[at].count() < FULL || self.pieces[at].get(id).is_some() {
+        if self.pieces[at].count() < FULL || self.pieces[at].has(id) {
             return Ok(at);
         }
         self.halve(at)?;
