@@ -5,7 +5,7 @@ use Rattle.sk_sorted.specs.Entries.{RiseAbove, put, without, found, has, top_id}
 use Rattle.sk_sorted.proofs.EntryLaws.{AreSorted-put, AreSorted-without, AreSorted-drop}
 use Rattle.sk_chunks.specs.Postings.{Postings, greatest_wdf}
 use Rattle.sk_chunks.specs.Chunks.{IsChunk}
-use Rattle.sk_chunks.proofs.EndLaws.{top_id-put, top_id-put_over, top_id-append, length-put, length-put_over, length-without, AreSorted-take, AreSorted-append}
+use Rattle.sk_sorted.proofs.EndLaws.{top_id-put, top_id-put_over, top_id-append, length-put, length-put_over, length-without, AreSorted-take, AreSorted-append}
 use Rattle.sk_chunks.proofs.GreatestLaws.{greatest-put_new, greatest-append}
 
 -- a chunk that has not the id has room for it

@@ -1,4 +1,3 @@
-pub mod EndLaws
 pub mod GreatestLaws
 mod ChunkLemmas
 mod Examples

@@ -9,9 +9,10 @@ use Rattle.std.proofs.lemmas.List.Sums.{fails_before_first}
 use Rattle.sk_base.specs.declared.doc_entry.SlotValue.{SlotValue}
 use Rattle.sk_base.specs.Documents.{AreValues, has_value, value_in}
 use Rattle.sk_sorted.specs.Entries.{put, without}
-use Rattle.sk_values.specs.SlotValues.{SlotValues}
+use Rattle.sk_runs.specs.Runs.{flat}
+use Rattle.sk_values.specs.SlotValues.{SlotValues, SlotRuns}
 use Rattle.sk_index.specs.declared.slot_lists.SlotEntry.{SlotEntry}
-use Rattle.sk_index.specs.Slotted.{slot_list, Sets, Clears, SetsAll, ClearsAll}
+use Rattle.sk_index.specs.Slotted.{slot_pieces, slot_list, Sets, Clears, SetsAll, ClearsAll}
 use Rattle.sk_index.proofs.ListedLemmas.{by_test}
 
 -- no slot of these is this one
@@ -27,14 +28,9 @@ pub record IsFirstAt (slot : ℕ) (slots : List SlotEntry) (at : ℕ) : Type 0 w
 first_tail : (slot : ℕ) (one : SlotEntry) (more : List SlotEntry) (at : ℕ) → IsFirstAt slot (one ∷ more) (suc at) → IsFirstAt slot more at
 first_tail slot one more at h = record { there = omega (arith, h.there); is = h.is; before = λ k d lt. h.before (suc k) d (omega arith) }
 
-pub slot_list-there : (slot : ℕ) (slots : List SlotEntry) (at : ℕ) (d : SlotEntry) → IsFirstAt slot slots at → slot_list slot slots ≡ (get_or slots at d).list
-slot_list-there slot [] at d h = absurd (omega (arith, h.there))
-slot_list-there slot (one ∷ more) zero d h = ap (λ b. if b then one.list else slot_list slot more) (h.is one)
-slot_list-there slot (one ∷ more) (suc at) d h = ap (λ b. if b then one.list else slot_list slot more) (h.before 0 one (omega arith)) ∙ slot_list-there slot more at d (first_tail slot one more at h)
-
 pub slot_list-none : (slot : ℕ) (slots : List SlotEntry) → NoSlot slot slots → slot_list slot slots ≡ []
 slot_list-none slot [] h = refl
-slot_list-none slot (one ∷ more) h = ap (λ b. if b then one.list else slot_list slot more) (h 0 one (omega arith)) ∙ slot_list-none slot more (λ k d lt. h (suc k) d (omega arith))
+slot_list-none slot (one ∷ more) h = ap (λ b. if b then flat one.list else slot_list slot more) (h 0 one (omega arith)) ∙ slot_list-none slot more (λ k d lt. h (suc k) d (omega arith))
 
 -- what a search says of the first
 pub first_from : (slot : ℕ) (slots : List SlotEntry) (at : ℕ) → position (λ (one : SlotEntry). one.slot == slot) slots ≡ Some at → IsFirstAt slot slots at
@@ -66,50 +62,68 @@ other_slot : (m n s : ℕ) → (m == n) ≡ false → (m == s) ≡ true → (n =
 other_slot m n s h g = grind (arith, nat_tests)
 
 -- the list of a slot is changed
-pub slot_list-set : (g : SlotValues → SlotValues) (slot : ℕ) (slots : List SlotEntry) (at : ℕ) (d : SlotEntry) → IsFirstAt slot slots at → (s : ℕ)
-    → slot_list s (set slots at (record { slot = (get_or slots at d).slot; list = g (get_or slots at d).list })) ≡ (if slot == s then g (slot_list s slots) else slot_list s slots)
-slot_list-set g slot [] at d h s = absurd (omega (arith, h.there))
-slot_list-set g slot (one ∷ more) zero d h s =
-    ap (λ b. if b then g one.list else slot_list s more) (same_slot one.slot slot s (h.is one))
+pub slot_list-set : (g : SlotValues → SlotValues) (slot : ℕ) (slots : List SlotEntry) (at : ℕ) (d : SlotEntry) (list : SlotRuns) → flat list ≡ g (flat (get_or slots at d).list) → IsFirstAt slot slots at → (s : ℕ)
+    → slot_list s (set slots at (record { slot = (get_or slots at d).slot; list = list })) ≡ (if slot == s then g (slot_list s slots) else slot_list s slots)
+slot_list-set g slot [] at d list e h s = absurd (omega (arith, h.there))
+slot_list-set g slot (one ∷ more) zero d list e h s =
+    ap (λ (l : SlotValues). if one.slot == s then l else slot_list s more) e
+    ∙ ap (λ b. if b then g (flat one.list) else slot_list s more) (same_slot one.slot slot s (h.is one))
     ∙ split (slot == s)
-    ∙ sym (ap (λ b. if slot == s then g (if b then one.list else slot_list s more) else (if b then one.list else slot_list s more)) (same_slot one.slot slot s (h.is one)))
+    ∙ sym (ap (λ b. if slot == s then g (if b then flat one.list else slot_list s more) else (if b then flat one.list else slot_list s more)) (same_slot one.slot slot s (h.is one)))
   where
-    split : (b : Bool) → (if b then g one.list else slot_list s more) ≡ (if b then g (if b then one.list else slot_list s more) else (if b then one.list else slot_list s more))
+    split : (b : Bool) → (if b then g (flat one.list) else slot_list s more) ≡ (if b then g (if b then flat one.list else slot_list s more) else (if b then flat one.list else slot_list s more))
     split true = refl
     split false = refl
-slot_list-set g slot (one ∷ more) (suc at) d h s =
-    ap (λ (l : SlotValues). if one.slot == s then one.list else l) (slot_list-set g slot more at d (first_tail slot one more at h) s)
+slot_list-set g slot (one ∷ more) (suc at) d list e h s =
+    ap (λ (l : SlotValues). if one.slot == s then flat one.list else l) (slot_list-set g slot more at d list e (first_tail slot one more at h) s)
     ∙ split (one.slot == s) (slot == s) (other_slot one.slot slot s (h.before 0 one (omega arith)))
   where
     split : (b c : Bool) → (b ≡ true → c ≡ false)
-        → (if b then one.list else (if c then g (slot_list s more) else slot_list s more)) ≡ (if c then g (if b then one.list else slot_list s more) else (if b then one.list else slot_list s more))
+        → (if b then flat one.list else (if c then g (slot_list s more) else slot_list s more)) ≡ (if c then g (if b then flat one.list else slot_list s more) else (if b then flat one.list else slot_list s more))
     split true true once = absurd (true≢false (once refl))
     split true false once = refl
     split false true once = refl
     split false false once = refl
 
 -- the same where the entry is read
-pub set_at : (g : SlotValues → SlotValues) (slot : ℕ) (slots : List SlotEntry) (at : ℕ) (x : SlotEntry) (list : SlotValues) → position (λ (one : SlotEntry). one.slot == slot) slots ≡ Some at
-    → x ≡ get_or slots at x → list ≡ g x.list → (s : ℕ)
+pub set_at : (g : SlotValues → SlotValues) (slot : ℕ) (slots : List SlotEntry) (at : ℕ) (x : SlotEntry) (list : SlotRuns) → position (λ (one : SlotEntry). one.slot == slot) slots ≡ Some at
+    → x ≡ get_or slots at x → flat list ≡ g (flat x.list) → (s : ℕ)
     → slot_list s (set slots at (record { slot = x.slot; list = list })) ≡ (if slot == s then g (slot_list s slots) else slot_list s slots)
 set_at g slot slots at x list e is new s =
-    (λ i. slot_list s (set slots at (record { slot = (is i).slot; list = new i })))
-    ∙ ap (λ (y : SlotEntry). slot_list s (set slots at (record { slot = (get_or slots at x).slot; list = g y.list }))) is
-    ∙ slot_list-set g slot slots at x (first_from slot slots at e) s
+    ap (λ n. slot_list s (set slots at (record { slot = n; list = list }))) (ap (λ (y : SlotEntry). y.slot) is)
+    ∙ slot_list-set g slot slots at x list (new ∙ ap (λ (y : SlotEntry). g (flat y.list)) is) (first_from slot slots at e) s
 
-pub list_at : (slot : ℕ) (slots : List SlotEntry) (at : ℕ) (x : SlotEntry) → position (λ (one : SlotEntry). one.slot == slot) slots ≡ Some at → x ≡ get_or slots at x → x.list ≡ slot_list slot slots
-list_at slot slots at x e is = ap (λ (y : SlotEntry). y.list) is ∙ sym (slot_list-there slot slots at x (first_from slot slots at e))
+-- the pieces of a list are those of its slot
+pub slot_pieces-there : (slot : ℕ) (slots : List SlotEntry) (at : ℕ) (d : SlotEntry) → IsFirstAt slot slots at → slot_pieces slot slots ≡ (get_or slots at d).list
+slot_pieces-there slot [] at d h = absurd (omega (arith, h.there))
+slot_pieces-there slot (one ∷ more) zero d h = ap (λ b. if b then one.list else slot_pieces slot more) (h.is one)
+slot_pieces-there slot (one ∷ more) (suc at) d h = ap (λ b. if b then one.list else slot_pieces slot more) (h.before 0 one (omega arith)) ∙ slot_pieces-there slot more at d (first_tail slot one more at h)
+
+pub slot_pieces-none : (slot : ℕ) (slots : List SlotEntry) → NoSlot slot slots → slot_pieces slot slots ≡ []
+slot_pieces-none slot [] h = refl
+slot_pieces-none slot (one ∷ more) h = ap (λ b. if b then one.list else slot_pieces slot more) (h 0 one (omega arith)) ∙ slot_pieces-none slot more (λ k d lt. h (suc k) d (omega arith))
+
+pub flat-slot_pieces : (slot : ℕ) (slots : List SlotEntry) → flat (slot_pieces slot slots) ≡ slot_list slot slots
+flat-slot_pieces slot [] = refl
+flat-slot_pieces slot (one ∷ more) = by (one.slot == slot) (flat-slot_pieces slot more)
+  where
+    by : (b : Bool) → flat (slot_pieces slot more) ≡ slot_list slot more → flat (if b then one.list else slot_pieces slot more) ≡ (if b then flat one.list else slot_list slot more)
+    by true rest = refl
+    by false rest = rest
+
+pub pieces_at : (slot : ℕ) (slots : List SlotEntry) (at : ℕ) (x : SlotEntry) → position (λ (one : SlotEntry). one.slot == slot) slots ≡ Some at → x ≡ get_or slots at x → x.list ≡ slot_pieces slot slots
+pieces_at slot slots at x e is = ap (λ (y : SlotEntry). y.list) is ∙ sym (slot_pieces-there slot slots at x (first_from slot slots at e))
 
 -- a slot that has no list gets one
-pub slot_list-push : (id : ℕ) (value : List ℕ) (slot : ℕ) (slots : List SlotEntry) → NoSlot slot slots → (s : ℕ)
-    → slot_list s (slots ++ record { slot = slot; list = put id value [] } ∷ []) ≡ (if slot == s then put id value (slot_list s slots) else slot_list s slots)
-slot_list-push id value slot [] h s = refl
-slot_list-push id value slot (one ∷ more) h s =
-    ap (λ (l : SlotValues). if one.slot == s then one.list else l) (slot_list-push id value slot more (λ k d lt. h (suc k) d (omega arith)) s)
+pub slot_list-push : (id : ℕ) (value : List ℕ) (slot : ℕ) (slots : List SlotEntry) (list : SlotRuns) → flat list ≡ put id value [] → NoSlot slot slots → (s : ℕ)
+    → slot_list s (slots ++ record { slot = slot; list = list } ∷ []) ≡ (if slot == s then put id value (slot_list s slots) else slot_list s slots)
+slot_list-push id value slot [] list e h s = ap (λ (l : SlotValues). if slot == s then l else []) e
+slot_list-push id value slot (one ∷ more) list e h s =
+    ap (λ (l : SlotValues). if one.slot == s then flat one.list else l) (slot_list-push id value slot more list e (λ k d lt. h (suc k) d (omega arith)) s)
     ∙ split (one.slot == s) (slot == s) (other_slot one.slot slot s (h 0 one (omega arith)))
   where
     split : (b c : Bool) → (b ≡ true → c ≡ false)
-        → (if b then one.list else (if c then put id value (slot_list s more) else slot_list s more)) ≡ (if c then put id value (if b then one.list else slot_list s more) else (if b then one.list else slot_list s more))
+        → (if b then flat one.list else (if c then put id value (slot_list s more) else slot_list s more)) ≡ (if c then put id value (if b then flat one.list else slot_list s more) else (if b then flat one.list else slot_list s more))
     split true true once = absurd (true≢false (once refl))
     split true false once = refl
     split false true once = refl

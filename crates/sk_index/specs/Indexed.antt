@@ -3,7 +3,7 @@ use Rattle.std.specs.Prelude.{◌≡◌, ◌<◌, ℕ, true, false, List, [], le
 use Rattle.std.specs.List.{filter_map, list_any}
 use Rattle.sk_chunks.specs.Postings.{Postings}
 use Rattle.sk_lists.specs.Lists.{Runs}
-use Rattle.sk_values.specs.SlotValues.{SlotValues}
+use Rattle.sk_values.specs.SlotValues.{SlotValues, SlotRuns}
 use Rattle.sk_base.specs.declared.schema.Field.{Field}
 use Rattle.sk_base.specs.Documents.{has_term, wdf_of, positions_of, begins_with, has_value, value_in}
 use Rattle.sk_base.specs.declared.doc_entry.DocTerm.{DocTerm}
@@ -12,20 +12,27 @@ use Rattle.sk_dict.specs.Terms.{term_at, number_of, Precedes}
 use Rattle.sk_model.specs.Documents.{Document}
 use Rattle.sk_model.specs.Edits.{Live, document_at}
 use Rattle.sk_model.specs.Scores.{wild_wdf}
+use Rattle.sk_index.specs.declared.slot_lists.SlotEntry.{SlotEntry}
+use Rattle.sk_index.specs.Slotted.{slot_pieces}
 
 -- What an index holds: the fields of its schema, the live documents, the terms that were given a number, by number, and
--- how the list of all documents and that of each term are cut into chunks.
+-- how the list of all documents, that of each term and that of each slot are cut.
 pub record Indexed : Type 0 where
   pub fields : List Field
   pub live : Live
   pub terms : List (List ℕ)
   pub all : Runs
   pub lists : List Runs
+  pub slots : List SlotEntry
 
 -- The chunks of the list of a term, by its number, and of all documents.
 abbrev pub runs_in : Indexed → Option ℕ → Runs
 runs_in i None = i.all
 runs_in i (Some n) = slice_index_or i.lists n []
+
+-- The pieces of the list of a slot.
+abbrev pub pieces_in : Indexed → ℕ → SlotRuns
+pieces_in i slot = slot_pieces slot i.slots
 
 -- The posting of a document that has the term.
 abbrev pub posting_in : List ℕ → ℕ × Document → Option (ℕ × ℕ)

@@ -3,13 +3,19 @@ use Rattle.std.specs.Prelude.{◌≡◌, ◌==◌, ℕ, List, [], ◌∷◌, if�
 use Rattle.sk_base.specs.declared.doc_entry.SlotValue.{SlotValue}
 use Rattle.sk_base.specs.Documents.{has_value, value_in}
 use Rattle.sk_sorted.specs.Entries.{put, without}
-use Rattle.sk_values.specs.SlotValues.{SlotValues}
+use Rattle.sk_runs.specs.Runs.{flat}
+use Rattle.sk_values.specs.SlotValues.{SlotValues, SlotRuns}
 use Rattle.sk_index.specs.declared.slot_lists.SlotEntry.{SlotEntry}
+
+-- The pieces of the list of a slot, none where there is no list.
+abbrev pub slot_pieces : ℕ → List SlotEntry → SlotRuns
+slot_pieces slot [] = []
+slot_pieces slot (one ∷ more) = if one.slot == slot then one.list else slot_pieces slot more
 
 -- The list of a slot, empty where there is none.
 abbrev pub slot_list : ℕ → List SlotEntry → SlotValues
 slot_list slot [] = []
-slot_list slot (one ∷ more) = if one.slot == slot then one.list else slot_list slot more
+slot_list slot (one ∷ more) = if one.slot == slot then flat one.list else slot_list slot more
 
 -- The document has this value in one slot, and no other list changed.
 abbrev pub Sets : ℕ → ℕ → List ℕ → List SlotEntry → List SlotEntry → Type 0

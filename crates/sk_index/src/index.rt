@@ -10,7 +10,7 @@ ghost use Rattle.sk_dict.specs.Terms.{term_at, number_of};
 ghost use Rattle.sk_runs.specs.Runs.{flat};
 ghost use Rattle.sk_model.specs.Documents.{keeps_slot, has_slot};
 ghost use Rattle.sk_model.specs.Edits.{nothing_live, edited, reply_to, document_at, IsLive};
-ghost use Rattle.sk_index.specs.Indexed.{Indexed, runs_in, postings, all_postings, slot_values, slot_value, term_positions, HavePositions, AreNumbered, AreAllWith};
+ghost use Rattle.sk_index.specs.Indexed.{Indexed, runs_in, pieces_in, postings, all_postings, slot_values, slot_value, term_positions, HavePositions, AreNumbered, AreAllWith};
 
 use crate::all_places::AllPlaces;
 use crate::lists::Lists;
@@ -38,13 +38,13 @@ impl Model for Index {
 
     ghost Value = { Indexed };
 
-    ghost view = { λ i. record { fields = i.documents.fields; live = i.documents.live; terms = i.documents.beside.terms.terms; all = i.documents.beside.all; lists = i.documents.beside.terms.lists } };
+    ghost view = { λ i. record { fields = i.documents.fields; live = i.documents.live; terms = i.documents.beside.terms.terms; all = i.documents.beside.all; lists = i.documents.beside.terms.lists; slots = i.documents.beside.slots } };
 }
 
 impl Index {
     /// An index without documents.
     pub fn new(alloc: Global, schema: Schema) -> Result<Index, AllocError>
-        ensures { IfOk result (λ index. index ≡ record { fields = schema; live = nothing_live; terms = []; all = []; lists = [] }) }
+        ensures { IfOk result (λ index. index ≡ record { fields = schema; live = nothing_live; terms = []; all = []; lists = []; slots = [] }) }
     {
         let lists = Lists {
             all: List::new(alloc),
@@ -127,11 +127,11 @@ impl Index {
 
     /// The values of a slot of the schema.
     pub fn slot(&self, slot: u32) -> Option<&SlotList>
-        ensures value { MatchOption result (has_slot slot self.now.fields ≡ false) (λ list. list.now ≡ slot_values slot self.now.live.documents) }
+        ensures value { MatchOption result (has_slot slot self.now.fields ≡ false) (λ list. flat list.now ≡ slot_values slot self.now.live.documents) }
         ensures found { has_slot slot self.now.fields ≡ true → IsSome result }
     {
         if has_slot(self.schema().fields(), slot) {
-            Some(self.documents.beside().slots.list(slot))
+            Some(self.values(slot))
         } else {
             None
         }
@@ -139,7 +139,8 @@ impl Index {
 
     /// The values of a slot. No document has one in a slot that the schema has not.
     pub fn values(&self, slot: u32) -> &SlotList
-        ensures { result.now ≡ slot_values slot self.now.live.documents }
+        ensures pieces { result.now ≡ pieces_in self.now slot }
+        ensures entries { flat result.now ≡ slot_values slot self.now.live.documents }
     {
         self.documents.beside().slots.list(slot)
     }

@@ -1,7 +1,8 @@
 //! The lists of the slots' values.
 ghost use Rattle.std.specs.Prelude.{◌≡◌, ◌≤◌, ◌<◌, ◌==◌, [], length, position, IfOk, OnOk, IfSome};
 ghost use Rattle.sk_base.specs.Documents.{AreValues};
-ghost use Rattle.sk_index.specs.Slotted.{slot_list, Sets, Clears, SetsAll, ClearsAll};
+ghost use Rattle.sk_runs.specs.Runs.{flat};
+ghost use Rattle.sk_index.specs.Slotted.{slot_pieces, slot_list, Sets, Clears, SetsAll, ClearsAll};
 
 use sk_base::{Bytes, DocId, SlotValue};
 use sk_values::SlotList;
@@ -50,7 +51,8 @@ impl SlotLists {
 
     /// The list of the slot.
     pub fn list(&self, slot: u32) -> &SlotList
-        ensures { result.now ≡ slot_list slot self.now }
+        ensures pieces { result.now ≡ slot_pieces slot self.now }
+        ensures entries { flat result.now ≡ slot_list slot self.now }
     {
         match self.place_of(slot) {
             Some(at) => &self.slots[at].list,

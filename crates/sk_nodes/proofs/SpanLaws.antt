@@ -12,6 +12,7 @@ use Rattle.sk_base.specs.Documents.{value_in, has_value}
 use Rattle.sk_base.specs.Numbers.{Docs, slot_length_of}
 use Rattle.sk_sorted.specs.Entries.{RiseAbove, LieBelow, AreSorted, found, from, first_id}
 use Rattle.sk_sorted.proofs.EntryLaws.{RiseAbove-lower, found-here, found-other, found-below}
+use Rattle.sk_runs.specs.Runs.{flat}
 use Rattle.sk_chunks.specs.Postings.{Postings, first_wdf}
 use Rattle.sk_values.specs.SlotValues.{SlotValues}
 use Rattle.sk_values.specs.RangeCursor.{in_range, left, IsOn}
@@ -23,7 +24,7 @@ use Rattle.sk_model.specs.Weights.{weigh_by}
 use Rattle.sk_model.specs.Scores.{weight_if}
 use Rattle.sk_model.specs.Covers.{Covers}
 use Rattle.sk_model.proofs.StaticLaws.{le_not_gt, not_gt_le}
-use Rattle.sk_index.specs.Indexed.{Indexed, slot_values}
+use Rattle.sk_index.specs.Indexed.{Indexed, pieces_in, slot_values}
 use Rattle.sk_decay.specs.Heads.{IsHead}
 use Rattle.sk_nodes.specs.declared.top.Top.{Top}
 use Rattle.sk_nodes.specs.declared.span.Span.{Span}
@@ -248,7 +249,7 @@ pub span_at : (i : Indexed) (r : Span) (id : ℕ) → Some id ≡ first_id (left
 span_at i r id e = head_of-Some id (span_entries i r) (e ∙ sym (first_unweighed (left r.cursor (slot_values r.slot i.live.documents))))
 
 -- the cursor moved on
-module _ (i : Indexed) (old new : Span) (target : ℕ) (slot : new.slot ≡ old.slot) (on : IsSpanOn i old) (moved : IsOn new.cursor (slot_values old.slot i.live.documents))
+module _ (i : Indexed) (old new : Span) (target : ℕ) (slot : new.slot ≡ old.slot) (on : IsSpanOn i old) (moved : IsOn new.cursor (pieces_in i old.slot))
     (e : left new.cursor (slot_values old.slot i.live.documents) ≡ from target (left old.cursor (slot_values old.slot i.live.documents))) where
   entries : span_entries i new ≡ from target (span_entries i old)
   entries = ap (λ s. unweighed (left new.cursor (slot_values s i.live.documents))) slot ∙ ap unweighed e ∙ from_unweighed target (left old.cursor (slot_values old.slot i.live.documents))
@@ -260,7 +261,8 @@ module _ (i : Indexed) (old new : Span) (target : ℕ) (slot : new.slot ≡ old.
 
   pub span_moved : IsSpanOn i new
   span_moved = record {
-    on = subst (λ s. IsOn new.cursor (slot_values s i.live.documents)) (sym slot) moved;
+    on = subst (λ s. IsOn new.cursor (pieces_in i s)) (sym slot) moved;
+    values = subst (λ s. flat (pieces_in i s) ≡ slot_values s i.live.documents) (sym slot) on.values;
     sorted = subst (λ (es : Postings). AreSorted es) (sym entries) (sorted_from target (span_entries i old) on.sorted);
     live = λ id none. covers_none (from_on target (span_rest i old) id) (span_rest i new id) 0 (from_on-none target (span_rest i old) id (on.live id none)) (span_covers 0 id);
   }
@@ -269,10 +271,11 @@ module _ (i : Indexed) (old new : Span) (target : ℕ) (slot : new.slot ≡ old.
   span_reached lt =
       subst (λ (es : Postings). target ≤ head_of es) (sym entries) (head_of-reached target (from target (span_entries i old)) lt (Passes-from target 0 (span_entries i old)).reached)
 
-pub span_opened : (i : Indexed) (r : Span) (lo hi : Option (List ℕ)) → IsOn r.cursor (slot_values r.slot i.live.documents) → left r.cursor (slot_values r.slot i.live.documents) ≡ in_range lo hi (slot_values r.slot i.live.documents)
+pub span_opened : (i : Indexed) (r : Span) (lo hi : Option (List ℕ)) → IsOn r.cursor (pieces_in i r.slot) → flat (pieces_in i r.slot) ≡ slot_values r.slot i.live.documents → left r.cursor (slot_values r.slot i.live.documents) ≡ in_range lo hi (slot_values r.slot i.live.documents)
     → AreSorted i.live.documents → IsSpanOn i r
-span_opened i r lo hi on e documents = record {
+span_opened i r lo hi on values e documents = record {
   on = on;
+  values = values;
   sorted = subst (λ (es : SlotValues). AreSorted (unweighed es)) (sym e) (sorted_in lo hi (slot_values r.slot i.live.documents) (sorted_slot r.slot i.live.documents documents));
   live = λ id none. ap (λ (es : SlotValues). weighed 0 Scheme.Bool (unweighed es) id) e ∙ range_live lo hi r.slot id i.live.documents documents none;
 }

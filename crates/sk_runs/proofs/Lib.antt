@@ -1,2 +1,4 @@
 pub mod RunLaws
+pub mod EditLaws
+pub mod PlaceLaws
 mod Examples

@@ -1,5 +1,5 @@
 -- Entries in order of their ids, cut into runs.
-use Rattle.std.specs.Prelude.{ℕ, zero, suc, ◌<◌, ◌^◌, List, [], ◌∷◌, ◌++◌, length}
+use Rattle.std.specs.Prelude.{◌≡◌, ℕ, zero, suc, ◌+◌, ◌<◌, ◌≤◌, ◌^◌, List, [], ◌∷◌, ◌++◌, length, take, get_or}
 use Rattle.sk_sorted.specs.Entries.{RiseAbove, LieBelow, top_id}
 
 -- The entries of all runs.
@@ -22,3 +22,9 @@ abbrev pub FitsAt : {X : Type 0} → ℕ → List (List (ℕ × X)) → ℕ → 
 FitsAt id [] i = ⊥
 FitsAt id (r ∷ rs) zero = RiseAbove id (flat rs)
 FitsAt id (r ∷ rs) (suc i) = (top_id 0 r < id) × FitsAt id rs i
+
+-- A place behind so many entries of run i is one behind so many of all; behind the last run there is a place as well.
+pub record IsPlace {X : Type 0} (rs : List (List (ℕ × X))) (i read passed : ℕ) : Type 0 where
+  pub bound : i ≤ length rs
+  pub within : read ≤ length (get_or rs i [])
+  pub counted : passed ≡ length (flat (take i rs)) + read

@@ -214,6 +214,15 @@ module _ {X : Type 0} where
   from-above low target [] up le = refl
   from-above low target (e ∷ es) up le = from-at target e es (omega (arith, up.0))
 
+  -- `from` passes over entries below the target, and leaves those whole that stand behind a bound from the target on
+  pub from-append : (target : ℕ) (ds es : List (ℕ × X)) → LieBelow target ds → from target (ds ++ es) ≡ from target es
+  from-append target [] es below = refl
+  from-append target (d ∷ ds) es below = grind (arith, nat_tests, from-append target ds es, below.0, below.1)
+
+  pub from-front_append : (low target : ℕ) (ds es : List (ℕ × X)) → target ≤ low + 1 → RiseAbove low es → from target (ds ++ es) ≡ from target ds ++ es
+  from-front_append low target [] es le up = from-above low target es up le
+  from-front_append low target (d ∷ ds) es le up = grind (arith, nat_tests, from-front_append low target ds es le up)
+
   -- behind the first entry stands the rest
   pub from-next : (e : ℕ × X) (es : List (ℕ × X)) → AreSorted (e ∷ es) → from (e.0 + 1) (e ∷ es) ≡ es
   from-next e es sound = rw (from-below (e.0 + 1) e es (omega arith)) (from-above e.0 (e.0 + 1) es sound.rise.1 (omega arith))

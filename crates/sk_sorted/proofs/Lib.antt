@@ -1,4 +1,5 @@
 pub mod EntryLaws
 pub mod PlaceLaws
+pub mod EndLaws
 pub mod PickedLaws
 mod Examples

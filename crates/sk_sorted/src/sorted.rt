@@ -1,7 +1,7 @@
 //! A list of entries in order of their ids.
-ghost use Rattle.std.specs.Prelude.{◌≡◌, ◌≤◌, [], length, true, IfOk, IsOk, OnOk, OnErr};
+ghost use Rattle.std.specs.Prelude.{◌≡◌, ◌≤◌, [], ◌++◌, length, take, drop, true, IfOk, IsOk, OnOk, OnErr};
 ghost use Rattle.std.specs.Option.{option_map};
-ghost use Rattle.sk_sorted.specs.Entries.{AreSorted, put, without, found, has};
+ghost use Rattle.sk_sorted.specs.Entries.{AreSorted, RiseAbove, put, without, found, has, top_id};
 
 use crate::place_of;
 use std::alloc::{AllocError, Global};
@@ -55,6 +55,16 @@ impl<T> Sorted<T> {
         self.entries.len() as u32
     }
 
+    /// The last id, 0 where there is none. It looks at the last entry alone.
+    pub fn last(&self) -> u32
+        ensures { result ≡ top_id 0 self.now }
+    {
+        match self.entries.last() {
+            Some(entry) => entry.0,
+            None => 0,
+        }
+    }
+
     /// What stands with the id.
     pub fn get(&self, id: u32) -> Option<&T>
         ensures { option_map (λ x. x.now) result ≡ found id self.now }
@@ -97,6 +107,29 @@ impl<T: Drop> Sorted<T> {
             }
             Err(_) => None,
         }
+    }
+
+    /// Gives away the entries from this place on. The memory for them is taken first.
+    pub fn split_off(&mut self, at: usize) -> Result<Sorted<T>, AllocError>
+        requires { at ≤ length self.old }
+        ensures ok { OnOk result (self.new ≡ take at self.old) }
+        ensures rest { IfOk result (λ rest. rest ≡ drop at self.old) }
+        ensures err { OnErr result (self.new ≡ self.old) }
+    {
+        let entries = self.entries.split_off(at)?;
+        Ok(Sorted { entries })
+    }
+
+    /// Takes the entries of another list, which are behind its own.
+    pub fn append(&mut self, other: &mut Sorted<T>) -> Result<(), AllocError>
+        requires { RiseAbove (top_id 0 self.old) other.old }
+        ensures ok { OnOk result (self.new ≡ self.old ++ other.old) }
+        ensures emptied { OnOk result (other.new ≡ []) }
+        ensures err { OnErr result (self.new ≡ self.old) }
+        ensures rest { OnErr result (other.new ≡ other.old) }
+    {
+        self.entries.append(&mut other.entries)?;
+        Ok(())
     }
 }
 

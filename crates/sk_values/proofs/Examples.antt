@@ -58,7 +58,7 @@ open_ends = refl
 
 -- on the second entry, in a range from its value on
 abbrev second : RangeCursor
-second = record { read = 2; head = Some 4; lo = Some (98 ∷ []); hi = None }
+second = record { place = record { piece = 0; read = 2; passed = 2 }; head = Some 4; lo = Some (98 ∷ []); hi = None }
 
 left_to_second : left second three ≡ (4, 98 ∷ 0 ∷ []) ∷ (7, 99 ∷ []) ∷ []
 left_to_second = refl
@@ -67,5 +67,5 @@ unread_to_second : unread second three ≡ (7, 99 ∷ []) ∷ []
 unread_to_second = refl
 
 -- ended
-nothing_left : left (record { read = 3; head = None; lo = None; hi = Some [] }) three ≡ []
+nothing_left : left (record { place = record { piece = 1; read = 0; passed = 3 }; head = None; lo = None; hi = Some [] }) three ≡ []
 nothing_left = refl

@@ -1,4 +1,6 @@
 pub mod ValueLaws
 pub mod RangeLaws
+mod SlotLemmas
+mod CursorLemmas
 mod PlaceLemmas
 mod Examples

@@ -5,9 +5,10 @@ use Rattle.std.proofs.lemmas.List.{drop_all}
 use Rattle.sk_sorted.specs.Entries.{RiseAbove, AreSorted, from, first_id}
 use Rattle.sk_sorted.specs.Places.{id_at}
 use Rattle.sk_sorted.proofs.EntryLaws.{RiseAbove-lower, RiseAbove-drop, from-below, from-at, from-above}
+use Rattle.sk_runs.specs.Runs.{flat}
 use Rattle.sk_model.specs.Ranges.{is_within}
 use Rattle.sk_values.specs.declared.range_cursor.RangeCursor.{RangeCursor}
-use Rattle.sk_values.specs.SlotValues.{SlotValues, value_at}
+use Rattle.sk_values.specs.SlotValues.{SlotValues, SlotRuns, value_at}
 use Rattle.sk_values.specs.RangeCursor.{in_range, unread, ahead, left, IsStop, IsHeadAt, IsOn, is_head_below}
 use Rattle.sk_values.proofs.ValueLaws.{drop-entry}
 
@@ -122,8 +123,8 @@ ended_unread lo hi None read list on e = drop_all read list (omega (arith, on))
 ended_unread lo hi (Some id) read list on e = cc
 
 -- where there is no head, nothing is unread
-pub unread-ended : (c : RangeCursor) (list : SlotValues) → IsOn c list → None ≡ first_id (left c list) → unread c list ≡ []
-unread-ended c list on e = ended_unread c.lo c.hi c.head c.read list on (e ∙ sym (head_is c.lo c.hi c.head c.read list on))
+pub unread-ended : (c : RangeCursor) (runs : SlotRuns) → IsOn c runs → None ≡ first_id (left c (flat runs)) → unread c (flat runs) ≡ []
+unread-ended c runs on e = ended_unread c.lo c.hi c.head c.place.passed (flat runs) on.head (e ∙ sym (head_is c.lo c.hi c.head c.place.passed (flat runs) on.head))
 
 -- a head, and then the unread in the range, by cases
 head_split : (lo hi : Option (List ℕ)) (head : Option ℕ) (read id : ℕ) (list : SlotValues) → IsHeadAt lo hi head read list → Some id ≡ head
@@ -132,22 +133,24 @@ head_split lo hi None read id list on e = cc
 head_split lo hi (Some at) read id list on e = let same : at ≡ id = cc in stop-split lo hi at read list on ∙ (λ k. (same k, value_at list (read - 1)) ∷ in_range lo hi (drop read list))
 
 -- the head's entry, and then the unread in the range
-pub left-split : (c : RangeCursor) (list : SlotValues) (id : ℕ) → IsOn c list → Some id ≡ first_id (left c list) → left c list ≡ (id, value_at list (c.read - 1)) ∷ in_range c.lo c.hi (unread c list)
-left-split c list id on e = head_split c.lo c.hi c.head c.read id list on (e ∙ sym (head_is c.lo c.hi c.head c.read list on))
+pub left-split : (c : RangeCursor) (runs : SlotRuns) (id : ℕ) → IsOn c runs → Some id ≡ first_id (left c (flat runs))
+    → left c (flat runs) ≡ (id, value_at (flat runs) (c.place.passed - 1)) ∷ in_range c.lo c.hi (unread c (flat runs))
+left-split c runs id on e = head_split c.lo c.hi c.head c.place.passed id (flat runs) on.head (e ∙ sym (head_is c.lo c.hi c.head c.place.passed (flat runs) on.head))
 
 -- what is left rises
 pub RiseAbove-left : (c : RangeCursor) (list : SlotValues) → AreSorted list → RiseAbove 0 (left c list)
-RiseAbove-left c list sound = RiseAbove-in_range c.lo c.hi 0 (ahead c.head c.read list) (by c.head)
+RiseAbove-left c list sound = RiseAbove-in_range c.lo c.hi 0 (ahead c.head c.place.passed list) (by c.head)
   where
-    by : (head : Option ℕ) → RiseAbove 0 (ahead head c.read list)
+    by : (head : Option ℕ) → RiseAbove 0 (ahead head c.place.passed list)
     by None = tt
-    by (Some id) = RiseAbove-drop 0 (c.read - 1) list sound.rise
+    by (Some id) = RiseAbove-drop 0 (c.place.passed - 1) list sound.rise
 
 -- behind the head's id stands the unread in the range
-pub from-left : (c : RangeCursor) (list : SlotValues) (id : ℕ) → AreSorted list → IsOn c list → Some id ≡ first_id (left c list) → from (id + 1) (left c list) ≡ in_range c.lo c.hi (unread c list)
-from-left c list id sound on e =
-    let split = left-split c list id on e in
-    let entry : ℕ × List ℕ = (id, value_at list (c.read - 1)) in
+pub from-left : (c : RangeCursor) (runs : SlotRuns) (id : ℕ) → AreSorted (flat runs) → IsOn c runs → Some id ≡ first_id (left c (flat runs)) → from (id + 1) (left c (flat runs)) ≡ in_range c.lo c.hi (unread c (flat runs))
+from-left c runs id sound on e =
+    let list : SlotValues = flat runs in
+    let split = left-split c runs id on e in
+    let entry : ℕ × List ℕ = (id, value_at list (c.place.passed - 1)) in
     let rest : SlotValues = in_range c.lo c.hi (unread c list) in
     let up : RiseAbove 0 (entry ∷ rest) = subst (RiseAbove 0) split (RiseAbove-left c list sound) in
     ap (from (id + 1)) split ∙ from-below (id + 1) entry rest (omega arith) ∙ from-above id (id + 1) rest up.1 (omega arith)

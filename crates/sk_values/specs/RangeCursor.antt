@@ -1,9 +1,11 @@
 -- A place in a slot's list: what a cursor over a range has come past, and what is left to it.
 use Rattle.std.specs.Prelude.{◌≡◌, ◌<◌, ◌≤◌, ◌-◌, ℕ, Bool, true, false, nat_lt, List, [], Option, None, Some, length, drop, filter}
 use Rattle.sk_sorted.specs.Places.{id_at}
+use Rattle.sk_runs.specs.Runs.{flat, IsPlace}
 use Rattle.sk_model.specs.Ranges.{is_within}
+use Rattle.sk_values.specs.declared.range_cursor.Place.{Place}
 use Rattle.sk_values.specs.declared.range_cursor.RangeCursor.{RangeCursor}
-use Rattle.sk_values.specs.SlotValues.{SlotValues, value_at}
+use Rattle.sk_values.specs.SlotValues.{SlotValues, SlotRuns, value_at}
 
 -- The entries whose values lie in the range.
 abbrev pub in_range : Option (List ℕ) → Option (List ℕ) → SlotValues → SlotValues
@@ -11,7 +13,7 @@ in_range lo hi list = filter (λ e. is_within lo hi e.1) list
 
 -- The entries that a cursor has not come past, be it by reading them or by passing over them.
 abbrev pub unread : RangeCursor → SlotValues → SlotValues
-unread c list = drop c.read list
+unread c list = drop c.place.passed list
 
 -- The entries from the head on; none where there is no head.
 abbrev pub ahead : Option ℕ → ℕ → SlotValues → SlotValues
@@ -20,7 +22,7 @@ ahead (Some id) read list = drop (read - 1) list
 
 -- What is left to a cursor: of the entries from its head on, those in the range.
 abbrev pub left : RangeCursor → SlotValues → SlotValues
-left c list = in_range c.lo c.hi (ahead c.head c.read list)
+left c list = in_range c.lo c.hi (ahead c.head c.place.passed list)
 
 -- The head is the id of the entry that was read last, and its value lies in the range.
 pub record IsStop (lo hi : Option (List ℕ)) (id read : ℕ) (list : SlotValues) : Type 0 where
@@ -34,9 +36,14 @@ abbrev pub IsHeadAt : Option (List ℕ) → Option (List ℕ) → Option ℕ →
 IsHeadAt lo hi None read list = read ≡ length list
 IsHeadAt lo hi (Some id) read list = IsStop lo hi id read list
 
+-- The place is one of this list.
+abbrev pub IsPlaceIn : Place → SlotRuns → Type 0
+IsPlaceIn p runs = IsPlace runs p.piece p.read p.passed
+
 -- A cursor's place and head are those of this list.
-abbrev pub IsOn : RangeCursor → SlotValues → Type 0
-IsOn c list = IsHeadAt c.lo c.hi c.head c.read list
+pub record IsOn (c : RangeCursor) (runs : SlotRuns) : Type 0 where
+  pub place : IsPlaceIn c.place runs
+  pub head : IsHeadAt c.lo c.hi c.head c.place.passed (flat runs)
 
 -- Whether there is a head below the target.
 abbrev pub is_head_below : ℕ → Option ℕ → Bool

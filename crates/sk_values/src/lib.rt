@@ -1,6 +1,7 @@
 //! The values of one slot, by document, and a cursor over those in a range; every reading of one is counted.
 #![tactic(auto)]
 
+mod piece;
 mod place;
 mod range;
 mod range_cursor;

@@ -1,10 +1,12 @@
 //! A place in a slot's list, which only moves on, and stops only at values in a range.
 ghost use Rattle.std.specs.Prelude.{◌≡◌, ◌+◌, ◌≤◌, length, drop, IfSome};
 ghost use Rattle.sk_sorted.specs.Entries.{from, first_id};
-ghost use Rattle.sk_values.specs.SlotValues.{SlotValues};
-ghost use Rattle.sk_values.specs.RangeCursor.{in_range, unread, ahead, left, IsHeadAt, IsOn, is_head_below};
+ghost use Rattle.sk_runs.specs.Runs.{flat};
+ghost use Rattle.sk_values.specs.SlotValues.{SlotRuns};
+ghost use Rattle.sk_values.specs.RangeCursor.{in_range, unread, ahead, left, IsHeadAt, IsPlaceIn, IsOn, is_head_below};
 
 use crate::SlotList;
+use crate::piece::Piece;
 use crate::range::is_within;
 use sk_base::{Bytes, DocId};
 use sk_steps::Steps;
@@ -13,10 +15,18 @@ use std::sync::ledger::Ledger;
 /// A place in a list and the id there, its head. It holds no reference: `seek` is given the list that it is on.
 #[derive(Debug, Drop)]
 pub struct RangeCursor {
-    read: u32,
+    place: Place,
     head: Option<DocId>,
     lo: Option<Bytes>,
     hi: Option<Bytes>,
+}
+
+// A place in a list, behind so many entries of a piece. It keeps how many of all entries it is behind.
+#[derive(Clone, Copy, Debug)]
+struct Place {
+    piece: usize,
+    read: u32,
+    passed: u32,
 }
 
 impl RangeCursor {
@@ -28,57 +38,68 @@ impl RangeCursor {
         steps: &mut Steps<L>,
     ) -> RangeCursor
         ensures on { IsOn result list.now }
-        ensures left { left result list.now ≡ in_range lo hi list.now }
+        ensures left { left result (flat list.now) ≡ in_range lo hi (flat list.now) }
 
         // What is not read is unread.
-        ensures cost { steps.new + length (unread result list.now) ≡ steps.old + length list.now }
+        ensures cost { steps.new + length (unread result (flat list.now)) ≡ steps.old + length (flat list.now) }
         ensures later { steps.old ≤ steps.new }
     {
-        let (read, head) = stop_from(list, 0, list.length(), &lo, &hi, steps);
-        RangeCursor { read, head, lo, hi }
+        let front = Place {
+            piece: 0,
+            read: 0,
+            passed: 0,
+        };
+        let (place, head) = stop_from(list, front, &lo, &hi, steps);
+        RangeCursor {
+            place,
+            head,
+            lo,
+            hi,
+        }
     }
 
-    /// Moves on to the first entry in the range whose id is at least `target`, and answers how many entries it read.
+    /// Moves on to the first entry in the range whose id is at least `target`, and answers how many entries it read. It
+    /// passes over whole pieces without a reading.
     pub fn seek<L: Ledger>(&mut self, list: &SlotList, target: DocId, steps: &mut Steps<L>) -> u32
         requires on { IsOn self.old list.now }
         ensures on { IsOn self.new list.now }
 
         // It passes over what is below the target at the front, and over nothing else in the range.
-        ensures left { left self.new list.now ≡ from target (left self.old list.now) }
+        ensures left { left self.new (flat list.now) ≡ from target (left self.old (flat list.now)) }
 
         // What it reads is the next entries from the target on, each once: none below that, and it never goes back.
-        ensures unread { unread self.new list.now ≡ drop result (from target (unread self.old list.now)) }
-        ensures within { result ≤ length (from target (unread self.old list.now)) }
-        ensures read { result + length (unread self.new list.now) ≤ length (unread self.old list.now) }
+        ensures unread { unread self.new (flat list.now) ≡ drop result (from target (unread self.old (flat list.now))) }
+        ensures within { result ≤ length (from target (unread self.old (flat list.now))) }
+        ensures read { result + length (unread self.new (flat list.now)) ≤ length (unread self.old (flat list.now)) }
         ensures cost { steps.new ≡ steps.old + result }
 
         // It reads no entry without need.
-        ensures stays { IfSome (first_id (left self.old list.now)) (λ id. target ≤ id)
+        ensures stays { IfSome (first_id (left self.old (flat list.now))) (λ id. target ≤ id)
             → (result ≡ 0) × (self.new ≡ self.old) }
     {
-        let end = list.length();
+        let _sound = list.length();
         if !self.is_below(target) {
             return 0;
         }
-        let place = list.place_from(self.read, target);
-        let (read, head) = stop_from(list, place, end, &self.lo, &self.hi, steps);
-        self.read = read;
+        let place = place_from(list, self.place, target);
+        let (stop, head) = stop_from(list, place, &self.lo, &self.hi, steps);
+        self.place = stop;
         self.head = head;
-        read - place
+        stop.passed - place.passed
     }
 
     /// The head's id; none where the cursor has ended.
     pub fn head(&self) -> Option<DocId>
-        ensures { (list : SlotValues) → IsOn self.now list → result ≡ first_id (left self.now list) }
+        ensures { (list : SlotRuns) → IsOn self.now list → result ≡ first_id (left self.now (flat list)) }
     {
         self.head
     }
 
     /// How many entries it has come past, be it by reading them or by passing over them.
     pub fn passed(&self) -> u32
-        ensures { (list : SlotValues) → IsOn self.now list → result + length (unread self.now list) ≡ length list }
+        ensures { (list : SlotRuns) → IsOn self.now list → result + length (unread self.now (flat list)) ≡ length (flat list) }
     {
-        self.read
+        self.place.passed
     }
 
     fn is_below(&self, target: DocId) -> bool
@@ -91,26 +112,83 @@ impl RangeCursor {
     }
 }
 
+// The place of the first entry from a place on whose id is at least the target. It passes over each piece that ends below
+// the target by its last id.
+fn place_from(list: &SlotList, start: Place, target: DocId) -> Place
+    requires { IsPlaceIn start list.now }
+    ensures at { IsPlaceIn result list.now }
+    ensures left { drop result.passed (flat list.now) ≡ from target (drop start.passed (flat list.now)) }
+    ensures behind { start.passed ≤ result.passed }
+{
+    let _sound = list.length();
+    let pieces = list.pieces();
+    let mut place = start;
+    'pieces: while place.piece < pieces.len() {
+        let piece = &pieces[place.piece];
+        if target <= piece.last() {
+            let read = piece.place_from(place.read, target);
+            place.passed += read - place.read;
+            place.read = read;
+            return place;
+        }
+        place.passed += piece.count() - place.read;
+        place.piece += 1;
+        place.read = 0;
+    }
+    place
+}
+
 // Reads on from a place to the first value between the ends, and gives the place behind it with its id, or the end.
 fn stop_from<L: Ledger>(
     list: &SlotList,
+    start: Place,
+    lo: &Option<Bytes>,
+    hi: &Option<Bytes>,
+    steps: &mut Steps<L>,
+) -> (Place, Option<DocId>)
+    requires { IsPlaceIn start list.now }
+    ensures at { IsPlaceIn result.0 list.now }
+    ensures head { IsHeadAt lo.now hi.now result.1 result.0.passed (flat list.now) }
+    ensures left { in_range lo.now hi.now (ahead result.1 result.0.passed (flat list.now))
+        ≡ in_range lo.now hi.now (drop start.passed (flat list.now)) }
+    ensures behind { start.passed ≤ result.0.passed }
+    ensures cost { steps.new + start.passed ≡ steps.old + result.0.passed }
+{
+    let _sound = list.length();
+    let pieces = list.pieces();
+    let mut place = start;
+    'pieces: while place.piece < pieces.len() {
+        let (read, head) = stop_in(&pieces[place.piece], place.read, lo, hi, steps);
+        place.passed += read - place.read;
+        place.read = read;
+        if head.is_some() {
+            return (place, head);
+        }
+        place.piece += 1;
+        place.read = 0;
+    }
+    (place, None)
+}
+
+// The same within a piece.
+fn stop_in<L: Ledger>(
+    piece: &Piece,
     place: u32,
-    end: u32,
     lo: &Option<Bytes>,
     hi: &Option<Bytes>,
     steps: &mut Steps<L>,
 ) -> (u32, Option<DocId>)
-    requires all { end ≡ length list.now }
-    requires within { place ≤ end }
-    ensures on { IsHeadAt lo.now hi.now result.1 result.0 list.now }
-    ensures left { in_range lo.now hi.now (ahead result.1 result.0 list.now)
-        ≡ in_range lo.now hi.now (drop place list.now) }
+    requires { place ≤ length piece.now }
+    ensures head { IsHeadAt lo.now hi.now result.1 result.0 piece.now }
+    ensures left { in_range lo.now hi.now (ahead result.1 result.0 piece.now)
+        ≡ in_range lo.now hi.now (drop place piece.now) }
     ensures behind { place ≤ result.0 }
     ensures cost { steps.new + place ≡ steps.old + result.0 }
 {
+    let end = piece.count();
     let mut read = place;
     'entries: while read < end {
-        let (id, value) = list.entry(read, steps);
+        let (id, value) = piece.entry(read, steps);
         read += 1;
         if is_within(lo, hi, value) {
             return (read, Some(id));

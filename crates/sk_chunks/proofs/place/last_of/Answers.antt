@@ -1,6 +1,6 @@
 -- The last entry has the last id.
 use Rattle.std.proofs.Common.{arith, ℕ, ap, ◌∙◌}
-use Rattle.sk_chunks.proofs.EndLaws.{top_id-read}
+use Rattle.sk_sorted.proofs.EndLaws.{top_id-read}
 use Rattle.sk_chunks.proofs.place.last_of.Goals as goal
 
 pub returns-in-Some : goal.returns-in-Some

@@ -2,7 +2,7 @@
 use Rattle.std.proofs.Common.{rules, arith, ℕ}
 use Rattle.std.proofs.lemmas.List.Sorted.{answers_always}
 use Rattle.sk_sorted.proofs.PlaceLaws.{searched}
-use Rattle.sk_chunks.proofs.EndLaws.{gap_past}
+use Rattle.sk_sorted.proofs.EndLaws.{gap_past}
 use Rattle.sk_chunks.proofs.place.place_of.Goals as goal
 
 pub returns-then-last-id-clause-absent : goal.returns-then-last-id-clause-absent

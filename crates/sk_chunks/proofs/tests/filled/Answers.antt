@@ -1,6 +1,6 @@
 -- An insertion adds one entry at the most.
 use Rattle.std.proofs.Common.{arith, inr, length, ap}
-use Rattle.sk_chunks.proofs.EndLaws.{length-put}
+use Rattle.sk_sorted.proofs.EndLaws.{length-put}
 use Rattle.sk_chunks.proofs.tests.filled.Goals as goal
 
 pub insert-requires-clause-room : goal.insert-requires-clause-room

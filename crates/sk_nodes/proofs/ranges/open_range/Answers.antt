@@ -31,5 +31,5 @@ returns-clause-opens g c =
 pub returns-clause-within : goal.returns-clause-within
 returns-clause-within g c =
     let i = c.args.index.now in
-    let long : length c.values.result.now ≡ slot_length_of c.args.slot i.live.documents = ap length c.values.ensures ∙ length-slot c.args.slot i.live.documents in
+    let long : length c.values.result.now ≡ slot_length_of c.args.slot i.live.documents = ap length c.values.ensures.entries ∙ length-slot c.args.slot i.live.documents in
     omega (arith, long, c.length.ensures.value, c.in_ok-raise.ensures.ok)

@@ -1,14 +1,16 @@
-use Rattle.std.proofs.Common.{◌≡◌, ◌≤◌, ◌+◌, ◌-◌, drop}
-use Rattle.sk_values.specs.RangeCursor.{in_range}
+-- It stands on a place of the list, and what it read lies outside the range.
+use Rattle.std.proofs.Common.{◌≡◌, ◌≤◌, ◌+◌, ◌-◌, length, drop}
+use Rattle.sk_runs.specs.Runs.{flat}
+use Rattle.sk_values.specs.RangeCursor.{in_range, IsPlaceIn}
 use Rattle.sk_values.proofs.range_cursor.stop_from.Given as goal
 
-abbrev pub invariant-entries : goal.invariant-entries
-invariant-entries g l = record {
-  behind : l.place ≤ l.read;
-  within : l.read ≤ l.end;
-  left : in_range l.lo l.hi (drop l.read l.list) ≡ in_range l.lo l.hi (drop l.place l.list);
-  cost : l.steps + l.place ≡ l.fn.steps + l.read;
+abbrev pub invariant-pieces : goal.invariant-pieces
+invariant-pieces g l = record {
+  at : IsPlaceIn l.place l.list;
+  behind : l.fn.start.passed ≤ l.place.passed;
+  left : in_range l.lo l.hi (drop l.place.passed (flat l.list)) ≡ in_range l.lo l.hi (drop l.fn.start.passed (flat l.list));
+  cost : l.steps + l.fn.start.passed ≡ l.fn.steps + l.place.passed;
 }
 
-abbrev pub decreases-entries : goal.decreases-entries
-decreases-entries g l = l.end - l.read
+abbrev pub decreases-pieces : goal.decreases-pieces
+decreases-pieces g l = length l.pieces - l.place.piece

@@ -6,7 +6,7 @@ use Rattle.sk_sorted.specs.Places.{IsAt, IsGapFor}
 use Rattle.sk_sorted.proofs.PlaceLaws.{found_read, found_in_gap}
 use Rattle.sk_chunks.specs.Postings.{Postings, greatest_wdf}
 use Rattle.sk_chunks.specs.Chunks.{IsChunk}
-use Rattle.sk_chunks.proofs.EndLaws.{put_whole, put_whole_in_gap}
+use Rattle.sk_sorted.proofs.EndLaws.{put_whole, put_whole_in_gap}
 use Rattle.sk_chunks.proofs.GreatestLaws.{greatest-put_over}
 use Rattle.sk_chunks.proofs.ChunkLemmas.{has_room, IsChunk-put_over, IsChunk-put_new}
 use Rattle.sk_chunks.proofs.chunk.Chunk.insert.Goals as goal

@@ -1,7 +1,8 @@
 -- A span begins with all values in its range.
-use Rattle.std.proofs.Common.{◌≡◌, subst, ap}
+use Rattle.std.proofs.Common.{◌≡◌, ◌∙◌, sym, subst, ap}
 use Rattle.sk_base.specs.declared.find.Scheme.{Scheme}
-use Rattle.sk_values.specs.SlotValues.{SlotValues}
+use Rattle.sk_runs.specs.Runs.{flat}
+use Rattle.sk_values.specs.SlotValues.{SlotValues, SlotRuns}
 use Rattle.sk_values.specs.RangeCursor.{in_range, left, IsOn}
 use Rattle.sk_nodes.specs.Leaves.{weighed}
 use Rattle.sk_nodes.specs.Span.{unweighed}
@@ -11,8 +12,9 @@ use Rattle.sk_nodes.proofs.span.Span.open.Goals as goal
 pub returns-clause-sound : goal.returns-clause-sound
 returns-clause-sound g c =
     span_opened c.args.index.now _ c.args.lo c.args.hi
-    (subst (λ (es : SlotValues). IsOn c.open.result es) c.values-list.ensures c.open.ensures.on)
-    (subst (λ (es : SlotValues). left c.open.result es ≡ in_range c.args.lo c.args.hi es) c.values-list.ensures c.open.ensures.left) c.requires.documents
+    (subst (λ (rs : SlotRuns). IsOn c.open.result rs) c.values-list.ensures.pieces c.open.ensures.on)
+    (ap (λ (rs : SlotRuns). flat rs) (sym c.values-list.ensures.pieces) ∙ c.values-list.ensures.entries)
+    (subst (λ (es : SlotValues). left c.open.result es ≡ in_range c.args.lo c.args.hi es) c.values-list.ensures.entries c.open.ensures.left) c.requires.documents
 
 pub returns-clause-top : goal.returns-clause-top
 returns-clause-top g c = c.show.ensures.top c.args.index.now (returns-clause-sound g c)
@@ -20,4 +22,4 @@ returns-clause-top g c = c.show.ensures.top c.args.index.now (returns-clause-sou
 pub returns-clause-gives : goal.returns-clause-gives
 returns-clause-gives g c id =
     ap (λ (es : SlotValues). weighed 0 Scheme.Bool (unweighed es) id)
-    (subst (λ (es : SlotValues). left c.open.result es ≡ in_range c.args.lo c.args.hi es) c.values-list.ensures c.open.ensures.left)
+    (subst (λ (es : SlotValues). left c.open.result es ≡ in_range c.args.lo c.args.hi es) c.values-list.ensures.entries c.open.ensures.left)

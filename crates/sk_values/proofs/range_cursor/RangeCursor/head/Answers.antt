@@ -1,5 +1,6 @@
+use Rattle.sk_runs.specs.Runs.{flat}
 use Rattle.sk_values.proofs.RangeLaws.{head_is}
 use Rattle.sk_values.proofs.range_cursor.RangeCursor.head.Goals as goal
 
 pub returns : goal.returns
-returns c list on = head_is c.args.self.now.lo c.args.self.now.hi c.args.self.now.head c.args.self.now.read list on
+returns c list on = head_is c.args.self.now.lo c.args.self.now.hi c.args.self.now.head c.args.self.now.place.passed (flat list) on.head

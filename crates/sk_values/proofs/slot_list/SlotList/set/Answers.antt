@@ -1,8 +1,10 @@
--- `put` of a value that is not empty leaves none empty.
-use Rattle.std.proofs.Common.{sym, subst}
-use Rattle.sk_values.specs.SlotValues.{HaveValues}
-use Rattle.sk_values.proofs.ValueLaws.{HaveValues-put}
+-- The piece at the place is where the value belongs.
+use Rattle.std.proofs.Common.{◌≡◌, length, ap, arith}
+use Rattle.sk_runs.proofs.RunLaws.{fits_place}
+use Rattle.sk_values.specs.SlotValues.{SlotRuns}
 use Rattle.sk_values.proofs.slot_list.SlotList.set.Goals as goal
 
-pub invariant_of-self-2 : goal.invariant_of-self-2
-invariant_of-self-2 c = subst HaveValues (sym c.in_ok-put.ensures.ok) (HaveValues-put c.args.id c.args.value c.self.inside.entries c.requires.some c.self.invariant)
+pub make_room-requires-clause-fits : goal.make_room-requires-clause-fits
+make_room-requires-clause-fits c =
+    let same : length c.self.inside.pieces.items ≡ length c.args.self.now = ap (λ (s : SlotRuns). length s) c.self.view_is in
+    fits_place 0 c.args.id c.args.self.now c.place-at.result c.place-at.ensures.sound.rise (omega (arith, same)) c.place-at.ensures.before (c.place-at.ensures.at (omega (arith, same)))

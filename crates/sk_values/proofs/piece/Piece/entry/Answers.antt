@@ -1,7 +1,7 @@
 -- What is read is the entry at the place.
 use Rattle.std.proofs.Common.{◌∙◌}
 use Rattle.sk_values.proofs.ValueLaws.{entry_read}
-use Rattle.sk_values.proofs.slot_list.SlotList.entry.Goals as goal
+use Rattle.sk_values.proofs.piece.Piece.entry.Goals as goal
 
 pub returns-clause-id : goal.returns-clause-id
 returns-clause-id g c =

@@ -5,7 +5,7 @@ use Rattle.sk_sorted.specs.Entries.{AreSorted}
 use Rattle.sk_sorted.proofs.EntryLaws.{RiseAbove-drop, length_fits}
 use Rattle.sk_values.specs.SlotValues.{SlotValues}
 use Rattle.sk_values.proofs.PlaceLemmas.{RiseAbove-take}
-use Rattle.sk_values.proofs.slot_list.SlotList.place_from.Goals as goal
+use Rattle.sk_values.proofs.piece.Piece.place_from.Goals as goal
 
 pub place_from-passed-requires : goal.place_from-passed-requires
 place_from-passed-requires c =

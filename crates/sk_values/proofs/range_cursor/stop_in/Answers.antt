@@ -1,0 +1,13 @@
+use Rattle.std.proofs.Common.{◌∙◌, sym, ap, arith}
+use Rattle.sk_model.specs.Ranges.{is_within}
+use Rattle.sk_values.proofs.RangeLaws.{in_range-past}
+use Rattle.sk_values.proofs.range_cursor.stop_in.Goals as goal
+
+pub entries-preserved : goal.entries-preserved
+entries-preserved g c = record {
+  behind = omega arith;
+  within = omega arith;
+  left = in_range-past c.args.lo.now c.args.hi.now c.args.piece.now c.entries.read (omega (arith, c.count-end.ensures.value))
+      (ap (is_within c.args.lo.now c.args.hi.now) (sym c.entry-id.ensures.value) ∙ sym c.is_within.ensures ∙ c.if-is_within.false) ∙ c.entries.invariant.left;
+  cost = omega arith;
+}
