@@ -47,6 +47,7 @@ impl Cursor {
 
     /// Moves on to an entry whose id is at least `target`, and answers how many entries it read. It may pass over entries
     /// from the target on whose wdf is below `need_wdf`. It finds its chunk without a reading, and reads in that.
+    #[inline(always)]
     pub fn seek<L: Ledger>(
         &mut self,
         list: &List,
