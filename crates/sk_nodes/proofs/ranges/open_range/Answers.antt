@@ -2,6 +2,7 @@
 use Rattle.std.proofs.Common.{◌≡◌, ℕ, length, sym, subst, ap, ◌∙◌, arith, Option, List}
 use Rattle.sk_base.specs.declared.find.Scheme.{Scheme}
 use Rattle.sk_base.specs.Numbers.{slot_length_of}
+use Rattle.sk_runs.specs.Runs.{flat}
 use Rattle.sk_values.specs.RangeCursor.{in_range}
 use Rattle.sk_query.specs.Trees.{limit_of}
 use Rattle.sk_model.specs.Ranges.{end_of}
@@ -31,5 +32,5 @@ returns-clause-opens g c =
 pub returns-clause-within : goal.returns-clause-within
 returns-clause-within g c =
     let i = c.args.index.now in
-    let long : length c.values.result.now ≡ slot_length_of c.args.slot i.live.documents = ap length c.values.ensures.entries ∙ length-slot c.args.slot i.live.documents in
+    let long : length (flat c.values.result.now) ≡ slot_length_of c.args.slot i.live.documents = ap length c.values.ensures.entries ∙ length-slot c.args.slot i.live.documents in
     omega (arith, long, c.length.ensures.value, c.in_ok-raise.ensures.ok)
