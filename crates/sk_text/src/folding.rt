@@ -34,7 +34,7 @@ impl Folded {
     }
 }
 
-/// The term of `word`. A word that folds to nothing keeps its own text.
+/// The term of `word`. A word that folds to nothing keeps its own text, and one of ASCII is folded without the tables.
 pub fn fold(alloc: Global, word: &str) -> Result<Folded, AllocError>
     ensures { IfOk result (λ f. f ≡ term_of word.now) }
 {
