@@ -73,7 +73,7 @@ impl SlotLists {
         Ok(())
     }
 
-    /// Takes the document out of the lists of these values. It takes no memory.
+    /// Takes the document out of the lists of these values. Want of memory stops nothing.
     pub fn clear_all(&mut self, id: DocId, values: &[SlotValue])
         requires sound { AreValues values.now }
         ensures { ClearsAll id values.now self.old self.new }

@@ -15,7 +15,7 @@ use std::sync::ledger::Ledger;
 
 const HALF: usize = 64;
 
-/// At most 128 entries. Only `get` and `entry` show an id or a value, and only `entry` counts it.
+/// At most 128 entries. Only `get` and `entry` show a value, and only `entry` counts it.
 #[derive(Drop)]
 pub(crate) struct Piece {
     entries: Sorted<Bytes>,
