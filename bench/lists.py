@@ -75,16 +75,21 @@ def edits(program, documents):
         print(f"  as many {name}: {took:.2f} s, {1e6 * took / documents:.1f} microseconds an edit", flush=True)
 
 
-def own_words(documents, own):
+def shared_words(documents, each):
+    """Documents of one word, each word in so many documents that follow one another."""
     yield TEXT
     for number in range(documents):
-        yield {"add": {"body": f"w{number}" if own else "same"}}
+        yield {"add": {"body": f"w{number // each}"}}
 
 
 def memory(program, documents):
-    own, same = run(program, own_words(documents, True))[1], run(program, own_words(documents, False))[1]
-    print(f"{documents} documents of one word: {own:.0f} MiB where each has its own, {same:.0f} MiB where all have the same;")
-    print(f"  {1024 * 1024 * (own - same) / documents:.0f} bytes more for each term", flush=True)
+    """What words cost that stand in few documents, beside one word that stands in all."""
+    same = run(program, shared_words(documents, documents))[1]
+    print(f"{documents} documents of one word: {same:.0f} MiB where all have the same", flush=True)
+    for each in (1, 10, 1_000):
+        own = run(program, shared_words(documents, each))[1]
+        more = 1024 * 1024 * (own - same) / (documents // each)
+        print(f"  {own:.0f} MiB where {each} each have one: {more:.0f} bytes more for each word", flush=True)
 
 
 def far_apart(documents, every):
