@@ -1,4 +1,5 @@
 mod ListedLemmas
+mod PackedLemmas
 mod SlottedLemmas
 mod StandsLemmas
 pub mod NumberLemmas
