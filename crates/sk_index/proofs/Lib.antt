@@ -2,6 +2,7 @@ mod ListedLemmas
 mod PackedLemmas
 mod SlottedLemmas
 mod StandsLemmas
+mod UnpackedLemmas
 pub mod NumberLemmas
 mod WildLemmas
 mod PlaceLemmas

@@ -46,10 +46,10 @@ start-first from [] = refl
 start-first from (one ∷ more) = refl
 
 -- each other one where the one before it ends
-pub start-next : (from : ℕ) (terms : List PackedTerm) (i : ℕ) (x : PackedTerm) → i < length terms → x ≡ get_or terms i x → start_at from terms (suc i) ≡ x.end
-start-next from [] i x lt is = absurd (omega arith)
-start-next from (one ∷ more) zero x lt is = start-first one.end more ∙ ap (λ (y : PackedTerm). y.end) (sym is)
-start-next from (one ∷ more) (suc i) x lt is = start-next one.end more i x (omega arith) is
+pub start-next : (from : ℕ) (terms : List PackedTerm) (i : ℕ) (d : PackedTerm) → i < length terms → start_at from terms (suc i) ≡ (get_or terms i d).end
+start-next from [] i d lt = absurd (omega arith)
+start-next from (one ∷ more) zero d lt = start-first one.end more
+start-next from (one ∷ more) (suc i) d lt = start-next one.end more i d (omega arith)
 
 -- a part does not change where positions come behind
 part-append : (positions more : List ℕ) (from to : ℕ) → from ≤ to → to ≤ length positions → slice_range (positions ++ more) from to ≡ slice_range positions from to

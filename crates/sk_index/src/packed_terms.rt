@@ -1,5 +1,5 @@
 //! The terms of a document as numbers.
-ghost use Rattle.std.specs.Prelude.{◌≡◌, ◌<◌, ◌≤◌, ◌+◌, [], ◌∷◌, ◌++◌, length, IfOk, OnOk, OnErr};
+ghost use Rattle.std.specs.Prelude.{◌≡◌, ◌<◌, ◌≤◌, ◌+◌, ◌^◌, [], ◌∷◌, ◌++◌, length, IfOk, OnOk, OnErr};
 ghost use Rattle.sk_base.specs.Order.{ArePositions};
 ghost use Rattle.sk_index.specs.Packed.{numbered_at, start_at};
 
@@ -101,7 +101,8 @@ impl PackedTerms {
 // Where the positions of the i-th term begin.
 fn start(terms: &[PackedTerm], i: usize) -> usize
     requires { i ≤ length terms.now }
-    ensures { result ≡ start_at 0 terms.now i }
+    ensures value { result ≡ start_at 0 terms.now i }
+    ensures small { result < 2 ^ 32 }
 {
     if i == 0 {
         0
