@@ -1,5 +1,5 @@
 -- What packed documents are where a dictionary grows, and after an edit.
-use Rattle.std.proofs.Common.{◌≡◌, ℕ, ◌+◌, ◌<◌, ◌≤◌, Bool, true, false, if◌then◌else◌, List, [], ◌∷◌, ◌++◌, length, get_or, take, drop, map, Option, None, Some, is_some, option_map, inl, inr, refl, sym, ap, subst, ◌∙◌, arith}
+use Rattle.std.proofs.Common.{◌≡◌, ℕ, ◌+◌, ◌<◌, ◌≤◌, Bool, true, false, if◌then◌else◌, List, [], ◌∷◌, ◌++◌, length, get_or, take, drop, map, Option, None, Some, IfSome, is_some, option_map, inl, inr, refl, sym, ap, subst, ◌∙◌, arith}
 use Rattle.std.specs.List.{AllByRecursion}
 use Rattle.std.proofs.lemmas.Bool.{cases_order, cases_eq}
 use Rattle.std.proofs.lemmas.List.{take_more, map-append, length_push, length-map, get_or-map, drop_all}
@@ -10,7 +10,7 @@ use Rattle.std.specs.Ordering.{nat_cmp}
 use Rattle.sk_sorted.specs.Entries.{RiseAbove, put, without, found}
 use Rattle.sk_sorted.proofs.EntryLaws.{put-after, put-here, put-before, without-here, without-other, RiseAbove-put, RiseAbove-without, AllByRecursion-put, AllByRecursion-without, AllByRecursion-found}
 use Rattle.sk_base.specs.declared.doc_entry.DocTerm.{DocTerm}
-use Rattle.sk_base.specs.Documents.{AreTerms, positions_of}
+use Rattle.sk_base.specs.Documents.{AreTerms}
 use Rattle.sk_base.specs.Numbers.{Docs}
 use Rattle.sk_dict.specs.Terms.{term_at, number_of, with_term}
 use Rattle.sk_dict.proofs.NumberLaws.{term_at-kept}
@@ -23,7 +23,6 @@ use Rattle.sk_index.specs.declared.packed.Packed.{Packed}
 use Rattle.sk_index.specs.declared.slot_lists.SlotEntry.{SlotEntry}
 use Rattle.sk_index.specs.Packed.{NumberedTerm, no_term, numbered_at, AreKnown}
 use Rattle.sk_index.specs.Unpacked.{named, named_all, unpacked, unpacked_all, HasKnown, Grows, AreWhole}
-use Rattle.sk_index.specs.Indexed.{term_positions, HavePositions}
 use Rattle.sk_index.specs.Listed.{Listed, PutsAll, TakesOut, TakesOutAll}
 use Rattle.sk_index.specs.Slotted.{SetsAll, ClearsAll}
 use Rattle.sk_index.specs.Stands.{Stands}
@@ -111,11 +110,14 @@ module _ (dict : List (List ℕ)) where
   pub found-ordered : (id : ℕ) (p : Packed) (es : List (ℕ × Packed)) → AllByRecursion HasTerms (unpacked_all dict es) → found id es ≡ Some p → AreTerms (named_all dict p.terms)
   found-ordered id p es ordered some = AllByRecursion-found (λ (d : Document). AreTerms d.terms) id (unpacked dict p) (unpacked_all dict es) ordered (unpacked-found id es ∙ ap (option_map (unpacked dict)) some)
 
-  pub found-positions : (id : ℕ) (p : Packed) (es : List (ℕ × Packed)) → found id es ≡ Some p → HavePositions (named_all dict p.terms) (document_at id (unpacked_all dict es))
-  found-positions id p es some t = sym (ap (term_positions t) (unpacked-found id es ∙ ap (option_map (unpacked dict)) some))
+-- what is mapped twice, and what holds of what is mapped
+pub mapped_twice : {A B C : Type 0} (f : A → B) (g : B → C) (o : Option A) → option_map (λ a. g (f a)) o ≡ option_map g (option_map f o)
+mapped_twice f g None = refl
+mapped_twice f g (Some a) = refl
 
-  pub none-positions : (id : ℕ) (es : List (ℕ × Packed)) → found id es ≡ None → HavePositions [] (document_at id (unpacked_all dict es))
-  none-positions id es none t = sym (ap (term_positions t) (unpacked-found id es ∙ ap (option_map (unpacked dict)) none))
+pub some_of : {A B : Type 0} (f : A → B) (P : B → Type 0) (o : Option A) (q : Option B) → option_map f o ≡ q → ((b : B) → q ≡ Some b → P b) → IfSome o (λ a. P (f a))
+some_of f P None q e h = tt
+some_of f P (Some a) q e h = h (f a) (sym e)
 
 -- a known term by its place
 pub known_at : (bound : ℕ) (terms : List NumberedTerm) (i : ℕ) → AreKnown bound terms → i < length terms → (numbered_at terms i).number < bound

@@ -1,5 +1,5 @@
 //! The documents of an index, packed, and its lists.
-ghost use Rattle.std.specs.Prelude.{◌≡◌, ℕ, [], length, IfOk};
+ghost use Rattle.std.specs.Prelude.{◌≡◌, ℕ, [], length, IfOk, IfSome};
 ghost use Rattle.std.specs.Option.{option_map};
 ghost use Rattle.sk_base.specs.Documents.{AreTerms};
 ghost use Rattle.sk_runs.specs.Runs.{flat};
@@ -8,7 +8,7 @@ ghost use Rattle.sk_index.specs.Indexed.{HavePositions, all_postings, slot_value
 ghost use Rattle.sk_index.specs.Packed.{AreKnown};
 ghost use Rattle.sk_index.specs.Slotted.{slot_list};
 ghost use Rattle.sk_index.specs.Stands.{AreListsOf};
-ghost use Rattle.sk_index.specs.Unpacked.{named_all};
+ghost use Rattle.sk_index.specs.Unpacked.{named_all, unpacked};
 
 use crate::packed::Packed;
 use crate::packed_terms::PackedTerms;
@@ -88,7 +88,7 @@ impl Lists {
         ensures rising { AreTerms (named_all self.now.listed.terms result.now) }
         ensures known { AreKnown (length self.now.listed.terms) result.now }
     {
-        match self.map.get(&id) {
+        match self.packed(id) {
             Some(packed) => &packed.terms,
             None => &self.none,
         }
@@ -98,8 +98,16 @@ impl Lists {
     pub fn payload(&self, id: DocId) -> Option<&str>
         ensures { option_map (λ s. s.now) result ≡ option_map (λ d. d.payload) (document_at id self.now.documents) }
     {
-        let packed = self.map.get(&id)?;
+        let packed = self.packed(id)?;
         Some(packed.payload.as_str())
+    }
+
+    fn packed(&self, id: DocId) -> Option<&Packed>
+        ensures value { option_map (λ p. unpacked self.now.listed.terms p.now) result ≡ document_at id self.now.documents }
+        ensures rising { IfSome result (λ p. AreTerms (named_all self.now.listed.terms p.now.terms)) }
+        ensures known { IfSome result (λ p. AreKnown (length self.now.listed.terms) p.now.terms) }
+    {
+        self.map.get(&id)
     }
 }
 
