@@ -1,10 +1,10 @@
 //! Where a term stands in a document.
-ghost use Rattle.std.specs.Prelude.{◌≡◌, ◌+◌, [], length};
+ghost use Rattle.std.specs.Prelude.{◌≡◌, ◌<◌, ◌+◌, [], length, bytes_eq, if◌then◌else◌};
 ghost use Rattle.std.specs.Ordering.{is_lt};
 ghost use Rattle.sk_base.specs.Order.{ArePositions};
 ghost use Rattle.sk_base.specs.Documents.{AreTerms, positions_of};
-ghost use Rattle.sk_dict.specs.Terms.{term_cmp};
-ghost use Rattle.sk_index.specs.Packed.{AreKnown};
+ghost use Rattle.sk_dict.specs.Terms.{term_at, term_cmp};
+ghost use Rattle.sk_index.specs.Packed.{AreKnown, numbered_at};
 ghost use Rattle.sk_index.specs.Placed.{IsBetween};
 ghost use Rattle.sk_index.specs.Unpacked.{named_all};
 
@@ -57,7 +57,26 @@ pub(crate) fn positions_in<'a>(
     ensures rising { ArePositions result.now }
 {
     let place = place_of(packed, lists, term);
-    if place < packed.len() && lists.term(packed.number(place)) == term {
+    if place < packed.len() {
+        positions_if(packed, place, lists, term)
+    } else {
+        &[]
+    }
+}
+
+// The positions of the term at this place, if it is the term.
+fn positions_if<'a>(
+    packed: &'a PackedTerms,
+    place: usize,
+    lists: &TermLists,
+    term: &[u8],
+) -> &'a [u32]
+    requires there { place < length packed.now }
+    requires known { AreKnown (length lists.now.terms) packed.now }
+    ensures value { result.now ≡ (if bytes_eq (term_at lists.now.terms (numbered_at packed.now place).number) term.now then (numbered_at packed.now place).positions else []) }
+    ensures rising { ArePositions result.now }
+{
+    if lists.term(packed.number(place)) == term {
         packed.positions(place)
     } else {
         &[]
