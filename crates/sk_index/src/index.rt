@@ -1,7 +1,10 @@
 //! The index: the live documents, with a list for each term and each slot.
 ghost use Rattle.std.specs.Prelude.{◌≡◌, ◌<◌, ◌+◌, [], length, map, true, false, All, IfOk, MatchOption, IsSome, Some, None};
+ghost use Rattle.std.specs.List.{AllByRecursion};
 ghost use Rattle.std.specs.Option.{option_map};
+ghost use Rattle.sk_sorted.specs.Entries.{RiseAbove};
 ghost use Rattle.sk_base.specs.Records.{FitsEdit};
+ghost use Rattle.sk_base.specs.Documents.{AreTerms};
 ghost use Rattle.sk_base.specs.Loads.{IsLight};
 ghost use Rattle.sk_base.specs.Numbers.{some_has};
 ghost use Rattle.sk_base.specs.Order.{ArePositions};
@@ -9,11 +12,18 @@ ghost use Rattle.sk_dict.specs.Terms.{term_at, number_of};
 ghost use Rattle.sk_runs.specs.Runs.{flat};
 ghost use Rattle.sk_model.specs.Documents.{keeps_slot, has_slot};
 ghost use Rattle.sk_model.specs.Edits.{nothing_live, edited, reply_to, document_at, IsLive};
-ghost use Rattle.sk_index.specs.Indexed.{Indexed, runs_in, pieces_in, postings, all_postings, slot_values, slot_value, term_positions, AreNumbered, AreAllWith};
+ghost use Rattle.sk_documents.specs.Documented.{HasTerms};
+ghost use Rattle.sk_index.specs.Indexed.{Indexed, runs_in, pieces_in, postings, all_postings, slot_values, slot_value, term_positions, HavePositions, AreNumbered, AreAllWith};
+ghost use Rattle.sk_index.specs.Packed.{AreKnown};
+ghost use Rattle.sk_index.specs.Stands.{AreListsOf, AreSlotsOf};
+ghost use Rattle.sk_index.specs.Unpacked.{named_all};
 
 use crate::all_places::AllPlaces;
 use crate::lists::Lists;
+use crate::packed_terms::PackedTerms;
 use crate::places::{Places, positions_in};
+use crate::slot_lists::SlotLists;
+use crate::term_lists::TermLists;
 use sk_base::{DocId, Edit, Field, FieldKind, Reply, Schema};
 use sk_documents::Documents;
 use sk_lists::List;
@@ -69,7 +79,7 @@ impl Index {
         // No live document has a term without a number.
         ensures complete { AreNumbered self.now }
     {
-        let _lists = self.documents.keeper().terms();
+        let _lists = self.term_lists();
         self.documents.highest()
     }
 
@@ -90,14 +100,14 @@ impl Index {
         ensures value { result ≡ number_of term.now self.now.terms }
         ensures found { MatchOption result (some_has term.now self.now.live.documents ≡ false) (λ n. (n < length self.now.terms) × (term_at self.now.terms n ≡ term.now)) }
     {
-        self.documents.keeper().terms().find(term)
+        self.term_lists().find(term)
     }
 
     /// The numbers of terms that begin with the prefix, none left out that a live document has, in byte order of the terms. One search finds the first.
     pub fn with_prefix(&self, prefix: &[u8]) -> Result<Vec<usize>, AllocError>
         ensures { IfOk result (λ ns. AreAllWith prefix.now self.now.terms self.now.live.documents ns.items) }
     {
-        let numbers = self.documents.keeper().terms().with_prefix(prefix)?;
+        let numbers = self.term_lists().with_prefix(prefix)?;
         Ok(numbers)
     }
 
@@ -107,7 +117,7 @@ impl Index {
         ensures runs { result.now ≡ runs_in self.now (Some number) }
         ensures entries { flat result.now ≡ postings (term_at self.now.terms number) self.now.live.documents }
     {
-        self.documents.keeper().terms().list(number)
+        self.term_lists().list(number)
     }
 
     /// All live documents.
@@ -135,7 +145,7 @@ impl Index {
         ensures pieces { result.now ≡ pieces_in self.now slot }
         ensures entries { flat result.now ≡ slot_values slot self.now.live.documents }
     {
-        self.documents.keeper().slots().list(slot)
+        self.slot_lists().list(slot)
     }
 
     /// The document's value in the slot, empty where it has none. It is one reading.
@@ -143,7 +153,7 @@ impl Index {
         ensures value { result.now ≡ slot_value slot (document_at id self.now.live.documents) }
         ensures cost { steps.new ≡ steps.old + 1 }
     {
-        self.documents.keeper().slots().list(slot).get(id, steps)
+        self.slot_lists().list(slot).get(id, steps)
     }
 
     /// The places of the term with this number in the document. It is one reading.
@@ -162,12 +172,8 @@ impl Index {
             ≡ term_positions (term_at self.now.terms places.now.0) (document_at places.now.1 self.now.live.documents) }
         ensures rising { ArePositions result.now }
     {
-        let lists = self.documents.keeper();
-        positions_in(
-            lists.terms_of(places.id),
-            lists.terms(),
-            lists.terms().term(places.number),
-        )
+        let lists = self.term_lists();
+        positions_in(self.terms_of(places.id), lists, lists.term(places.number))
     }
 
     /// The places of the terms with these numbers in the document. It is one reading for each.
@@ -185,12 +191,38 @@ impl Index {
         'readings: for _ in numbers {
             steps.tick();
         }
-        let lists = self.documents.keeper();
         AllPlaces {
-            lists: lists.terms(),
+            lists: self.term_lists(),
             numbers,
-            packed: lists.terms_of(id),
+            packed: self.terms_of(id),
         }
+    }
+
+    // The terms of the document, none where it is not live.
+    fn terms_of(&self, id: DocId) -> &PackedTerms
+        ensures value { HavePositions (named_all self.now.terms result.now) (document_at id self.now.live.documents) }
+        ensures rising { AreTerms (named_all self.now.terms result.now) }
+        ensures known { AreKnown (length self.now.terms) result.now }
+    {
+        self.documents.keeper().terms_of(id)
+    }
+
+    // The lists of the terms.
+    pub(crate) fn term_lists(&self) -> &TermLists
+        ensures value { result.now ≡ record { terms = self.now.terms; lists = self.now.lists } }
+        ensures entries { AreListsOf self.now.live.documents result.now }
+        ensures ordered { AllByRecursion HasTerms self.now.live.documents }
+    {
+        self.documents.keeper().terms()
+    }
+
+    // The lists of the slots.
+    pub(crate) fn slot_lists(&self) -> &SlotLists
+        ensures value { result.now ≡ self.now.slots }
+        ensures entries { AreSlotsOf self.now.live.documents result.now }
+        ensures rising { RiseAbove 0 self.now.live.documents }
+    {
+        self.documents.keeper().slots()
     }
 
     /// The document's payload, none where it is not live. It is one reading.

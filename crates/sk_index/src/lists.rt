@@ -4,10 +4,9 @@ ghost use Rattle.std.specs.Option.{option_map};
 ghost use Rattle.sk_base.specs.Documents.{AreTerms};
 ghost use Rattle.sk_runs.specs.Runs.{flat};
 ghost use Rattle.sk_model.specs.Edits.{document_at};
-ghost use Rattle.sk_index.specs.Indexed.{HavePositions, all_postings, slot_values};
+ghost use Rattle.sk_index.specs.Indexed.{HavePositions, all_postings};
 ghost use Rattle.sk_index.specs.Packed.{AreKnown};
-ghost use Rattle.sk_index.specs.Slotted.{slot_list};
-ghost use Rattle.sk_index.specs.Stands.{AreListsOf};
+ghost use Rattle.sk_index.specs.Stands.{AreListsOf, AreSlotsOf};
 ghost use Rattle.sk_index.specs.Unpacked.{named_all, unpacked};
 
 use crate::packed::Packed;
@@ -77,7 +76,7 @@ impl Lists {
     /// The lists of the slots.
     pub fn slots(&self) -> &SlotLists
         ensures value { result.now ≡ self.now.slots }
-        ensures entries { (slot : ℕ) → slot_list slot result.now ≡ slot_values slot self.now.documents }
+        ensures entries { AreSlotsOf self.now.documents result.now }
     {
         &self.slots
     }
