@@ -1,19 +1,18 @@
--- Documents under one schema, and what is kept beside them.
+-- Documents under one schema.
 use Rattle.std.specs.Prelude.{ℕ, ◌+◌, ◌≤◌, List}
 use Rattle.std.specs.List.{AllByRecursion}
 use Rattle.sk_sorted.specs.Entries.{RiseAbove, LieBelow}
 use Rattle.sk_base.specs.declared.schema.Field.{Field}
 use Rattle.sk_base.specs.Documents.{AreTerms}
 use Rattle.sk_base.specs.Loads.{IsLight}
-use Rattle.sk_base.specs.Numbers.{Docs}
 use Rattle.sk_model.specs.Documents.{Document}
 use Rattle.sk_model.specs.Edits.{Live, last_id}
 
--- The fields of the schema, the live documents, and what is kept beside them.
-pub record Documented (B : Type 0) : Type 0 where
+-- The fields of the schema, the live documents, and what keeps them.
+pub record Documented (K : Type 0) : Type 0 where
   pub fields : List Field
   pub live : Live
-  pub beside : B
+  pub keeper : K
 
 -- The terms of a document, with its id, are in order.
 abbrev pub HasTerms : ℕ × Document → Type 0
@@ -26,8 +25,3 @@ pub record AreSound (live : Live) : Type 0 where
   pub within : live.highest ≤ last_id
   pub terms : AllByRecursion HasTerms live.documents
   pub light : AllByRecursion IsLight live.documents
-
--- The documents are sound, and what is kept beside them stands as they make it.
-pub record AreKept {B : Type 0} (stands : B → Docs → Type 0) (docs : Docs) (highest : ℕ) (beside : B) : Type 0 where
-  pub sound : AreSound (record { documents = docs; highest = highest })
-  pub stand : stands beside docs

@@ -1,50 +1,46 @@
-//! Documents in a map, with what is kept beside them.
+//! Documents under a schema.
 ghost use Rattle.std.specs.Prelude.{◌≡◌, ◌<◌, ◌^◌, [], length, All};
-ghost use Rattle.std.specs.Option.{option_map};
 ghost use Rattle.sk_base.specs.Loads.{IsLight};
-ghost use Rattle.sk_model.specs.Edits.{nothing_live, document_at, IsLive};
+ghost use Rattle.sk_model.specs.Edits.{nothing_live, IsLive};
 ghost use Rattle.sk_documents.specs.Documented.{Documented, AreSound};
 
-use crate::Beside;
-use sk_base::{Doc, DocId, Schema};
+use crate::Keeper;
+use sk_base::{DocId, Schema};
 use std::alloc::Global;
-use std::collections::BTreeMap;
 use std::fmt::{Debug, Error, Formatter, Write};
 use std::marker::Model;
 
-/// Live documents under one schema, and what is kept beside them. `Debug` tells how many there are, and shows none.
+/// Live documents under one schema, whatever keeps them. `Debug` tells how many there are, and shows none.
 #[derive(Drop)]
-pub struct Documents<B: Beside> {
+pub struct Documents<K: Keeper> {
     pub(crate) alloc: Global,
     pub(crate) schema: Schema,
-    pub(crate) map: BTreeMap<DocId, Doc>,
     /// The highest id that was ever used, 0 at first.
     pub(crate) highest: DocId,
-    pub(crate) beside: B,
+    pub(crate) keeper: K,
 }
 
-impl<B: Beside> Model for Documents<B> {
-    ghost use Rattle.sk_documents.specs.Documented.{Documented, AreKept};
+impl<K: Keeper> Model for Documents<K> {
+    ghost use Rattle.sk_documents.specs.Documented.{Documented, AreSound};
 
-    ghost Value = { Documented B };
+    ghost Value = { Documented K };
 
-    ghost view = { λ d. record { fields = d.schema; live = record { documents = d.map.entries; highest = d.highest }; beside = d.beside } };
+    ghost view = { λ d. record { fields = d.schema; live = record { documents = K.documents d.keeper; highest = d.highest }; keeper = d.keeper } };
 
-    ghost invariant = { λ d. AreKept B.stands d.map.entries d.highest d.beside };
+    ghost invariant = { λ d. AreSound (record { documents = K.documents d.keeper; highest = d.highest }) };
 }
 
-impl<B: Beside> Documents<B> {
+impl<K: Keeper> Documents<K> {
     /// No document. It takes no memory.
-    pub fn new(alloc: Global, schema: Schema, beside: B) -> Documents<B>
-        requires { B.stands beside [] }
-        ensures { result ≡ record { fields = schema; live = nothing_live; beside = beside } }
+    pub fn new(alloc: Global, schema: Schema, keeper: K) -> Documents<K>
+        requires { K.documents keeper ≡ [] }
+        ensures { result ≡ record { fields = schema; live = nothing_live; keeper = keeper } }
     {
         Documents {
             alloc,
             schema,
-            map: BTreeMap::new(alloc),
             highest: 0,
-            beside,
+            keeper,
         }
     }
 
@@ -68,34 +64,20 @@ impl<B: Beside> Documents<B> {
         self.highest
     }
 
-    /// The live documents.
-    pub fn map(&self) -> &BTreeMap<DocId, Doc>
-        ensures value { result.now.entries ≡ self.now.live.documents }
-        ensures light { All IsLight result.now.entries }
-        ensures few { length result.now.entries < 2 ^ 32 }
-    {
-        &self.map
-    }
-
-    /// The document with the id, where it is live.
-    pub fn document(&self, id: DocId) -> Option<&Doc>
-        ensures { option_map (λ doc. doc.now) result ≡ document_at id self.now.live.documents }
-    {
-        self.map.get(&id)
-    }
-
-    /// What is kept beside the documents.
-    pub fn beside(&self) -> &B
-        ensures value { result.now ≡ self.now.beside }
-        ensures stands { B.stands result.now self.now.live.documents }
+    /// What keeps the documents.
+    pub fn keeper(&self) -> &K
+        ensures value { result.now ≡ self.now.keeper }
+        ensures documents { K.documents result.now ≡ self.now.live.documents }
         ensures sound { AreSound self.now.live }
+        ensures light { All IsLight self.now.live.documents }
+        ensures few { length self.now.live.documents < 2 ^ 32 }
     {
-        &self.beside
+        &self.keeper
     }
 }
 
-impl<B: Beside> Debug for Documents<B> {
+impl<K: Keeper> Debug for Documents<K> {
     fn fmt<W: Write>(&self, f: &mut Formatter<W>) -> Result<(), Error> {
-        write!(f, "Documents of {}", self.map.len())
+        write!(f, "Documents of {}", self.keeper.count())
     }
 }

@@ -1,4 +1,4 @@
-//! How documents are changed, and what is kept beside them with them.
+//! How documents are changed.
 ghost use Rattle.std.specs.Prelude.{◌≡◌, ◌≤◌, ◌<◌, ◌^◌, ℕ, IfOk, is_some, length, Some, None};
 ghost use Rattle.sk_base.specs.Records.{FitsEdit, FitsValues};
 ghost use Rattle.sk_base.specs.Loads.{IsLight};
@@ -7,13 +7,13 @@ ghost use Rattle.sk_model.specs.Documents.{Document};
 ghost use Rattle.sk_model.specs.Edits.{edited, reply_to, document_at, put_document, without_id, without_term, with_next, next_reply, with_document, with_first, first_reply, first_with};
 ghost use Rattle.sk_documents.specs.Removing.{ids_with, without_ids};
 
-use crate::{Beside, Documents};
+use crate::{Documents, Keeper};
 use sk_base::{Doc, DocId, Edit, Record, Reply};
 use std::alloc::AllocError;
 
-impl<B: Beside> Documents<B> {
+impl<K: Keeper> Documents<K> {
     /// Changes the documents. Where memory runs out they are given up.
-    pub fn apply(self, edit: Edit) -> Result<(Documents<B>, Reply), AllocError>
+    pub fn apply(self, edit: Edit) -> Result<(Documents<K>, Reply), AllocError>
         requires fits { FitsEdit self.fields edit }
         ensures live { IfOk result (λ p. p.0.live ≡ edited self.fields self.live edit) }
         ensures reply { IfOk result (λ p. p.1 ≡ reply_to self.live edit) }
@@ -28,7 +28,7 @@ impl<B: Beside> Documents<B> {
         }
     }
 
-    fn add(self, given: &Record) -> Result<(Documents<B>, Reply), AllocError>
+    fn add(self, given: &Record) -> Result<(Documents<K>, Reply), AllocError>
         requires fits { FitsValues self.fields given.now.values }
         ensures live { IfOk result (λ p. p.0.live ≡ edited self.fields self.live (Edit.Add given.now)) }
         ensures reply { IfOk result (λ p. p.1 ≡ reply_to self.live (Edit.Add given.now)) }
@@ -38,7 +38,7 @@ impl<B: Beside> Documents<B> {
         self.put_next(doc)
     }
 
-    fn replace(self, id: DocId, given: &Record) -> Result<(Documents<B>, Reply), AllocError>
+    fn replace(self, id: DocId, given: &Record) -> Result<(Documents<K>, Reply), AllocError>
         requires id { 1 ≤ id }
         requires fits { FitsValues self.fields given.now.values }
         ensures live { IfOk result (λ p. p.0.live ≡ edited self.fields self.live (Edit.Replace id given.now)) }
@@ -50,7 +50,7 @@ impl<B: Beside> Documents<B> {
         Ok((documents, Reply::Id(id)))
     }
 
-    fn replace_by(self, term: &[u8], given: &Record) -> Result<(Documents<B>, Reply), AllocError>
+    fn replace_by(self, term: &[u8], given: &Record) -> Result<(Documents<K>, Reply), AllocError>
         requires fits { FitsValues self.fields given.now.values }
         ensures live { IfOk result (λ p. p.0.live ≡ edited self.fields self.live (Edit.ReplaceBy term.now given.now)) }
         ensures reply { IfOk result (λ p. p.1 ≡ reply_to self.live (Edit.ReplaceBy term.now given.now)) }
@@ -60,7 +60,7 @@ impl<B: Beside> Documents<B> {
         self.put_first(term, doc)
     }
 
-    fn delete(self, id: DocId) -> (Documents<B>, Reply)
+    fn delete(self, id: DocId) -> (Documents<K>, Reply)
         ensures live { result.0.live ≡ edited self.fields self.live (Edit.Delete id) }
         ensures reply { result.1 ≡ reply_to self.live (Edit.Delete id) }
         ensures schema { result.0.fields ≡ self.fields }
@@ -73,7 +73,7 @@ impl<B: Beside> Documents<B> {
         }
     }
 
-    fn delete_by(self, term: &[u8]) -> Result<(Documents<B>, Reply), AllocError>
+    fn delete_by(self, term: &[u8]) -> Result<(Documents<K>, Reply), AllocError>
         ensures live { IfOk result (λ p. p.0.live ≡ edited self.fields self.live (Edit.DeleteBy term.now)) }
         ensures reply { IfOk result (λ p. p.1 ≡ reply_to self.live (Edit.DeleteBy term.now)) }
         ensures schema { IfOk result (λ p. p.0.fields ≡ self.fields) }
@@ -84,7 +84,7 @@ impl<B: Beside> Documents<B> {
     }
 
     // The document under the next id, where one is left.
-    fn put_next(self, doc: Doc) -> Result<(Documents<B>, Reply), AllocError>
+    fn put_next(self, doc: Doc) -> Result<(Documents<K>, Reply), AllocError>
         requires light { (id : ℕ) → IsLight (id, doc) }
         ensures live { IfOk result (λ p. p.0.live ≡ with_next self.live doc) }
         ensures reply { IfOk result (λ p. p.1 ≡ next_reply self.live) }
@@ -99,7 +99,7 @@ impl<B: Beside> Documents<B> {
     }
 
     // The document in the place of the first that has the term, and of all others that have it.
-    fn put_first(self, term: &[u8], doc: Doc) -> Result<(Documents<B>, Reply), AllocError>
+    fn put_first(self, term: &[u8], doc: Doc) -> Result<(Documents<K>, Reply), AllocError>
         requires light { (id : ℕ) → IsLight (id, doc) }
         ensures live { IfOk result (λ p. p.0.live ≡ with_first self.live doc term.now (first_with term.now self.live.documents)) }
         ensures reply { IfOk result (λ p. p.1 ≡ first_reply self.live (first_with term.now self.live.documents)) }
@@ -116,7 +116,7 @@ impl<B: Beside> Documents<B> {
     }
 
     // The document in the place of the one with the id, or as a new one.
-    fn put(self, id: DocId, doc: Doc) -> Result<Documents<B>, AllocError>
+    fn put(self, id: DocId, doc: Doc) -> Result<Documents<K>, AllocError>
         requires id { 1 ≤ id }
         requires light { (id : ℕ) → IsLight (id, doc) }
         ensures live { IfOk result (λ documents. documents.live ≡ with_document self.live id doc) }
@@ -128,7 +128,7 @@ impl<B: Beside> Documents<B> {
     }
 
     // The document under an id that no document has.
-    fn insert(self, id: DocId, doc: Doc) -> Result<Documents<B>, AllocError>
+    fn insert(self, id: DocId, doc: Doc) -> Result<Documents<K>, AllocError>
         requires id { 1 ≤ id }
         requires free { document_at id self.live.documents ≡ None }
         requires light { (id : ℕ) → IsLight (id, doc) }
@@ -138,19 +138,16 @@ impl<B: Beside> Documents<B> {
         let Documents {
             alloc,
             schema,
-            mut map,
             highest,
-            beside,
+            keeper,
         } = self;
-        let beside = beside.note(id, &doc)?;
         let _terms = doc.terms.as_slice();
-        map.insert(id, doc)?;
+        let keeper = keeper.put(id, doc)?;
         Ok(Documents {
             alloc,
             schema,
-            map,
             highest: highest.max(id),
-            beside,
+            keeper,
         })
     }
 
@@ -162,15 +159,11 @@ impl<B: Beside> Documents<B> {
         ensures put_again { (document : Document) → put_document id document self.new.live.documents ≡ put_document id document self.old.live.documents }
         ensures schema { self.new.fields ≡ self.old.fields }
     {
-        let Some(doc) = self.map.remove(&id) else {
-            return false;
-        };
-        self.beside.forget(id, &doc);
-        true
+        self.keeper.remove(id)
     }
 
-    // Removes the documents that have the term, the last first, so that little of a list beside them moves, and answers
-    // their ids.
+    // Removes the documents that have the term, the last first, so that little of a list of the keeper's moves, and
+    // answers their ids.
     fn remove_all(&mut self, term: &[u8]) -> Result<Vec<DocId>, AllocError>
         ensures live { IfOk result (λ ids. self.new.live ≡ record { documents = without_term term.now self.old.live.documents; highest = self.old.live.highest }) }
         ensures ids { IfOk result (λ ids. ids.items ≡ ids_with term.now self.old.live.documents) }
@@ -178,7 +171,7 @@ impl<B: Beside> Documents<B> {
         ensures few { IfOk result (λ ids. length ids.items < 2 ^ 32) }
         ensures schema { self.new.fields ≡ self.old.fields }
     {
-        let ids = self.beside.ids_with(&self.map, term)?;
+        let ids = self.keeper.ids_with(term)?;
         self.remove_each(ids.as_slice());
         Ok(ids)
     }

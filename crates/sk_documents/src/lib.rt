@@ -1,9 +1,9 @@
-//! Live documents under a schema, and their edits, for whatever is kept beside them.
+//! Live documents under a schema, and their edits, whatever keeps them.
 #![tactic(auto)]
 
-mod beside;
 mod documents;
 mod edits;
+mod keeper;
 
-pub use beside::Beside;
 pub use documents::Documents;
+pub use keeper::Keeper;

@@ -1,6 +1,8 @@
 mod ListedLemmas
+mod PackedLemmas
 mod SlottedLemmas
 mod StandsLemmas
+mod UnpackedLemmas
 pub mod NumberLemmas
 mod WildLemmas
 mod PlaceLemmas

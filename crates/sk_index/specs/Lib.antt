@@ -1,6 +1,8 @@
 pub mod Indexed
 pub mod Listed
+pub mod Packed
 pub mod Placed
 pub mod Slotted
 pub mod Stands
+pub mod Unpacked
 pub mod Wild

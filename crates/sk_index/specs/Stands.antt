@@ -8,8 +8,16 @@ use Rattle.sk_index.specs.Indexed.{postings, all_postings, slot_values}
 use Rattle.sk_index.specs.Listed.{Listed, list_of}
 use Rattle.sk_index.specs.Slotted.{slot_list}
 
+-- The list of each term is what the documents give.
+abbrev pub AreListsOf : Docs → Listed → Type 0
+AreListsOf docs listed = (t : List ℕ) → list_of t listed ≡ postings t docs
+
+-- The list of each slot is.
+abbrev pub AreSlotsOf : Docs → List SlotEntry → Type 0
+AreSlotsOf docs slots = (slot : ℕ) → slot_list slot slots ≡ slot_values slot docs
+
 -- Each list is what the documents give.
 pub record Stands (all : Runs) (listed : Listed) (slots : List SlotEntry) (docs : Docs) : Type 0 where
   pub all_is : flat all ≡ all_postings docs
-  pub lists : (t : List ℕ) → list_of t listed ≡ postings t docs
-  pub values : (slot : ℕ) → slot_list slot slots ≡ slot_values slot docs
+  pub lists : AreListsOf docs listed
+  pub values : AreSlotsOf docs slots

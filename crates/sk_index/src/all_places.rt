@@ -3,30 +3,32 @@ ghost use Rattle.std.specs.Prelude.{◌≡◌, ◌≤◌, ◌<◌, [], length, s
 ghost use Rattle.std.specs.List.{AllPairs};
 ghost use Rattle.sk_base.specs.Order.{ArePositions};
 
-use crate::Index;
+use crate::packed_terms::PackedTerms;
 use crate::places::positions_in;
-use sk_base::DocTerm;
+use crate::term_lists::TermLists;
 use sk_near::Operands;
 use std::marker::Model;
 
 /// The places of several terms in a document. Contracts see the positions of each; only `Index::all_places` makes one.
 #[derive(Drop)]
 pub struct AllPlaces<'a> {
-    pub(crate) index: &'a Index,
+    pub(crate) lists: &'a TermLists,
     pub(crate) numbers: &'a [usize],
-    pub(crate) terms: &'a [DocTerm],
+    pub(crate) packed: &'a PackedTerms,
 }
 
 impl<'a> Model for AllPlaces<'a> {
     ghost use Rattle.std.specs.Prelude.{◌<◌, ℕ, List, All, map, length};
     ghost use Rattle.sk_base.specs.Documents.{AreTerms, positions_of};
     ghost use Rattle.sk_dict.specs.Terms.{term_at};
+    ghost use Rattle.sk_index.specs.Packed.{AreKnown};
+    ghost use Rattle.sk_index.specs.Unpacked.{named_all};
 
     ghost Value = { List (List ℕ) };
 
-    ghost view = { λ p. map (λ n. positions_of (term_at p.index.now.terms n) p.terms.now) p.numbers.now };
+    ghost view = { λ p. map (λ n. positions_of (term_at p.lists.now.terms n) (named_all p.lists.now.terms p.packed.now)) p.numbers.now };
 
-    ghost invariant = { λ p. All (λ n. n < length p.index.now.terms) p.numbers.now × AreTerms p.terms.now };
+    ghost invariant = { λ p. All (λ n. n < length p.lists.now.terms) p.numbers.now × AreKnown (length p.lists.now.terms) p.packed.now × AreTerms (named_all p.lists.now.terms p.packed.now) };
 }
 
 impl<'a> Operands for AllPlaces<'a> {
@@ -39,6 +41,6 @@ impl<'a> Operands for AllPlaces<'a> {
     fn positions(&self, i: usize) -> &[u32] {
         let numbers = self.numbers;
         let number = numbers[i];
-        positions_in(self.terms, self.index.term(number))
+        positions_in(self.packed, self.lists, self.lists.term(number))
     }
 }

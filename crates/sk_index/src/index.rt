@@ -1,6 +1,8 @@
 //! The index: the live documents, with a list for each term and each slot.
 ghost use Rattle.std.specs.Prelude.{◌≡◌, ◌<◌, ◌+◌, [], length, map, true, false, All, IfOk, MatchOption, IsSome, Some, None};
+ghost use Rattle.std.specs.List.{AllByRecursion};
 ghost use Rattle.std.specs.Option.{option_map};
+ghost use Rattle.sk_sorted.specs.Entries.{RiseAbove};
 ghost use Rattle.sk_base.specs.Records.{FitsEdit};
 ghost use Rattle.sk_base.specs.Documents.{AreTerms};
 ghost use Rattle.sk_base.specs.Loads.{IsLight};
@@ -10,14 +12,19 @@ ghost use Rattle.sk_dict.specs.Terms.{term_at, number_of};
 ghost use Rattle.sk_runs.specs.Runs.{flat};
 ghost use Rattle.sk_model.specs.Documents.{keeps_slot, has_slot};
 ghost use Rattle.sk_model.specs.Edits.{nothing_live, edited, reply_to, document_at, IsLive};
+ghost use Rattle.sk_documents.specs.Documented.{HasTerms};
 ghost use Rattle.sk_index.specs.Indexed.{Indexed, runs_in, pieces_in, postings, all_postings, slot_values, slot_value, term_positions, HavePositions, AreNumbered, AreAllWith};
+ghost use Rattle.sk_index.specs.Packed.{AreKnown};
+ghost use Rattle.sk_index.specs.Stands.{AreListsOf, AreSlotsOf};
+ghost use Rattle.sk_index.specs.Unpacked.{named_all};
 
 use crate::all_places::AllPlaces;
 use crate::lists::Lists;
+use crate::packed_terms::PackedTerms;
 use crate::places::{Places, positions_in};
 use crate::slot_lists::SlotLists;
 use crate::term_lists::TermLists;
-use sk_base::{DocId, DocTerm, Edit, Field, FieldKind, Reply, Schema};
+use sk_base::{DocId, Edit, Field, FieldKind, Reply, Schema};
 use sk_documents::Documents;
 use sk_lists::List;
 use sk_steps::Steps;
@@ -38,7 +45,7 @@ impl Model for Index {
 
     ghost Value = { Indexed };
 
-    ghost view = { λ i. record { fields = i.documents.fields; live = i.documents.live; terms = i.documents.beside.terms.terms; all = i.documents.beside.all; lists = i.documents.beside.terms.lists; slots = i.documents.beside.slots } };
+    ghost view = { λ i. record { fields = i.documents.fields; live = i.documents.live; terms = i.documents.keeper.listed.terms; all = i.documents.keeper.all; lists = i.documents.keeper.listed.lists; slots = i.documents.keeper.slots } };
 }
 
 impl Index {
@@ -46,11 +53,7 @@ impl Index {
     pub fn new(alloc: Global, schema: Schema) -> Result<Index, AllocError>
         ensures { IfOk result (λ index. index ≡ record { fields = schema; live = nothing_live; terms = []; all = []; lists = []; slots = [] }) }
     {
-        let lists = Lists {
-            all: List::new(alloc),
-            terms: TermLists::new(alloc),
-            slots: SlotLists::new(alloc, schema.fields().len())?,
-        };
+        let lists = Lists::new(alloc, schema.fields().len())?;
         Ok(Index {
             documents: Documents::new(alloc, schema, lists),
         })
@@ -76,7 +79,7 @@ impl Index {
         // No live document has a term without a number.
         ensures complete { AreNumbered self.now }
     {
-        let _lists = self.documents.beside();
+        let _lists = self.term_lists();
         self.documents.highest()
     }
 
@@ -97,14 +100,14 @@ impl Index {
         ensures value { result ≡ number_of term.now self.now.terms }
         ensures found { MatchOption result (some_has term.now self.now.live.documents ≡ false) (λ n. (n < length self.now.terms) × (term_at self.now.terms n ≡ term.now)) }
     {
-        self.documents.beside().terms.find(term)
+        self.term_lists().find(term)
     }
 
     /// The numbers of terms that begin with the prefix, none left out that a live document has, in byte order of the terms. One search finds the first.
     pub fn with_prefix(&self, prefix: &[u8]) -> Result<Vec<usize>, AllocError>
         ensures { IfOk result (λ ns. AreAllWith prefix.now self.now.terms self.now.live.documents ns.items) }
     {
-        let numbers = self.documents.beside().terms.with_prefix(prefix)?;
+        let numbers = self.term_lists().with_prefix(prefix)?;
         Ok(numbers)
     }
 
@@ -114,7 +117,7 @@ impl Index {
         ensures runs { result.now ≡ runs_in self.now (Some number) }
         ensures entries { flat result.now ≡ postings (term_at self.now.terms number) self.now.live.documents }
     {
-        self.documents.beside().terms.list(number)
+        self.term_lists().list(number)
     }
 
     /// All live documents.
@@ -122,7 +125,7 @@ impl Index {
         ensures runs { result.now ≡ runs_in self.now None }
         ensures entries { flat result.now ≡ all_postings self.now.live.documents }
     {
-        &self.documents.beside().all
+        self.documents.keeper().all()
     }
 
     /// The values of a slot of the schema.
@@ -142,7 +145,7 @@ impl Index {
         ensures pieces { result.now ≡ pieces_in self.now slot }
         ensures entries { flat result.now ≡ slot_values slot self.now.live.documents }
     {
-        self.documents.beside().slots.list(slot)
+        self.slot_lists().list(slot)
     }
 
     /// The document's value in the slot, empty where it has none. It is one reading.
@@ -150,7 +153,7 @@ impl Index {
         ensures value { result.now ≡ slot_value slot (document_at id self.now.live.documents) }
         ensures cost { steps.new ≡ steps.old + 1 }
     {
-        self.documents.beside().slots.list(slot).get(id, steps)
+        self.slot_lists().list(slot).get(id, steps)
     }
 
     /// The places of the term with this number in the document. It is one reading.
@@ -169,7 +172,8 @@ impl Index {
             ≡ term_positions (term_at self.now.terms places.now.0) (document_at places.now.1 self.now.live.documents) }
         ensures rising { ArePositions result.now }
     {
-        positions_in(self.terms_of(places.id), self.term(places.number))
+        let lists = self.term_lists();
+        positions_in(self.terms_of(places.id), lists, lists.term(places.number))
     }
 
     /// The places of the terms with these numbers in the document. It is one reading for each.
@@ -187,31 +191,38 @@ impl Index {
         'readings: for _ in numbers {
             steps.tick();
         }
-        let terms = self.terms_of(id);
         AllPlaces {
-            index: self,
+            lists: self.term_lists(),
             numbers,
-            terms,
+            packed: self.terms_of(id),
         }
     }
 
     // The terms of the document, none where it is not live.
-    fn terms_of(&self, id: DocId) -> &[DocTerm]
-        ensures value { HavePositions result.now (document_at id self.now.live.documents) }
-        ensures rising { AreTerms result.now }
+    fn terms_of(&self, id: DocId) -> &PackedTerms
+        ensures value { HavePositions (named_all self.now.terms result.now) (document_at id self.now.live.documents) }
+        ensures rising { AreTerms (named_all self.now.terms result.now) }
+        ensures known { AreKnown (length self.now.terms) result.now }
     {
-        match self.documents.document(id) {
-            Some(doc) => doc.terms.as_slice(),
-            None => &[],
-        }
+        self.documents.keeper().terms_of(id)
     }
 
-    // The term with this number.
-    pub(crate) fn term(&self, number: usize) -> &[u8]
-        requires there { number < length self.now.terms }
-        ensures { result.now ≡ term_at self.now.terms number }
+    // The lists of the terms.
+    pub(crate) fn term_lists(&self) -> &TermLists
+        ensures value { result.now ≡ record { terms = self.now.terms; lists = self.now.lists } }
+        ensures entries { AreListsOf self.now.live.documents result.now }
+        ensures ordered { AllByRecursion HasTerms self.now.live.documents }
     {
-        self.documents.beside().terms.term(number)
+        self.documents.keeper().terms()
+    }
+
+    // The lists of the slots.
+    pub(crate) fn slot_lists(&self) -> &SlotLists
+        ensures value { result.now ≡ self.now.slots }
+        ensures entries { AreSlotsOf self.now.live.documents result.now }
+        ensures rising { RiseAbove 0 self.now.live.documents }
+    {
+        self.documents.keeper().slots()
     }
 
     /// The document's payload, none where it is not live. It is one reading.
@@ -220,8 +231,7 @@ impl Index {
         ensures cost { steps.new ≡ steps.old + 1 }
     {
         steps.tick();
-        let doc = self.documents.document(id)?;
-        Some(doc.payload.as_str())
+        self.documents.keeper().payload(id)
     }
 }
 

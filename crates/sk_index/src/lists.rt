@@ -1,46 +1,166 @@
-//! The lists that an index keeps beside its documents.
-ghost use Rattle.std.specs.Prelude.{◌≡◌, ◌≤◌, Some, None, IfOk};
+//! The documents of an index, packed, and its lists.
+ghost use Rattle.std.specs.Prelude.{◌≡◌, ℕ, [], length, IfOk, IfSome};
+ghost use Rattle.std.specs.Option.{option_map};
+ghost use Rattle.sk_base.specs.Documents.{AreTerms};
+ghost use Rattle.sk_runs.specs.Runs.{flat};
+ghost use Rattle.sk_model.specs.Edits.{document_at};
+ghost use Rattle.sk_index.specs.Indexed.{HavePositions, all_postings};
+ghost use Rattle.sk_index.specs.Packed.{AreKnown};
+ghost use Rattle.sk_index.specs.Stands.{AreListsOf, AreSlotsOf};
+ghost use Rattle.sk_index.specs.Unpacked.{named_all, unpacked};
 
+use crate::packed::Packed;
+use crate::packed_terms::PackedTerms;
 use crate::slot_lists::SlotLists;
 use crate::term_lists::TermLists;
 use sk_base::{Doc, DocId};
-use sk_documents::Beside;
+use sk_documents::Keeper;
 use sk_lists::List;
-use std::alloc::AllocError;
+use std::alloc::{AllocError, Global};
 use std::collections::BTreeMap;
+use std::marker::Model;
 
-/// The list of all documents, a list for each term, and one for each slot. Each shows how long it is, and no entry.
+/// The documents, the list of all of them, a list for each term, and one for each slot. A document stands as numbers of
+/// the terms: the texts of these stand once, with the lists. Contracts see the documents and the lists.
 #[derive(Drop)]
 pub(crate) struct Lists {
-    pub all: List,
-    pub terms: TermLists,
-    pub slots: SlotLists,
+    map: BTreeMap<DocId, Packed>,
+    /// The terms of a document that is not there.
+    none: PackedTerms,
+    all: List,
+    terms: TermLists,
+    slots: SlotLists,
 }
 
-impl Beside for Lists {
-    ghost use Rattle.sk_index.specs.Stands.{Stands};
+impl Model for Lists {
+    ghost use Rattle.std.specs.Prelude.{◌≡◌, []};
+    ghost use Rattle.sk_index.specs.Unpacked.{Kept, AreWhole, unpacked_all};
 
-    ghost stands = { λ l docs. Stands l.all l.terms l.slots docs };
+    ghost Value = { Kept };
 
-    fn note(self, id: DocId, doc: &Doc) -> Result<Lists, AllocError> {
-        let mut lists = self;
-        lists.all.insert(id, 0)?;
-        lists.terms.put_all(id, doc.terms.as_slice())?;
-        lists.slots.set_all(id, doc.values.as_slice())?;
-        Ok(lists)
+    ghost view = { λ l. record { documents = unpacked_all l.terms.terms l.map.entries; all = l.all; listed = l.terms; slots = l.slots } };
+
+    ghost invariant = { λ l. AreWhole l.all l.terms l.slots l.map.entries × (l.none ≡ []) };
+}
+
+impl Lists {
+    /// No document, and room for the lists of so many slots.
+    pub fn new(alloc: Global, slots: usize) -> Result<Lists, AllocError>
+        ensures { IfOk result (λ lists. lists ≡ record { documents = []; all = []; listed = record { terms = []; lists = [] }; slots = [] }) }
+    {
+        Ok(Lists {
+            map: BTreeMap::new(alloc),
+            none: PackedTerms::new(alloc),
+            all: List::new(alloc),
+            terms: TermLists::new(alloc),
+            slots: SlotLists::new(alloc, slots)?,
+        })
     }
 
-    fn forget(&mut self, id: DocId, doc: &Doc) {
+    /// The list of all documents.
+    pub fn all(&self) -> &List
+        ensures runs { result.now ≡ self.now.all }
+        ensures entries { flat result.now ≡ all_postings self.now.documents }
+    {
+        &self.all
+    }
+
+    /// The lists of the terms.
+    pub fn terms(&self) -> &TermLists
+        ensures value { result.now ≡ self.now.listed }
+        ensures entries { AreListsOf self.now.documents result.now }
+    {
+        &self.terms
+    }
+
+    /// The lists of the slots.
+    pub fn slots(&self) -> &SlotLists
+        ensures value { result.now ≡ self.now.slots }
+        ensures entries { AreSlotsOf self.now.documents result.now }
+    {
+        &self.slots
+    }
+
+    /// The terms of the document, none where it is not there.
+    pub fn terms_of(&self, id: DocId) -> &PackedTerms
+        ensures value { HavePositions (named_all self.now.listed.terms result.now) (document_at id self.now.documents) }
+        ensures rising { AreTerms (named_all self.now.listed.terms result.now) }
+        ensures known { AreKnown (length self.now.listed.terms) result.now }
+    {
+        match self.packed(id) {
+            Some(packed) => &packed.terms,
+            None => &self.none,
+        }
+    }
+
+    /// The payload of the document, none where it is not there.
+    pub fn payload(&self, id: DocId) -> Option<&str>
+        ensures { option_map (λ s. s.now) result ≡ option_map (λ d. d.payload) (document_at id self.now.documents) }
+    {
+        let packed = self.packed(id)?;
+        Some(packed.payload.as_str())
+    }
+
+    fn packed(&self, id: DocId) -> Option<&Packed>
+        ensures value { option_map (λ p. unpacked self.now.listed.terms p.now) result ≡ document_at id self.now.documents }
+        ensures rising { IfSome result (λ p. AreTerms (named_all self.now.listed.terms p.now.terms)) }
+        ensures known { IfSome result (λ p. AreKnown (length self.now.listed.terms) p.now.terms) }
+    {
+        self.map.get(&id)
+    }
+}
+
+impl Keeper for Lists {
+    ghost documents = { λ l. l.documents };
+
+    fn count(&self) -> usize {
+        self.map.len()
+    }
+
+    fn put(self, id: DocId, doc: Doc) -> Result<Lists, AllocError> {
+        let Lists {
+            mut map,
+            none,
+            mut all,
+            mut terms,
+            mut slots,
+        } = self;
+        let Doc {
+            terms: texts,
+            values,
+            payload,
+        } = doc;
+        all.insert(id, 0)?;
+        let packed = terms.put_all(id, texts.as_slice())?;
+        slots.set_all(id, values.as_slice())?;
+        map.insert(
+            id,
+            Packed {
+                terms: packed,
+                values,
+                payload,
+            },
+        )?;
+        Ok(Lists {
+            map,
+            none,
+            all,
+            terms,
+            slots,
+        })
+    }
+
+    fn remove(&mut self, id: DocId) -> bool {
+        let Some(packed) = self.map.remove(&id) else {
+            return false;
+        };
         self.all.remove(id);
-        self.terms.take_out_all(id, doc.terms.as_slice());
-        self.slots.clear_all(id, doc.values.as_slice());
+        self.terms.take_out_all(id, &packed.terms);
+        self.slots.clear_all(id, packed.values.as_slice());
+        true
     }
 
-    fn ids_with(
-        &mut self,
-        _documents: &BTreeMap<DocId, Doc>,
-        term: &[u8],
-    ) -> Result<Vec<DocId>, AllocError> {
+    fn ids_with(&mut self, term: &[u8]) -> Result<Vec<DocId>, AllocError> {
         self.terms.ids(term)
     }
 }

@@ -1,12 +1,16 @@
 //! Where a term stands in a document.
-ghost use Rattle.std.specs.Prelude.{◌≡◌, ◌+◌, [], bytes_eq, if◌then◌else◌};
+ghost use Rattle.std.specs.Prelude.{◌≡◌, ◌<◌, ◌+◌, [], length, bytes_eq, if◌then◌else◌};
 ghost use Rattle.std.specs.Ordering.{is_lt};
 ghost use Rattle.sk_base.specs.Order.{ArePositions};
 ghost use Rattle.sk_base.specs.Documents.{AreTerms, positions_of};
-ghost use Rattle.sk_dict.specs.Terms.{term_cmp};
+ghost use Rattle.sk_dict.specs.Terms.{term_at, term_cmp};
+ghost use Rattle.sk_index.specs.Packed.{AreKnown, numbered_at};
 ghost use Rattle.sk_index.specs.Placed.{IsBetween};
+ghost use Rattle.sk_index.specs.Unpacked.{named_all};
 
-use sk_base::{DocId, DocTerm};
+use crate::packed_terms::PackedTerms;
+use crate::term_lists::TermLists;
+use sk_base::DocId;
 use sk_steps::Steps;
 use std::cmp::Ordering;
 use std::marker::Model;
@@ -42,29 +46,54 @@ impl Places {
 }
 
 /// The positions of the term in a document with these terms, none where it has not the term. It searches by halves.
-pub(crate) fn positions_in<'a>(terms: &'a [DocTerm], term: &[u8]) -> &'a [u32]
-    requires rising { AreTerms terms.now }
-    ensures value { result.now ≡ positions_of term.now terms.now }
+pub(crate) fn positions_in<'a>(
+    packed: &'a PackedTerms,
+    lists: &TermLists,
+    term: &[u8],
+) -> &'a [u32]
+    requires known { AreKnown (length lists.now.terms) packed.now }
+    requires rising { AreTerms (named_all lists.now.terms packed.now) }
+    ensures value { result.now ≡ positions_of term.now (named_all lists.now.terms packed.now) }
     ensures rising { ArePositions result.now }
 {
-    let place = place_of(terms, term);
-    if place < terms.len() {
-        positions_if(&terms[place], term)
+    let place = place_of(packed, lists, term);
+    if place < packed.len() {
+        positions_if(packed, place, lists, term)
+    } else {
+        &[]
+    }
+}
+
+// The positions of the term at this place, if it is the term.
+fn positions_if<'a>(
+    packed: &'a PackedTerms,
+    place: usize,
+    lists: &TermLists,
+    term: &[u8],
+) -> &'a [u32]
+    requires there { place < length packed.now }
+    requires known { AreKnown (length lists.now.terms) packed.now }
+    ensures value { result.now ≡ (if bytes_eq (term_at lists.now.terms (numbered_at packed.now place).number) term.now then (numbered_at packed.now place).positions else []) }
+    ensures rising { ArePositions result.now }
+{
+    if lists.term(packed.number(place)) == term {
+        packed.positions(place)
     } else {
         &[]
     }
 }
 
 // How many of the terms stand before the term.
-fn place_of(terms: &[DocTerm], term: &[u8]) -> usize
-    requires rising { AreTerms terms.now }
-    ensures { IsBetween term.now terms.now result result }
+fn place_of(packed: &PackedTerms, lists: &TermLists, term: &[u8]) -> usize
+    requires known { AreKnown (length lists.now.terms) packed.now }
+    requires rising { AreTerms (named_all lists.now.terms packed.now) }
+    ensures { IsBetween term.now (named_all lists.now.terms packed.now) result result }
 {
     let mut low = 0;
-    let mut high = terms.len();
+    let mut high = packed.len();
     'halves: while low < high {
         let middle = low + (high - low) / 2;
-        if is_before(&terms[middle], term) {
+        if is_before(lists.term(packed.number(middle)), term) {
             low = middle + 1;
         } else {
             high = middle;
@@ -73,22 +102,10 @@ fn place_of(terms: &[DocTerm], term: &[u8]) -> usize
     low
 }
 
-// The positions of a term of the document, if it is the term.
-fn positions_if<'a>(one: &'a DocTerm, term: &[u8]) -> &'a [u32]
-    ensures value { result.now ≡ (if bytes_eq one.now.term term.now then one.now.positions else []) }
-    ensures rising { ArePositions result.now }
+fn is_before(one: &[u8], term: &[u8]) -> bool
+    ensures { result ≡ is_lt (term_cmp one.now term.now) }
 {
-    if one.term.as_str().as_bytes() == term {
-        one.positions.as_slice()
-    } else {
-        &[]
-    }
-}
-
-fn is_before(one: &DocTerm, term: &[u8]) -> bool
-    ensures { result ≡ is_lt (term_cmp one.now.term term.now) }
-{
-    match one.term.as_str().as_bytes().cmp(term) {
+    match one.cmp(term) {
         Ordering::Less => true,
         Ordering::Equal => false,
         Ordering::Greater => false,

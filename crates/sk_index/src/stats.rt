@@ -13,33 +13,31 @@ impl Stats for Index {
     ghost documents = { λ i. i.live.documents };
 
     fn live(&self) -> u32 {
-        self.documents.beside().all.length()
+        self.all().length()
     }
 
     fn length(&self, term: &[u8]) -> u32 {
-        self.documents.beside().terms.figure(term, Figure::Length)
+        self.term_lists().figure(term, Figure::Length)
     }
 
     fn greatest(&self, term: &[u8]) -> u32 {
-        self.documents.beside().terms.figure(term, Figure::Greatest)
+        self.term_lists().figure(term, Figure::Greatest)
     }
 
     fn wild_length(&self, prefix: &[u8]) -> u32 {
-        self.documents.beside().terms.sum(
+        self.term_lists().sum(
             prefix,
             Figure::Length,
-            self.documents.beside().all.length(),
+            self.all().length(),
         )
     }
 
     fn wild_greatest(&self, prefix: &[u8]) -> u32 {
-        self.documents
-            .beside()
-            .terms
+        self.term_lists()
             .sum(prefix, Figure::Greatest, MOST_WDF)
     }
 
     fn slot_length(&self, slot: u32) -> u32 {
-        self.documents.beside().slots.list(slot).length()
+        self.slot_lists().list(slot).length()
     }
 }

@@ -5,8 +5,11 @@ ghost use Rattle.sk_dict.specs.Terms.{term_at, number_of, begins_with, IsNext, H
 ghost use Rattle.sk_sorted.specs.Entries.{put, without, ids_of};
 ghost use Rattle.sk_runs.specs.Runs.{flat};
 ghost use Rattle.sk_index.specs.Listed.{list_of, IsListed, IsEdited, SameLists, Puts, TakesOut, PutsAll, TakesOutAll};
+ghost use Rattle.sk_index.specs.Packed.{AreKnown};
+ghost use Rattle.sk_index.specs.Unpacked.{named_all, Grows};
 ghost use Rattle.sk_index.specs.Wild.{figure_of, sum_behind};
 
+use crate::packed_terms::{PackedTerms, narrow_sum};
 use sk_base::{DocId, DocTerm};
 use sk_dict::{Dict, make_room};
 use sk_lists::List;
@@ -129,43 +132,54 @@ impl TermLists {
         }
     }
 
-    /// Puts the document into the list of each term.
-    pub fn put_all(&mut self, id: DocId, terms: &[DocTerm]) -> Result<(), AllocError>
+    /// Puts the document into the list of each term, and gives the terms with their numbers.
+    pub fn put_all(&mut self, id: DocId, terms: &[DocTerm]) -> Result<PackedTerms, AllocError>
         requires id { 1 ≤ id }
         requires rising { AreTerms terms.now }
-        ensures { OnOk result (PutsAll id terms.now self.old self.new) }
+        ensures puts { OnOk result (PutsAll id terms.now self.old self.new) }
+        ensures grows { OnOk result (Grows self.old.terms self.new.terms) }
+        ensures named { IfOk result (λ packed. named_all self.new.terms packed ≡ terms.now) }
+        ensures known { IfOk result (λ packed. AreKnown (length self.new.terms) packed) }
     {
+        let positions = count_positions(terms)?;
+        let mut packed = PackedTerms::with_capacity(self.alloc, terms.len(), positions)?;
         'terms: for one in terms {
-            self.put(id, one.term.as_str().as_bytes(), one.wdf)?;
+            let number = self.put(id, one.term.as_str().as_bytes(), one.wdf)?;
+            packed.push(number, one.wdf, one.positions.as_slice())?;
         }
-        Ok(())
+        Ok(packed)
     }
 
-    /// Takes the document out of the list of each term. Want of memory stops nothing.
-    pub fn take_out_all(&mut self, id: DocId, terms: &[DocTerm])
-        requires rising { AreTerms terms.now }
-        ensures { TakesOutAll id terms.now self.old self.new }
+    /// Takes the document out of the list of each of its terms. Want of memory stops nothing.
+    pub fn take_out_all(&mut self, id: DocId, packed: &PackedTerms)
+        requires known { AreKnown (length self.old.terms) packed.now }
+        requires rising { AreTerms (named_all self.old.terms packed.now) }
+        ensures takes { TakesOutAll id (named_all self.old.terms packed.now) self.old self.new }
+        ensures terms { self.new.terms ≡ self.old.terms }
     {
-        'terms: for one in terms {
-            self.take_out(id, one.term.as_str().as_bytes());
+        'terms: for i in 0..packed.len() {
+            self.take_out(id, packed.number(i));
         }
     }
 
-    fn put(&mut self, id: DocId, term: &[u8], wdf: u32) -> Result<(), AllocError>
+    // The number of the term, whose list has the document.
+    fn put(&mut self, id: DocId, term: &[u8], wdf: u32) -> Result<usize, AllocError>
         requires { 1 ≤ id }
-        ensures { OnOk result (Puts id term.now wdf self.old self.new) }
+        ensures puts { OnOk result (Puts id term.now wdf self.old self.new) }
+        ensures grows { OnOk result (Grows self.old.terms self.new.terms) }
+        ensures named { IfOk result (λ n. (n < length self.new.terms) × (term_at self.new.terms n ≡ term.now)) }
     {
         let number = self.number_for(term)?;
         self.put_at(number, id, wdf)?;
-        Ok(())
+        Ok(number)
     }
 
-    fn take_out(&mut self, id: DocId, term: &[u8])
-        ensures { TakesOut id term.now self.old self.new }
+    fn take_out(&mut self, id: DocId, number: usize)
+        requires there { number < length self.old.terms }
+        ensures takes { TakesOut id (term_at self.old.terms number) self.old self.new }
+        ensures terms { self.new.terms ≡ self.old.terms }
     {
-        if let Some(number) = self.find(term) {
-            self.take_out_at(number, id);
-        }
+        self.take_out_at(number, id);
     }
 
     fn put_at(&mut self, number: usize, id: DocId, wdf: u32) -> Result<(), AllocError>
@@ -193,6 +207,7 @@ impl TermLists {
         ensures found { IfOk result (λ n. number_of term.now self.new.terms ≡ Some n) }
         ensures there { IfOk result (λ n. n < length self.new.terms) }
         ensures same { OnOk result (SameLists self.old self.new) }
+        ensures grows { OnOk result (Grows self.old.terms self.new.terms) }
     {
         make_room(&mut self.lists)?;
         let number = self.dict.add(term)?;
@@ -202,6 +217,15 @@ impl TermLists {
         self.lists.push_reserved(List::new(self.alloc));
         Ok(number)
     }
+}
+
+// How many positions the terms have together. More than 32 bits count is want of memory.
+fn count_positions(terms: &[DocTerm]) -> Result<usize, AllocError> {
+    let mut count = 0;
+    'terms: for one in terms {
+        count = narrow_sum(count as usize, one.positions.as_slice().len())?;
+    }
+    Ok(count as usize)
 }
 
 fn figure_of(list: &List, figure: Figure) -> u32

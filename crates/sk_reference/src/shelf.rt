@@ -1,37 +1,53 @@
-//! The live documents, with nothing beside them.
-ghost use Rattle.std.specs.Prelude.{◌≡◌, ◌<◌, ◌^◌, length, All, Some, None, IfOk};
+//! The live documents, as a plain map.
+ghost use Rattle.std.specs.Prelude.{◌≡◌, ◌<◌, ◌^◌, [], length, All, IfOk};
 ghost use Rattle.sk_base.specs.Records.{FitsEdit};
 ghost use Rattle.sk_base.specs.Documents.{has_term};
 ghost use Rattle.sk_base.specs.Loads.{IsLight};
 ghost use Rattle.sk_model.specs.Edits.{nothing_live, edited, reply_to};
 
 use sk_base::{Doc, DocId, Edit, Reply, Schema};
-use sk_documents::{Beside, Documents};
+use sk_documents::{Documents, Keeper};
 use std::alloc::{AllocError, Global};
 use std::collections::BTreeMap;
 use std::marker::Model;
 
-/// Nothing is kept beside the documents: those that have a term are looked for among all.
+/// Documents as they are: those that have a term are looked for among all.
 #[derive(Debug, Drop)]
-struct Nothing {
+struct PlainMap {
     alloc: Global,
+    map: BTreeMap<DocId, Doc>,
 }
 
-impl Beside for Nothing {
-    ghost stands = { λ nothing docs. Unit {0} };
+impl PlainMap {
+    fn new(alloc: Global) -> PlainMap
+        ensures { result.map.entries ≡ [] }
+    {
+        PlainMap {
+            alloc,
+            map: BTreeMap::new(alloc),
+        }
+    }
+}
 
-    fn note(self, _id: DocId, _doc: &Doc) -> Result<Nothing, AllocError> {
-        Ok(self)
+impl Keeper for PlainMap {
+    ghost documents = { λ kept. kept.map.entries };
+
+    fn count(&self) -> usize {
+        self.map.len()
     }
 
-    fn forget(&mut self, _id: DocId, _doc: &Doc) {}
+    fn put(self, id: DocId, doc: Doc) -> Result<PlainMap, AllocError> {
+        let mut kept = self;
+        kept.map.insert(id, doc)?;
+        Ok(kept)
+    }
 
-    fn ids_with(
-        &mut self,
-        documents: &BTreeMap<DocId, Doc>,
-        term: &[u8],
-    ) -> Result<Vec<DocId>, AllocError> {
-        documents
+    fn remove(&mut self, id: DocId) -> bool {
+        self.map.remove(&id).is_some()
+    }
+
+    fn ids_with(&mut self, term: &[u8]) -> Result<Vec<DocId>, AllocError> {
+        self.map
             .iter()
             .filter(|(_, doc)| has_term(doc, term))
             .map(|(id, _)| *id)
@@ -42,7 +58,7 @@ impl Beside for Nothing {
 /// The live documents under one schema, as a plain map. Contracts see it as what it holds.
 #[derive(Debug, Drop)]
 pub struct Shelf {
-    documents: Documents<Nothing>,
+    documents: Documents<PlainMap>,
 }
 
 impl Model for Shelf {
@@ -59,7 +75,7 @@ impl Shelf {
         ensures { result ≡ record { fields = schema; live = nothing_live } }
     {
         Shelf {
-            documents: Documents::new(alloc, schema, Nothing { alloc }),
+            documents: Documents::new(alloc, schema, PlainMap::new(alloc)),
         }
     }
 
@@ -80,7 +96,7 @@ impl Shelf {
         ensures light { All IsLight result.now.entries }
         ensures few { length result.now.entries < 2 ^ 32 }
     {
-        self.documents.map()
+        &self.documents.keeper().map
     }
 
     /// Changes the documents. Where memory runs out the shelf is given up.

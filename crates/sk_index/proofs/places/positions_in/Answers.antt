@@ -1,12 +1,26 @@
 -- What stands at the place is the term, or none is.
-use Rattle.std.proofs.Common.{sym, ◌∙◌, arith}
+use Rattle.std.proofs.Common.{◌≡◌, length, sym, ◌∙◌, arith}
+use Rattle.std.proofs.lemmas.List.{length-map}
+use Rattle.sk_base.specs.declared.doc_entry.DocTerm.{DocTerm}
+use Rattle.sk_index.specs.Packed.{numbered_at}
+use Rattle.sk_index.specs.Unpacked.{named, named_all}
 use Rattle.sk_index.proofs.PlaceLemmas.{positions_found, positions_past}
+use Rattle.sk_index.proofs.UnpackedLemmas.{named_at}
 use Rattle.sk_index.proofs.places.positions_in.Goals as goal
 
-pub returns-then-place-terms-clause-value : goal.returns-then-place-terms-clause-value
-returns-then-place-terms-clause-value c =
+pub returns-then-place-len-clause-value : goal.returns-then-place-len-clause-value
+returns-then-place-len-clause-value c =
+    let dict = c.args.lists.now.terms in
+    let packed = c.args.packed.now in
+    let place = c.place_of-place.result in
+    let e : DocTerm = named dict (numbered_at packed place) in
+    let size : length (named_all dict packed) ≡ length packed = length-map packed (named dict) in
     c.positions_if.ensures.value
-    ∙ sym (positions_found c.args.term.now c.args.terms.now c.place_of-place.result c.index-terms-place.result c.index-terms-place.is c.requires.rising c.place_of-place.ensures c.if-place-terms.true)
+    ∙ sym (positions_found c.args.term.now (named_all dict packed) place e (named_at dict packed place e (omega arith)) c.requires.rising c.place_of-place.ensures (omega (arith, size)))
 
-pub returns-else-place-terms-clause-value : goal.returns-else-place-terms-clause-value
-returns-else-place-terms-clause-value c = sym (positions_past c.args.term.now c.args.terms.now c.place_of-place.result c.place_of-place.ensures (omega arith))
+pub returns-else-place-len-clause-value : goal.returns-else-place-len-clause-value
+returns-else-place-len-clause-value c =
+    let dict = c.args.lists.now.terms in
+    let packed = c.args.packed.now in
+    let size : length (named_all dict packed) ≡ length packed = length-map packed (named dict) in
+    sym (positions_past c.args.term.now (named_all dict packed) c.place_of-place.result c.place_of-place.ensures (omega (arith, size)))

@@ -1,13 +1,10 @@
 -- No document has a term without a number.
-use Rattle.std.proofs.Common.{◌≡◌, ℕ, List, false, None, subst}
-use Rattle.sk_base.specs.Numbers.{some_has}
+use Rattle.std.proofs.Common.{ap, ◌∙◌}
 use Rattle.sk_dict.specs.Terms.{number_of}
-use Rattle.sk_index.specs.declared.lists.Lists.{Lists}
+use Rattle.sk_index.specs.Listed.{Listed}
 use Rattle.sk_index.proofs.NumberLemmas.{all_numbered}
 use Rattle.sk_index.proofs.index.Index.highest.Goals as goal
 
 pub returns-clause-complete : goal.returns-clause-complete
-returns-clause-complete c =
-    let docs = c.self.inside.documents.live.documents in
-    rw (← c.self.view_is) (subst (λ (b : Lists). (t : List ℕ) → number_of t b.terms.terms ≡ None → some_has t docs ≡ false) c.beside-lists.ensures.value
-    (all_numbered _ docs c.beside-lists.ensures.stands.lists))
+returns-clause-complete c = λ t none.
+    all_numbered c.term_lists-lists.result.now c.args.self.now.live.documents c.term_lists-lists.ensures.entries t (ap (λ (l : Listed). number_of t l.terms) c.term_lists-lists.ensures.value ∙ none)

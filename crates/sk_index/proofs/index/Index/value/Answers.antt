@@ -6,5 +6,5 @@ use Rattle.sk_index.proofs.index.Index.value.Goals as goal
 
 pub returns-clause-value : goal.returns-clause-value
 returns-clause-value g c =
-    c.get.ensures.value ∙ ap (found_value c.args.id) (c.list.ensures.entries ∙ c.beside.ensures.stands.values c.args.slot)
-    ∙ rw (← c.self.view_is) (found_value-slot_values 0 c.args.slot c.args.id c.self.inside.documents.live.documents c.beside.ensures.sound.rise)
+    c.get.ensures.value ∙ ap (found_value c.args.id) (c.list.ensures.entries ∙ c.slot_lists.ensures.entries c.args.slot)
+    ∙ found_value-slot_values 0 c.args.slot c.args.id c.args.self.now.live.documents c.slot_lists.ensures.rising

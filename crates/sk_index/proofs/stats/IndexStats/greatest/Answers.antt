@@ -5,4 +5,4 @@ use Rattle.sk_index.proofs.NumberLemmas.{greatest-postings}
 use Rattle.sk_index.proofs.stats.IndexStats.greatest.Goals as goal
 
 pub returns : goal.returns
-returns c = rw (← c.self.view_is) (c.figure.ensures ∙ ap greatest_wdf (c.beside.ensures.stands.lists c.args.term.now) ∙ greatest-postings c.args.term.now c.self.inside.documents.live.documents)
+returns c = c.figure.ensures ∙ ap greatest_wdf (c.term_lists.ensures.entries c.args.term.now) ∙ greatest-postings c.args.term.now c.args.self.now.live.documents

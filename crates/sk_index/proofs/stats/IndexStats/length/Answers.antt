@@ -4,4 +4,4 @@ use Rattle.sk_index.proofs.NumberLemmas.{length-postings}
 use Rattle.sk_index.proofs.stats.IndexStats.length.Goals as goal
 
 pub returns : goal.returns
-returns c = rw (← c.self.view_is) (c.figure.ensures ∙ ap length (c.beside.ensures.stands.lists c.args.term.now) ∙ length-postings c.args.term.now c.self.inside.documents.live.documents)
+returns c = c.figure.ensures ∙ ap length (c.term_lists.ensures.entries c.args.term.now) ∙ length-postings c.args.term.now c.args.self.now.live.documents

@@ -11,9 +11,9 @@ use Rattle.sk_index.proofs.stats.IndexStats.wild_greatest.Goals as goal
 
 pub returns : goal.returns
 returns c =
-    let docs = c.self.inside.documents.live.documents in
-    let terms = c.beside.result.now.terms in
-    let stands = c.beside.ensures.stands in
-    let sums = sum_behind-terms_with (λ t. figure_of Figure.Greatest (list_of t terms)) (λ t. greatest_of t docs) c.args.prefix.now terms docs c.sum.ensures.sound c.beside.ensures.sound.terms stands.lists
-    (λ t. ap greatest_wdf (stands.lists t) ∙ greatest-postings t docs) (λ t none. greatest_of-none t docs none) in
-    rw (← c.self.view_is) (c.sum.ensures.value ∙ (λ i. min (2 ^ 29 - 1) (sums i)))
+    let docs = c.args.self.now.live.documents in
+    let terms = c.term_lists.result.now in
+    let lists = c.term_lists.ensures.entries in
+    let sums = sum_behind-terms_with (λ t. figure_of Figure.Greatest (list_of t terms)) (λ t. greatest_of t docs) c.args.prefix.now terms docs c.sum.ensures.sound c.term_lists.ensures.ordered lists
+    (λ t. ap greatest_wdf (lists t) ∙ greatest-postings t docs) (λ t none. greatest_of-none t docs none) in
+    c.sum.ensures.value ∙ (λ i. min (2 ^ 29 - 1) (sums i))

@@ -12,10 +12,10 @@ use Rattle.sk_index.proofs.stats.IndexStats.wild_length.Goals as goal
 
 pub returns : goal.returns
 returns c =
-    let docs = c.self.inside.documents.live.documents in
-    let terms = c.beside.result.now.terms in
-    let stands = c.beside.ensures.stands in
-    let sums = sum_behind-terms_with (λ t. figure_of Figure.Length (list_of t terms)) (λ t. length_of t docs) c.args.prefix.now terms docs c.sum.ensures.sound c.beside.ensures.sound.terms stands.lists
-    (λ t. ap length (stands.lists t) ∙ length-postings t docs) (λ t none. length_of-none t docs none) in
-    let all = c.length.ensures.value ∙ ap length c.beside-2.ensures.stands.all_is ∙ length-map docs (λ (one : ℕ × Document). (one.0, 0)) in
-    rw (← c.self.view_is) (c.sum.ensures.value ∙ (λ i. min (all i) (sums i)))
+    let docs = c.args.self.now.live.documents in
+    let terms = c.term_lists.result.now in
+    let lists = c.term_lists.ensures.entries in
+    let sums = sum_behind-terms_with (λ t. figure_of Figure.Length (list_of t terms)) (λ t. length_of t docs) c.args.prefix.now terms docs c.sum.ensures.sound c.term_lists.ensures.ordered lists
+    (λ t. ap length (lists t) ∙ length-postings t docs) (λ t none. length_of-none t docs none) in
+    let all = c.length.ensures.value ∙ ap length c.all.ensures.entries ∙ length-map docs (λ (one : ℕ × Document). (one.0, 0)) in
+    c.sum.ensures.value ∙ (λ i. min (all i) (sums i))

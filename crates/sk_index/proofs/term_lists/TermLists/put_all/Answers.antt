@@ -1,11 +1,27 @@
 -- One term more.
-use Rattle.std.proofs.Common.{◌≡◌, arith, ◌∙◌, subst}
+use Rattle.std.proofs.Common.{◌≡◌, ◌++◌, ◌∷◌, [], List, length, arith, ap, sym, ◌∙◌, subst}
 use Rattle.sk_index.specs.Listed.{Puts}
+use Rattle.sk_index.specs.Packed.{NumberedTerm, AreKnown}
 use Rattle.sk_index.proofs.ListedLemmas.{puts_on}
+use Rattle.sk_index.specs.Unpacked.{named_all}
+use Rattle.sk_index.proofs.UnpackedLemmas.{Grows-then, names_on, knows_on}
 use Rattle.sk_index.proofs.term_lists.TermLists.put_all.Goals as goal
 
 pub terms-preserved : goal.terms-preserved
 terms-preserved c =
-    let term : c.as_bytes.result.now ≡ c.one-item.result.term = c.as_bytes.ensures.value ∙ c.as_str.ensures in
-    puts_on c.args.id c.terms.one-index c.args.terms.now c.one-item.result c.args.self.now c.terms.self c.put.new.self c.requires.rising (omega arith) c.one-item.is c.terms.invariant
-    (subst (λ w. Puts c.args.id w c.one-item.result.wdf c.terms.self c.put.new.self) term c.in_ok-put.ensures)
+    let x = c.one-item.result in
+    let n = c.in_ok-number.number in
+    let dict = c.terms.self.terms in
+    let dict2 = c.put.new.self.terms in
+    let term : c.as_bytes.result.now ≡ x.term = c.as_bytes.ensures.value ∙ c.as_str.ensures in
+    let one : NumberedTerm = record { number = n; wdf = x.wdf; positions = x.positions } in
+    let pushed : c.push.new.self ≡ c.terms.packed ++ one ∷ [] = c.in_ok-push.ensures.ok ∙ (λ i. c.terms.packed ++ record { number = n; wdf = x.wdf; positions = c.as_slice.ensures.value i } ∷ []) in
+    record {
+      rest = puts_on c.args.id c.terms.one-index c.args.terms.now x c.args.self.now c.terms.self c.put.new.self c.requires.rising (omega arith) c.one-item.is c.terms.invariant.rest
+          (subst (λ w. Puts c.args.id w x.wdf c.terms.self c.put.new.self) term c.in_ok-number.ensures.puts);
+      grows = Grows-then c.args.self.now.terms dict dict2 c.terms.invariant.grows c.in_ok-number.ensures.grows;
+      named = ap (named_all dict2) pushed
+          ∙ names_on dict dict2 c.args.terms.now c.terms.one-index n x c.terms.packed c.in_ok-number.ensures.grows c.terms.invariant.known c.terms.invariant.named (omega arith) c.one-item.is
+          (c.in_ok-number.ensures.named.1 ∙ term);
+      known = subst (AreKnown (length dict2)) (sym pushed) (knows_on dict dict2 c.terms.packed one c.in_ok-number.ensures.grows c.terms.invariant.known c.in_ok-number.ensures.named.0);
+    }

@@ -1,11 +1,14 @@
 -- One term more.
-use Rattle.std.proofs.Common.{◌≡◌, arith, ◌∙◌, subst}
-use Rattle.sk_index.specs.Listed.{TakesOut}
-use Rattle.sk_index.proofs.ListedLemmas.{takes_on}
+use Rattle.std.proofs.Common.{◌∙◌, arith}
+use Rattle.sk_index.proofs.UnpackedLemmas.{takes_next, takes_end, known_at}
 use Rattle.sk_index.proofs.term_lists.TermLists.take_out_all.Goals as goal
 
 pub terms-preserved : goal.terms-preserved
-terms-preserved c =
-    let term : c.as_bytes.result.now ≡ c.one-item.result.term = c.as_bytes.ensures.value ∙ c.as_str.ensures in
-    takes_on c.args.id c.terms.one-index c.args.terms.now c.one-item.result c.args.self.now c.terms.self c.take_out.new.self c.requires.rising (omega arith) c.one-item.is c.terms.invariant
-    (subst (λ w. TakesOut c.args.id w c.terms.self c.take_out.new.self) term c.take_out.ensures)
+terms-preserved c = record {
+  rest = takes_next c.args.id c.terms.i c.number.result c.args.packed.now c.args.self.now c.terms.self c.take_out.new.self c.requires.rising (omega arith) c.number.ensures c.terms.invariant.same
+      c.terms.invariant.rest c.take_out.ensures.takes;
+  same = c.take_out.ensures.terms ∙ c.terms.invariant.same;
+}
+
+pub returns-clause-takes : goal.returns-clause-takes
+returns-clause-takes c = takes_end c.args.id c.terms.i c.args.packed.now c.args.self.now c.terms.self (omega arith) c.terms.invariant.rest

@@ -1,0 +1,28 @@
+-- The document that is found is in order, and its numbers have terms.
+use Rattle.std.proofs.Common.{List, ℕ, length, IfSome, option_map, sym, ap, subst, ◌∙◌}
+use Rattle.sk_base.specs.Documents.{AreTerms}
+use Rattle.sk_sorted.specs.Entries.{found}
+use Rattle.sk_model.specs.Edits.{document_at}
+use Rattle.sk_index.specs.declared.packed.Packed.{Packed}
+use Rattle.sk_index.specs.Packed.{AreKnown}
+use Rattle.sk_index.specs.Unpacked.{Kept, named_all, unpacked}
+use Rattle.sk_index.proofs.UnpackedLemmas.{mapped_twice, some_of, unpacked-found, found-known, found-ordered}
+use Rattle.sk_index.proofs.lists.Lists.packed.Goals as goal
+
+pub returns-clause-value : goal.returns-clause-value
+returns-clause-value c =
+    let dict = c.self.inside.terms.terms in
+    let entries = c.self.inside.map.entries in
+    rw (← c.self.view_is) (mapped_twice (λ p. p.now) (unpacked dict) c.get.result ∙ ap (option_map (unpacked dict)) c.get.ensures.value ∙ sym (unpacked-found dict c.args.id entries))
+
+pub returns-clause-rising : goal.returns-clause-rising
+returns-clause-rising c =
+    let dict = c.self.inside.terms.terms in
+    let entries = c.self.inside.map.entries in
+    rw (← c.self.view_is) (some_of (λ p. p.now) (λ (p : Packed). AreTerms (named_all dict p.terms)) c.get.result (found c.args.id entries) c.get.ensures.value (λ p. found-ordered dict c.args.id p entries c.self.invariant.0.ordered))
+
+pub returns-clause-known : goal.returns-clause-known
+returns-clause-known c =
+    let dict = c.self.inside.terms.terms in
+    let entries = c.self.inside.map.entries in
+    rw (← c.self.view_is) (some_of (λ p. p.now) (λ (p : Packed). AreKnown (length dict) p.terms) c.get.result (found c.args.id entries) c.get.ensures.value (λ p. found-known dict c.args.id p entries c.self.invariant.0.known))

@@ -1,0 +1,54 @@
+-- The documents that packed ones are under a dictionary.
+use Rattle.std.specs.Prelude.{◌≡◌, ◌<◌, ◌≤◌, ℕ, List, length, map}
+use Rattle.std.specs.List.{AllByRecursion}
+use Rattle.sk_sorted.specs.Entries.{RiseAbove}
+use Rattle.sk_base.specs.declared.doc_entry.DocTerm.{DocTerm}
+use Rattle.sk_base.specs.Numbers.{Docs}
+use Rattle.sk_dict.specs.Terms.{term_at}
+use Rattle.sk_documents.specs.Documented.{HasTerms}
+use Rattle.sk_model.specs.Documents.{Document}
+use Rattle.sk_lists.specs.Lists.{Runs}
+use Rattle.sk_index.specs.declared.packed.Packed.{Packed}
+use Rattle.sk_index.specs.declared.slot_lists.SlotEntry.{SlotEntry}
+use Rattle.sk_index.specs.Packed.{NumberedTerm, AreKnown}
+use Rattle.sk_index.specs.Listed.{Listed}
+use Rattle.sk_index.specs.Stands.{Stands}
+
+-- A term with the text that the dictionary has for its number.
+abbrev pub named : List (List ℕ) → NumberedTerm → DocTerm
+named dict one = record { term = term_at dict one.number; wdf = one.wdf; positions = one.positions }
+
+-- The same of several.
+abbrev pub named_all : List (List ℕ) → List NumberedTerm → List DocTerm
+named_all dict terms = map (named dict) terms
+
+-- The document that a packed one is.
+abbrev pub unpacked : List (List ℕ) → Packed → Document
+unpacked dict one = record { terms = named_all dict one.terms; values = one.values; payload = one.payload }
+
+-- The same of several, with their ids.
+abbrev pub unpacked_all : List (List ℕ) → List (ℕ × Packed) → Docs
+unpacked_all dict entries = map (λ e. (e.0, unpacked dict e.1)) entries
+
+-- The numbers of a packed document, with its id, have terms.
+abbrev pub HasKnown : List (List ℕ) → ℕ × Packed → Type 0
+HasKnown dict entry = AreKnown (length dict) entry.1.terms
+
+-- Terms came at the end of a dictionary: each number that had a term has it still.
+pub record Grows (old new : List (List ℕ)) : Type 0 where
+  pub longer : length old ≤ length new
+  pub same : (n : ℕ) → n < length old → term_at new n ≡ term_at old n
+
+-- What the keeper of an index holds: documents, the lists of all and of each term, and those of the slots.
+pub record Kept : Type 0 where
+  pub documents : Docs
+  pub all : Runs
+  pub listed : Listed
+  pub slots : List SlotEntry
+
+-- The packed documents are in order under the dictionary, and each list is what they give.
+pub record AreWhole (all : Runs) (listed : Listed) (slots : List SlotEntry) (entries : List (ℕ × Packed)) : Type 0 where
+  pub known : AllByRecursion (HasKnown listed.terms) entries
+  pub rise : RiseAbove 0 (unpacked_all listed.terms entries)
+  pub ordered : AllByRecursion HasTerms (unpacked_all listed.terms entries)
+  pub stand : Stands all listed slots (unpacked_all listed.terms entries)
