@@ -1,5 +1,5 @@
 -- What packed documents are where a dictionary grows, and after an edit.
-use Rattle.std.proofs.Common.{◌≡◌, ℕ, ◌+◌, ◌<◌, ◌≤◌, Bool, true, false, if◌then◌else◌, List, [], ◌∷◌, ◌++◌, length, get_or, take, drop, map, Option, None, Some, IfSome, is_some, option_map, inl, inr, refl, sym, ap, subst, ◌∙◌, arith}
+use Rattle.std.proofs.Common.{◌≡◌, ℕ, ◌+◌, ◌<◌, ◌≤◌, Bool, true, false, if◌then◌else◌, List, [], ◌∷◌, ◌++◌, length, get_or, take, drop, Option, None, Some, IfSome, is_some, option_map, inl, inr, refl, sym, ap, subst, ◌∙◌, arith}
 use Rattle.std.specs.List.{AllByRecursion}
 use Rattle.std.proofs.lemmas.Bool.{cases_order, cases_eq}
 use Rattle.std.proofs.lemmas.List.{take_more, map-append, length_push, length-map, get_or-map, drop_all}
@@ -147,7 +147,7 @@ takes_end id i packed start last le rest =
 
 -- all with one document more
 module _ (all all2 : Runs) (listed listed2 : Listed) (slots slots2 : List SlotEntry) (entries entries2 : List (ℕ × Packed)) (id : ℕ) (d : Document) (p : Packed)
-  (whole : AreWhole all listed slots entries) (is : entries2 ≡ put id p entries) (grows : Grows listed.terms listed2.terms) (known : AreKnown (length listed2.terms) p.terms) (same : unpacked listed2.terms p ≡ d) where
+    (whole : AreWhole all listed slots entries) (is : entries2 ≡ put id p entries) (grows : Grows listed.terms listed2.terms) (known : AreKnown (length listed2.terms) p.terms) (same : unpacked listed2.terms p ≡ d) where
   pub documents-put : unpacked_all listed2.terms entries2 ≡ put_document id d (unpacked_all listed.terms entries)
   documents-put =
       ap (unpacked_all listed2.terms) is ∙ unpacked-put listed2.terms id p entries
@@ -166,7 +166,7 @@ module _ (all all2 : Runs) (listed listed2 : Listed) (slots slots2 : List SlotEn
 
 -- all without a document
 module _ (all all2 : Runs) (listed listed2 : Listed) (slots slots2 : List SlotEntry) (entries entries2 : List (ℕ × Packed)) (id : ℕ) (p : Packed)
-  (whole : AreWhole all listed slots entries) (is : entries2 ≡ without id entries) (same : listed2.terms ≡ listed.terms) where
+    (whole : AreWhole all listed slots entries) (is : entries2 ≡ without id entries) (same : listed2.terms ≡ listed.terms) where
   pub documents-without : unpacked_all listed2.terms entries2 ≡ without_id id (unpacked_all listed.terms entries)
   documents-without = (λ i. unpacked_all (same i) (is i)) ∙ unpacked-without listed.terms id entries
 

@@ -104,11 +104,7 @@ fn start(terms: &[PackedTerm], i: usize) -> usize
     ensures value { result ≡ start_at 0 terms.now i }
     ensures small { result < 2 ^ 32 }
 {
-    if i == 0 {
-        0
-    } else {
-        terms[i - 1].end as usize
-    }
+    if i == 0 { 0 } else { terms[i - 1].end as usize }
 }
 
 /// The number, where 32 bits hold it.

@@ -46,11 +46,7 @@ impl Places {
 }
 
 /// The positions of the term in a document with these terms, none where it has not the term. It searches by halves.
-pub(crate) fn positions_in<'a>(
-    packed: &'a PackedTerms,
-    lists: &TermLists,
-    term: &[u8],
-) -> &'a [u32]
+pub(crate) fn positions_in<'a>(packed: &'a PackedTerms, lists: &TermLists, term: &[u8]) -> &'a [u32]
     requires known { AreKnown (length lists.now.terms) packed.now }
     requires rising { AreTerms (named_all lists.now.terms packed.now) }
     ensures value { result.now ≡ positions_of term.now (named_all lists.now.terms packed.now) }

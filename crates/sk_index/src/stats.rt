@@ -25,16 +25,12 @@ impl Stats for Index {
     }
 
     fn wild_length(&self, prefix: &[u8]) -> u32 {
-        self.term_lists().sum(
-            prefix,
-            Figure::Length,
-            self.all().length(),
-        )
+        self.term_lists()
+            .sum(prefix, Figure::Length, self.all().length())
     }
 
     fn wild_greatest(&self, prefix: &[u8]) -> u32 {
-        self.term_lists()
-            .sum(prefix, Figure::Greatest, MOST_WDF)
+        self.term_lists().sum(prefix, Figure::Greatest, MOST_WDF)
     }
 
     fn slot_length(&self, slot: u32) -> u32 {

@@ -1,11 +1,10 @@
 -- The document that is found is in order, and its numbers have terms.
-use Rattle.std.proofs.Common.{List, ℕ, length, IfSome, option_map, sym, ap, subst, ◌∙◌}
+use Rattle.std.proofs.Common.{length, option_map, sym, ap, ◌∙◌}
 use Rattle.sk_base.specs.Documents.{AreTerms}
 use Rattle.sk_sorted.specs.Entries.{found}
-use Rattle.sk_model.specs.Edits.{document_at}
 use Rattle.sk_index.specs.declared.packed.Packed.{Packed}
 use Rattle.sk_index.specs.Packed.{AreKnown}
-use Rattle.sk_index.specs.Unpacked.{Kept, named_all, unpacked}
+use Rattle.sk_index.specs.Unpacked.{named_all, unpacked}
 use Rattle.sk_index.proofs.UnpackedLemmas.{mapped_twice, some_of, unpacked-found, found-known, found-ordered}
 use Rattle.sk_index.proofs.lists.Lists.packed.Goals as goal
 

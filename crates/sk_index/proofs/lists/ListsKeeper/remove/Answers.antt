@@ -1,5 +1,5 @@
 -- No list has the document.
-use Rattle.std.proofs.Common.{◌≡◌, List, ℕ, None, Some, is_some, option_map, sym, ap, subst, ◌∙◌}
+use Rattle.std.proofs.Common.{◌≡◌, None, Some, is_some, option_map, sym, ap, subst, ◌∙◌}
 use Rattle.sk_sorted.specs.Entries.{found}
 use Rattle.sk_model.specs.Edits.{document_at, without_id}
 use Rattle.sk_index.specs.Slotted.{ClearsAll}
@@ -32,8 +32,8 @@ pub invariant_of-self-2 : goal.invariant_of-self-2
 invariant_of-self-2 c =
     let old = c.self.inside in (
       AreWhole-without old.all c.remove-2.new.self old.terms c.take_out_all.new.self old.slots c.clear_all.new.self old.map.entries c.remove.new.self.entries c.args.id c.in-Some.packed c.self.invariant.0
-      c.remove.ensures.entries c.take_out_all.ensures.terms c.remove-2.ensures.after c.take_out_all.ensures.takes
-      (subst (λ w. ClearsAll c.args.id w old.slots c.clear_all.new.self) c.as_slice.ensures.value c.clear_all.ensures) (sym c.remove.ensures.value ∙ c.in-Some.is),
+          c.remove.ensures.entries c.take_out_all.ensures.terms c.remove-2.ensures.after c.take_out_all.ensures.takes
+          (subst (λ w. ClearsAll c.args.id w old.slots c.clear_all.new.self) c.as_slice.ensures.value c.clear_all.ensures) (sym c.remove.ensures.value ∙ c.in-Some.is),
       c.self.invariant.1,
     )
 

@@ -1,5 +1,5 @@
 -- The part that was read is that of the term.
-use Rattle.std.proofs.Common.{◌≡◌, length, slice_range, ap, sym, subst, refl, arith, rules}
+use Rattle.std.proofs.Common.{length, ap, sym, subst, refl, arith, rules}
 use Rattle.sk_base.specs.Order.{ArePositions}
 use Rattle.sk_index.proofs.PackedLemmas.{IsPart, there, part_inside, part_is, part_rises}
 use Rattle.sk_index.proofs.packed_terms.PackedTerms.positions.Goals as goal

@@ -1,8 +1,7 @@
 -- One term more.
 use Rattle.std.proofs.Common.{◌≡◌, ◌+◌, ◌++◌, ◌∷◌, [], length, ap, ◌∙◌, arith}
 use Rattle.sk_index.specs.declared.packed_terms.PackedTerm.{PackedTerm}
-use Rattle.sk_index.specs.Packed.{NumberedTerm}
-use Rattle.sk_index.proofs.PackedLemmas.{terms-push, packed-push, opened}
+use Rattle.sk_index.proofs.PackedLemmas.{terms-push, packed-push}
 use Rattle.sk_index.proofs.packed_terms.PackedTerms.push.Goals as goal
 
 pub invariant_of-self-2 : goal.invariant_of-self-2

@@ -1,5 +1,5 @@
 -- One term more.
-use Rattle.std.proofs.Common.{◌≡◌, ◌++◌, ◌∷◌, [], List, length, arith, ap, sym, ◌∙◌, subst}
+use Rattle.std.proofs.Common.{◌≡◌, ◌++◌, ◌∷◌, [], length, arith, ap, sym, ◌∙◌, subst}
 use Rattle.sk_index.specs.Listed.{Puts}
 use Rattle.sk_index.specs.Packed.{NumberedTerm, AreKnown}
 use Rattle.sk_index.proofs.ListedLemmas.{puts_on}

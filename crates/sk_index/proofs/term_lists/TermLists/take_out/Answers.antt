@@ -1,5 +1,4 @@
 -- The list at the number is changed.
-use Rattle.std.proofs.Common.{arith}
 use Rattle.sk_dict.specs.Terms.{term_at}
 use Rattle.sk_dict.proofs.NumberLaws.{number_of-term_at}
 use Rattle.sk_sorted.specs.Entries.{without}
