@@ -111,9 +111,10 @@ def main():
     program = sys.argv[2] if len(sys.argv) > 2 else OURS
     if not os.path.exists(program):
         sys.exit("lists.py: build crates/sk_tool first: (cd crates/sk_tool && rt run)")
+    # A child counts what this process holds when it is made, so memory comes before lists of lines are made.
+    memory(program, 2 * documents)
     for size in (documents // 5, documents):
         edits(program, size)
-    memory(program, 2 * documents)
     seeks(program, 10 * documents, 1_000)
 
 
