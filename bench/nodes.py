@@ -9,7 +9,7 @@ import tempfile
 
 HERE = os.path.dirname(os.path.realpath(__file__))
 OURS = os.path.join(HERE, "..", "crates", "sk_bench", "out", "sk_bench")
-DOCUMENTS, ROUNDS = 300_000, 60
+DOCUMENTS, ROUNDS = 100_000, 600
 FORMS = {"and": 0, "or": 1, "max": 2, "xor": 3, "not": 4, "maybe": 5, "term": 6}
 
 
