@@ -114,4 +114,12 @@ impl SlotValues {
     {
         self.items.as_slice()
     }
+
+    /// The values, given up. It takes no memory.
+    pub fn into_vec(self) -> Vec<SlotValue>
+        ensures value { result.items ≡ self }
+        ensures rising { AreValues self }
+    {
+        self.items
+    }
 }

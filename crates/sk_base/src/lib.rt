@@ -33,7 +33,7 @@ pub use record::{Edit, Entries, Entry, FieldValue, Record, Reply};
 pub use report::{Hits, Ranked, Report};
 pub use schema::{Field, FieldKind, Schema};
 pub use stats::Stats;
-pub use term::{number_bytes, prefixed};
+pub use term::{into_prefixed, number_bytes, prefixed};
 pub use text::{Term, Text, Texts};
 
 /// The number of a document, from 1.

@@ -1,5 +1,5 @@
 //! Terms and values that are made of what a document gives.
-ghost use Rattle.std.specs.Prelude.{◌≡◌, IfOk};
+ghost use Rattle.std.specs.Prelude.{◌≡◌, IfOk, string_bytes};
 ghost use Rattle.std.specs.Int.{to_be_bytes, w64};
 ghost use Rattle.sk_base.specs.Terms.{prefixed, needs_colon, begins_like_prefix};
 
@@ -18,6 +18,17 @@ pub fn prefixed(alloc: Global, prefix: &str, text: &str) -> Result<Term, AllocEr
         let string = format!(in alloc; "{prefix}{text}")?;
         Ok(Text::from_string(string))
     }
+}
+
+/// The same of a text that is given up: without a prefix the text is the term, and is not copied.
+pub fn into_prefixed(alloc: Global, prefix: &str, text: String) -> Result<String, AllocError>
+    ensures { IfOk result (λ term. string_bytes term ≡ prefixed prefix.now (string_bytes text)) }
+{
+    if prefix.is_empty() {
+        return Ok(text);
+    }
+    let term = prefixed(alloc, prefix, text.as_str())?;
+    Ok(term.into_string())
 }
 
 fn needs_colon(prefix: &[u8], text: &[u8]) -> bool

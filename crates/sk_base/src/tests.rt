@@ -16,6 +16,8 @@ fn with_ample_memory_all_is_kept(rt: HostRuntime) -> Result<(), Fail> {
         b"\x00\xff".as_slice()
     );
     assert_eq!(rt; prefixed(alloc, "XCAT", "Dog")?.as_str(), "XCAT:Dog");
+    let word = String::from_str(alloc, "Dog")?;
+    assert_eq!(rt; into_prefixed(alloc, "S", word)?.as_str(), "SDog");
     assert_eq!(rt; number_bytes(1990), [0, 0, 0, 0, 0, 0, 7, 0xc6]);
     Ok(())
 }

@@ -54,4 +54,11 @@ impl Text {
     {
         self.string.as_str()
     }
+
+    /// The string itself. It takes no memory.
+    pub fn into_string(self) -> String
+        ensures { string_bytes result ≡ self }
+    {
+        self.string
+    }
 }

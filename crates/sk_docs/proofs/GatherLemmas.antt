@@ -152,6 +152,11 @@ text_goes_on prefix step before start now new w rest all small far put =
           (omega (arith, far.room.few, among_length prefix step before (w ∷ []))));
     }
 
+-- a list of no length is empty
+pub none_left : {X : Type 0} (xs : List X) → length xs ≡ 0 → xs ≡ []
+none_left [] h = refl
+none_left (x ∷ xs) h = absurd (omega (arith, h))
+
 -- the item at a place stands before those that follow
 pub drop_here : {X : Type 0} (xs : List X) (i : ℕ) (d : X) → i < length xs → drop i xs ≡ get_or xs i d ∷ drop (i + 1) xs
 drop_here xs i d lt =

@@ -5,20 +5,21 @@ ghost use Rattle.sk_base.specs.Records.{FitsValues};
 ghost use Rattle.sk_model.specs.Documents.{document_of};
 
 use crate::{gathering, slots};
-use sk_base::{Doc, Record, Schema, Text};
+use sk_base::{Doc, Record, Schema};
 use std::alloc::{AllocError, Global};
 
 /// The document that the record makes under the schema.
-pub fn build(alloc: Global, schema: &Schema, given: &Record) -> Result<Doc, AllocError>
-    requires fits { FitsValues schema.now given.now.values }
-    ensures value { IfOk result (λ doc. doc ≡ document_of schema.now given.now) }
+pub fn build(alloc: Global, schema: &Schema, given: Record) -> Result<Doc, AllocError>
+    requires fits { FitsValues schema.now given.values }
+    ensures value { IfOk result (λ doc. doc ≡ document_of schema.now given) }
     ensures light { IfOk result (λ doc. (id : ℕ) → IsLight (id, doc)) }
 {
     let fields = schema.fields();
-    let values = given.values.as_slice();
+    let Record { values, payload } = given;
+    let values = values.as_slice();
     Ok(Doc {
         terms: gathering::terms(alloc, fields, values)?,
         values: slots::values(alloc, fields, values)?,
-        payload: Text::new(alloc, given.payload.as_str())?,
+        payload,
     })
 }

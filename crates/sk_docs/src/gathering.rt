@@ -22,7 +22,7 @@ ghost use Rattle.sk_docs.specs.Gathered.{CanGather, after, occurrences_among, by
 ghost use Rattle.sk_base.specs.Loads.{load_of};
 
 use crate::term_map::TermMap;
-use sk_base::{DocTerms, Entry, Field, FieldKind, FieldValue, Text, prefixed};
+use sk_base::{DocTerms, Entry, Field, FieldKind, FieldValue, Text, into_prefixed, prefixed};
 use sk_text::{Word, words};
 use std::alloc::{AllocError, Global};
 
@@ -128,7 +128,7 @@ fn note_text(
     ensures count { OnOk result (gathered.new.next ≤ gathered.old.next + length text.now) }
 {
     let found = words(alloc, text)?;
-    'words: for word in found.as_slice() {
+    'words: for word in found.into_vec() {
         note_word(alloc, gathered, prefix, step, before, word)?;
     }
     Ok(())
@@ -141,18 +141,18 @@ fn note_word(
     prefix: &str,
     step: u32,
     before: u32,
-    word: &Word,
+    word: Word,
 ) -> Result<(), AllocError>
     requires step { step ≤ 256 }
     requires room { CanGather gathered.old before 1 }
-    ensures { OnOk result (gathered.new ≡ after gathered.old (occurrences_among prefix.now step before (word.now ∷ []))) }
+    ensures { OnOk result (gathered.new ≡ after gathered.old (occurrences_among prefix.now step before (word ∷ []))) }
 {
-    let text = word.term.as_str();
+    let text = word.term.into_string();
     if text.len() > 64 {
         return Ok(());
     }
-    let term = prefixed(alloc, prefix, text)?;
-    gathered.note_word(alloc, term.as_str(), step, before)
+    let term = into_prefixed(alloc, prefix, text)?;
+    gathered.note_word(alloc, term, step, before)
 }
 
 /// Notes the texts of all filters, in the order of the schema.
@@ -221,5 +221,5 @@ fn note_filter_text(
         return Ok(());
     }
     let term = prefixed(alloc, prefix, text)?;
-    gathered.note_filter(alloc, term.as_str())
+    gathered.note_filter(alloc, term.into_string())
 }

@@ -1,5 +1,5 @@
 //! The terms of a document while its record is read.
-ghost use Rattle.std.specs.Prelude.{◌≡◌, ◌<◌, ◌≤◌, ◌+◌, ◌^◌, [], ◌∷◌, None, IfOk, OnOk};
+ghost use Rattle.std.specs.Prelude.{◌≡◌, ◌<◌, ◌≤◌, ◌+◌, ◌^◌, [], ◌∷◌, None, IfOk, OnOk, string_bytes};
 ghost use Rattle.std.specs.BTreeMap.{get_by_text};
 ghost use Rattle.sk_model.specs.Documents.{noted};
 ghost use Rattle.sk_docs.specs.Entries.{terms_in};
@@ -43,13 +43,13 @@ impl TermMap {
     pub fn note_word(
         &mut self,
         alloc: Global,
-        term: &str,
+        term: String,
         step: u32,
         before: u32,
     ) -> Result<(), AllocError>
         requires room { CanGather self.old before 1 }
         requires step { step ≤ 256 }
-        ensures { OnOk result (self.new ≡ after self.old (record { term = term.now; step = step; before = before } ∷ [])) }
+        ensures { OnOk result (self.new ≡ after self.old (record { term = string_bytes term; step = step; before = before } ∷ [])) }
     {
         put_word(alloc, &mut self.found, term, step, self.next + 100 * before)?;
         self.next += 1;
@@ -57,8 +57,8 @@ impl TermMap {
     }
 
     /// Notes a term that a filter gives.
-    pub fn note_filter(&mut self, alloc: Global, term: &str) -> Result<(), AllocError>
-        ensures { OnOk result (self.new ≡ record self.old { terms = noted self.old.terms (record { term = term.now; wdf = 0; positions = [] }) }) }
+    pub fn note_filter(&mut self, alloc: Global, term: String) -> Result<(), AllocError>
+        ensures { OnOk result (self.new ≡ record self.old { terms = noted self.old.terms (record { term = string_bytes term; wdf = 0; positions = [] }) }) }
     {
         put_filter(alloc, &mut self.found, term)
     }
@@ -83,16 +83,16 @@ impl TermMap {
 fn put_word(
     alloc: Global,
     found: &mut BTreeMap<String, Mentioned>,
-    term: &str,
+    term: String,
     step: u32,
     place: u32,
 ) -> Result<(), AllocError>
     requires loads { load_of (terms_in found.old.entries) + step < 2 ^ 32 }
     requires places { LieBelow place (terms_in found.old.entries) }
     ensures { OnOk result (terms_in found.new.entries
-        ≡ noted (terms_in found.old.entries) (record { term = term.now; wdf = step; positions = place ∷ [] })) }
+        ≡ noted (terms_in found.old.entries) (record { term = string_bytes term; wdf = step; positions = place ∷ [] })) }
 {
-    match found.get_mut(term) {
+    match found.get_mut(term.as_str()) {
         Some(known) => {
             known.positions.push(place)?;
             known.wdf += step;
@@ -101,7 +101,7 @@ fn put_word(
         None => {
             let mut positions = Positions::new(alloc);
             positions.push(place)?;
-            put_new(alloc, found, term, step, positions)
+            put_new(found, term, step, positions)
         }
     }
 }
@@ -110,29 +110,27 @@ fn put_word(
 fn put_filter(
     alloc: Global,
     found: &mut BTreeMap<String, Mentioned>,
-    term: &str,
+    term: String,
 ) -> Result<(), AllocError>
-    ensures { OnOk result (terms_in found.new.entries ≡ noted (terms_in found.old.entries) (record { term = term.now; wdf = 0; positions = [] })) }
+    ensures { OnOk result (terms_in found.new.entries ≡ noted (terms_in found.old.entries) (record { term = string_bytes term; wdf = 0; positions = [] })) }
 {
-    match found.get_mut(term) {
+    match found.get_mut(term.as_str()) {
         Some(_) => Ok(()),
-        None => put_new(alloc, found, term, 0, Positions::new(alloc)),
+        None => put_new(found, term, 0, Positions::new(alloc)),
     }
 }
 
 /// Puts a term that was not met before.
 fn put_new(
-    alloc: Global,
     found: &mut BTreeMap<String, Mentioned>,
-    term: &str,
+    term: String,
     wdf: u32,
     positions: Positions,
 ) -> Result<(), AllocError>
-    requires none { get_by_text found.old term.now ≡ None }
+    requires none { get_by_text found.old (string_bytes term) ≡ None }
     ensures { OnOk result (terms_in found.new.entries
-        ≡ noted (terms_in found.old.entries) (record { term = term.now; wdf = wdf; positions = positions })) }
+        ≡ noted (terms_in found.old.entries) (record { term = string_bytes term; wdf = wdf; positions = positions })) }
 {
-    let key = String::from_str(alloc, term)?;
-    found.insert(key, Mentioned { wdf, positions })?;
+    found.insert(term, Mentioned { wdf, positions })?;
     Ok(())
 }

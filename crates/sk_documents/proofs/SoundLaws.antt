@@ -1,15 +1,15 @@
 -- Laws of sound documents.
-use Rattle.std.proofs.Common.{ℕ, ◌+◌, ◌<◌, ◌≤◌, ◌^◌, max, [], ◌∷◌, length, All, AllPairs, arith}
+use Rattle.std.proofs.Common.{◌≡◌, None, ap, sym, ◌∙◌, append-nil, ℕ, ◌+◌, ◌<◌, ◌≤◌, ◌^◌, max, [], ◌∷◌, length, All, AllPairs, arith}
 use Rattle.std.specs.List.{AllByRecursion}
 use Rattle.std.proofs.lemmas.List.Elements.{All-from_recursion}
 use Rattle.std.proofs.lemmas.List.Kept.{AllPairs-cons}
 use Rattle.sk_sorted.specs.Entries.{RiseAbove, LieBelow, AreSorted}
-use Rattle.sk_sorted.proofs.EntryLaws.{RiseAbove-put, LieBelow-put, RiseAbove-without, LieBelow-without, LieBelow-higher, AllByRecursion-put, AllByRecursion-without, length_fits}
+use Rattle.sk_sorted.proofs.EntryLaws.{RiseAbove-put, LieBelow-put, RiseAbove-without, LieBelow-without, LieBelow-higher, AllByRecursion-put, AllByRecursion-without, length_fits, found-append}
 use Rattle.sk_base.specs.Documents.{AreTerms}
 use Rattle.sk_base.specs.Loads.{IsLight}
 use Rattle.sk_base.specs.Numbers.{Docs}
 use Rattle.sk_model.specs.Documents.{Document}
-use Rattle.sk_model.specs.Edits.{Live, IsLive, last_id, put_document, without_id}
+use Rattle.sk_model.specs.Edits.{Live, IsLive, last_id, document_at, put_document, without_id}
 use Rattle.sk_documents.specs.Documented.{HasTerms, AreSound}
 
 -- with a document more
@@ -73,3 +73,8 @@ sound-IsLive live sound = record {
 -- and light
 pub sound-light : (live : Live) → AreSound live → All IsLight live.documents
 sound-light live sound = All-from_recursion IsLight live.documents sound.light
+
+-- no document has the next id
+pub next-free : (live : Live) → AreSound live → document_at (live.highest + 1) live.documents ≡ None
+next-free live sound =
+    ap (document_at (live.highest + 1)) (sym (append-nil live.documents)) ∙ found-append (live.highest + 1) live.documents [] sound.used

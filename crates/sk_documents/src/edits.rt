@@ -20,29 +20,29 @@ impl<K: Keeper> Documents<K> {
         ensures schema { IfOk result (λ p. p.0.fields ≡ self.fields) }
     {
         match edit {
-            Edit::Add(given) => self.add(&given),
-            Edit::Replace(id, given) => self.replace(id, &given),
-            Edit::ReplaceBy(term, given) => self.replace_by(term.as_str().as_bytes(), &given),
+            Edit::Add(given) => self.add(given),
+            Edit::Replace(id, given) => self.replace(id, given),
+            Edit::ReplaceBy(term, given) => self.replace_by(term.as_str().as_bytes(), given),
             Edit::Delete(id) => Ok(self.delete(id)),
             Edit::DeleteBy(term) => self.delete_by(term.as_str().as_bytes()),
         }
     }
 
-    fn add(self, given: &Record) -> Result<(Documents<K>, Reply), AllocError>
-        requires fits { FitsValues self.fields given.now.values }
-        ensures live { IfOk result (λ p. p.0.live ≡ edited self.fields self.live (Edit.Add given.now)) }
-        ensures reply { IfOk result (λ p. p.1 ≡ reply_to self.live (Edit.Add given.now)) }
+    fn add(self, given: Record) -> Result<(Documents<K>, Reply), AllocError>
+        requires fits { FitsValues self.fields given.values }
+        ensures live { IfOk result (λ p. p.0.live ≡ edited self.fields self.live (Edit.Add given)) }
+        ensures reply { IfOk result (λ p. p.1 ≡ reply_to self.live (Edit.Add given)) }
         ensures schema { IfOk result (λ p. p.0.fields ≡ self.fields) }
     {
         let doc = sk_docs::build(self.alloc, &self.schema, given)?;
         self.put_next(doc)
     }
 
-    fn replace(self, id: DocId, given: &Record) -> Result<(Documents<K>, Reply), AllocError>
+    fn replace(self, id: DocId, given: Record) -> Result<(Documents<K>, Reply), AllocError>
         requires id { 1 ≤ id }
-        requires fits { FitsValues self.fields given.now.values }
-        ensures live { IfOk result (λ p. p.0.live ≡ edited self.fields self.live (Edit.Replace id given.now)) }
-        ensures reply { IfOk result (λ p. p.1 ≡ reply_to self.live (Edit.Replace id given.now)) }
+        requires fits { FitsValues self.fields given.values }
+        ensures live { IfOk result (λ p. p.0.live ≡ edited self.fields self.live (Edit.Replace id given)) }
+        ensures reply { IfOk result (λ p. p.1 ≡ reply_to self.live (Edit.Replace id given)) }
         ensures schema { IfOk result (λ p. p.0.fields ≡ self.fields) }
     {
         let doc = sk_docs::build(self.alloc, &self.schema, given)?;
@@ -50,10 +50,10 @@ impl<K: Keeper> Documents<K> {
         Ok((documents, Reply::Id(id)))
     }
 
-    fn replace_by(self, term: &[u8], given: &Record) -> Result<(Documents<K>, Reply), AllocError>
-        requires fits { FitsValues self.fields given.now.values }
-        ensures live { IfOk result (λ p. p.0.live ≡ edited self.fields self.live (Edit.ReplaceBy term.now given.now)) }
-        ensures reply { IfOk result (λ p. p.1 ≡ reply_to self.live (Edit.ReplaceBy term.now given.now)) }
+    fn replace_by(self, term: &[u8], given: Record) -> Result<(Documents<K>, Reply), AllocError>
+        requires fits { FitsValues self.fields given.values }
+        ensures live { IfOk result (λ p. p.0.live ≡ edited self.fields self.live (Edit.ReplaceBy term.now given)) }
+        ensures reply { IfOk result (λ p. p.1 ≡ reply_to self.live (Edit.ReplaceBy term.now given)) }
         ensures schema { IfOk result (λ p. p.0.fields ≡ self.fields) }
     {
         let doc = sk_docs::build(self.alloc, &self.schema, given)?;
@@ -94,7 +94,7 @@ impl<K: Keeper> Documents<K> {
             return Ok((self, Reply::NoIdLeft));
         }
         let id = self.highest + 1;
-        let documents = self.put(id, doc)?;
+        let documents = self.insert(id, doc)?;
         Ok((documents, Reply::Id(id)))
     }
 

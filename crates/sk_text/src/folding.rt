@@ -1,6 +1,6 @@
 //! Words with their differences of case and of spelling in Unicode taken away.
 
-ghost use Rattle.std.specs.Prelude.{◌≡◌, ◌==◌, chars, IsAscii, IfOk};
+ghost use Rattle.std.specs.Prelude.{◌≡◌, ◌==◌, chars, IsAscii, IfOk, string_bytes};
 ghost use Rattle.std.specs.List.{list_all};
 ghost use Rattle.sk_text.specs.Characters.{written, written_bytes};
 ghost use Rattle.sk_text.specs.Terms.{term_of};
@@ -31,6 +31,13 @@ impl Folded {
         ensures { result.now ≡ self.now }
     {
         self.text.as_str()
+    }
+
+    /// The text itself. It takes no memory.
+    pub fn into_string(self) -> String
+        ensures { string_bytes result ≡ self }
+    {
+        self.text
     }
 }
 

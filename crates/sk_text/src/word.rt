@@ -59,4 +59,11 @@ impl Words {
     {
         self.items.as_slice()
     }
+
+    /// The words, given up. It takes no memory.
+    pub fn into_vec(self) -> Vec<Word>
+        ensures { result.items ≡ self }
+    {
+        self.items
+    }
 }
