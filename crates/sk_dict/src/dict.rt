@@ -5,6 +5,7 @@ ghost use Rattle.sk_dict.specs.Terms.{term_at, number_of, number_for, with_term,
 ghost use Rattle.sk_dict.specs.Searches.{start_of, IsFirst, AllPassed};
 
 use crate::block::Block;
+use crate::guesses::Guesses;
 use crate::order::{find_place, number_at, numbers_with, put};
 use crate::terms::Terms;
 use std::alloc::{AllocError, Global};
@@ -16,7 +17,9 @@ use std::marker::Model;
 #[derive(Drop)]
 pub struct Dict {
     terms: Terms,
+    /// The numbers in the order of their terms.
     blocks: Vec<Block>,
+    guesses: Guesses,
 }
 
 impl Model for Dict {
@@ -39,6 +42,7 @@ impl Dict {
         Dict {
             terms: Terms::new(alloc),
             blocks: Vec::new(alloc),
+            guesses: Guesses::new(alloc),
         }
     }
 
@@ -63,11 +67,9 @@ impl Dict {
         ensures value { result ≡ number_of term.now self.now }
         ensures there { IfSome result (λ n. n < length self.now) }
     {
-        let number = self.first(term, false)?;
-        if self.terms.get(number) == term {
-            Some(number)
-        } else {
-            None
+        match self.guessed(term) {
+            Some(number) => Some(number),
+            None => self.searched(term),
         }
     }
 
@@ -79,9 +81,41 @@ impl Dict {
         ensures there { IfOk result (λ n. n < length self.new) }
         ensures err { OnErr result (self.new ≡ self.old) }
     {
-        match self.find(term) {
-            Some(number) => Ok(number),
+        if let Some(number) = self.guessed(term) {
+            return Ok(number);
+        }
+        match self.searched(term) {
+            Some(number) => {
+                self.guesses.note(term, number);
+                Ok(number)
+            }
             None => self.add_new(term),
+        }
+    }
+
+    // The number of the term, where it is the one that is guessed.
+    fn guessed(&self, term: &[u8]) -> Option<usize>
+        ensures value { IfSome result (λ n. number_of term.now self.now ≡ Some n) }
+        ensures there { IfSome result (λ n. n < length self.now) }
+    {
+        let number = self.guesses.number(term)?;
+        if number < self.terms.len() && self.terms.get(number) == term {
+            Some(number)
+        } else {
+            None
+        }
+    }
+
+    // The number of the term, by its place in the order of all.
+    fn searched(&self, term: &[u8]) -> Option<usize>
+        ensures value { result ≡ number_of term.now self.now }
+        ensures there { IfSome result (λ n. n < length self.now) }
+    {
+        let number = self.first(term, false)?;
+        if self.terms.get(number) == term {
+            Some(number)
+        } else {
+            None
         }
     }
 
@@ -152,7 +186,11 @@ impl Dict {
             term,
             number,
         ) {
-            Ok(()) => Ok(number),
+            Ok(()) => {
+                self.guesses.make_places(self.terms.len());
+                self.guesses.note(term, number);
+                Ok(number)
+            }
             Err(fault) => {
                 self.terms.truncate(number);
                 Err(fault)

@@ -3,6 +3,7 @@
 
 mod block;
 mod dict;
+mod guesses;
 mod order;
 mod room;
 mod terms;

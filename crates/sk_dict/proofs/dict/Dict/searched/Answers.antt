@@ -4,7 +4,7 @@ use Rattle.std.proofs.lemmas.Slice.Eq.{bytes_eq-Decides}
 use Rattle.sk_dict.specs.Terms.{term_at}
 use Rattle.sk_dict.proofs.FindLemmas.{number_of-passed, number_of-other, read_term}
 use Rattle.sk_dict.proofs.NumberLaws.{number_of-there}
-use Rattle.sk_dict.proofs.dict.Dict.find.Goals as goal
+use Rattle.sk_dict.proofs.dict.Dict.searched.Goals as goal
 
 -- all terms stand before it
 pub returns-in_err-number-clause-value : goal.returns-in_err-number-clause-value
