@@ -1,6 +1,8 @@
 mod ListedLemmas
 mod PackedLemmas
+mod FrozenLemmas
 mod SlottedLemmas
+mod ValueLemmas
 mod StandsLemmas
 mod UnpackedLemmas
 pub mod NumberLemmas

@@ -173,6 +173,9 @@ puts_on id i terms x start mid next rising lt is before one new all =
     let cut : drop i terms ≡ x ∷ drop (i + 1) terms = drop_more terms i x lt ∙ ap (λ (y : DocTerm). y ∷ drop (i + 1) terms) (sym is) in
     before new (subst (λ w. PutsAll id w mid new) (sym cut) (PutsAll-more id x (drop (i + 1) terms) mid next new (subst AreTerms cut (AreTerms-drop i terms rising)) one all))
 
+pub puts_end : (id i : ℕ) (terms : List DocTerm) (start last : Listed) → length terms ≤ i → ((new : Listed) → PutsAll id (drop i terms) last new → PutsAll id terms start new) → PutsAll id terms start last
+puts_end id i terms start last end rest = rest last (subst (λ (w : List DocTerm). PutsAll id w last last) (sym (drop_all i terms end)) (λ t. refl))
+
 pub takes_on : (id i : ℕ) (terms : List DocTerm) (x : DocTerm) (start mid next : Listed) → AreTerms terms → i < length terms → x ≡ get_or terms i x
     → ((new : Listed) → TakesOutAll id (drop i terms) mid new → TakesOutAll id terms start new)
     → TakesOut id x.term mid next

@@ -4,8 +4,8 @@ use mathlib.Core.Bool.{true≢false}
 use Rattle.std.specs.List.{filter_map, cons_option}
 use Rattle.std.specs.Option.{unwrap_or}
 use Rattle.std.proofs.lemmas.Bool.{cases_eq}
-use Rattle.sk_sorted.specs.Entries.{RiseAbove, put, without}
-use Rattle.sk_sorted.proofs.EntryLaws.{found-here, found-other, found-below}
+use Rattle.sk_sorted.specs.Entries.{RiseAbove, put, without, found}
+use Rattle.sk_sorted.proofs.EntryLaws.{found-here, found-other, found-below, without-here, without-other, without-absent}
 use Rattle.sk_sorted.proofs.PickedLaws.{with_picked, without_picked, picked-put, picked-without}
 use Rattle.sk_base.specs.declared.doc_entry.SlotValue.{SlotValue}
 use Rattle.sk_base.specs.Documents.{has_term, wdf_of, has_value, value_in}
@@ -19,8 +19,8 @@ use Rattle.sk_model.specs.Edits.{document_at, put_document, without_id}
 use Rattle.sk_index.specs.declared.slot_lists.SlotEntry.{SlotEntry}
 use Rattle.sk_index.specs.Indexed.{posting_in, postings, all_postings, valued_in, slot_values, slot_value}
 use Rattle.sk_index.specs.Listed.{Listed, PutsAll, TakesOutAll}
-use Rattle.sk_index.specs.Slotted.{SetsAll, ClearsAll}
-use Rattle.sk_index.specs.Stands.{Stands}
+use Rattle.sk_index.specs.Slotted.{SetsAll, ClearsAll, IsNowhere}
+use Rattle.sk_index.specs.Stands.{AreSlotsOf, Stands}
 
 -- an entry has the id of its document
 posting_named : (t : List ℕ) (one : ℕ × Document) (p : ℕ × ℕ) → posting_in t one ≡ Some p → p.0 ≡ one.0
@@ -58,9 +58,39 @@ pub slot_values-put : (slot id : ℕ) (d : Document) (docs : Docs) → RiseAbove
     → slot_values slot (put_document id d docs) ≡ (if has_value slot d.values then put id (value_in slot d.values) (slot_values slot docs) else slot_values slot docs)
 slot_values-put slot id d docs up none = picked-put (valued_in slot) (valued_named slot) 0 id d docs up none ∙ chosen (has_value slot d.values) id (value_in slot d.values) (slot_values slot docs)
 
-pub slot_values-without : (slot id : ℕ) (d : Document) (docs : Docs) → document_at id docs ≡ Some d
-    → slot_values slot (without_id id docs) ≡ (if has_value slot d.values then without id (slot_values slot docs) else slot_values slot docs)
-slot_values-without slot id d docs some = picked-without (valued_in slot) (valued_named slot) id d docs some ∙ unchosen (has_value slot d.values) (id, value_in slot d.values) id (slot_values slot docs)
+-- a document that is not there is in no list
+some_none : {d : Document} → Some d ≡ None → ⊥
+some_none e = cc
+
+slot_values-absent : (slot id : ℕ) (docs : Docs) → document_at id docs ≡ None → found id (slot_values slot docs) ≡ None
+slot_values-absent slot id [] none = refl
+slot_values-absent slot id (one ∷ more) none = elim (cases_eq one.0 id) [
+  | inl same ↦ absurd (some_none (sym (found-here id one more same) ∙ none))
+  | inr apart ↦ by apart (has_value slot one.1.values) ∙ slot_values-absent slot id more (sym (found-other id one more apart) ∙ none)
+]
+  where
+    by : one.0 ≢ id → (b : Bool) → found id (cons_option (if b then Some (one.0, value_in slot one.1.values) else None) (slot_values slot more)) ≡ found id (slot_values slot more)
+    by apart true = found-other id (one.0, value_in slot one.1.values) (slot_values slot more) apart
+    by apart false = refl
+
+pub nowhere_from : (id : ℕ) (docs : Docs) (slots : List SlotEntry) → AreSlotsOf docs slots → document_at id docs ≡ None → IsNowhere id slots
+nowhere_from id docs slots values none slot = ap (found id) (values slot) ∙ slot_values-absent slot id docs none
+
+pub slot_values-without : (low slot id : ℕ) (docs : Docs) → RiseAbove low docs → slot_values slot (without_id id docs) ≡ without id (slot_values slot docs)
+slot_values-without low slot id [] up = refl
+slot_values-without low slot id (one ∷ more) up = elim (cases_eq one.0 id) [
+  | inl same ↦ ap (slot_values slot) (without-here id one more same) ∙ here same (has_value slot one.1.values)
+  | inr apart ↦ ap (slot_values slot) (without-other id one more apart) ∙ ap (cons_option (valued_in slot one)) (slot_values-without one.0 slot id more up.1) ∙ behind apart (has_value slot one.1.values)
+]
+  where
+    here : one.0 ≡ id → (b : Bool) → slot_values slot more ≡ without id (cons_option (if b then Some (one.0, value_in slot one.1.values) else None) (slot_values slot more))
+    here same true = sym (without-here id (one.0, value_in slot one.1.values) (slot_values slot more) same)
+    here same false = sym (without-absent id (slot_values slot more) (slot_values-absent slot id more (found-below one.0 id more (omega (arith, same)) up.1)))
+
+    behind : one.0 ≢ id → (b : Bool) → cons_option (if b then Some (one.0, value_in slot one.1.values) else None) (without id (slot_values slot more))
+        ≡ without id (cons_option (if b then Some (one.0, value_in slot one.1.values) else None) (slot_values slot more))
+    behind apart true = sym (without-other id (one.0, value_in slot one.1.values) (slot_values slot more) apart)
+    behind apart false = refl
 
 -- each document in the list of all
 abbrev always : ℕ × Document → Option (ℕ × ℕ)
@@ -91,12 +121,12 @@ Stands-put docs all all2 listed listed2 slots slots2 id d a l v up none old = re
 
 -- all lists without a document
 pub Stands-without : (docs : Docs) (all all2 : Runs) (listed listed2 : Listed) (slots slots2 : List SlotEntry) (id : ℕ) (d : Document)
-    → flat all2 ≡ without id (flat all) → TakesOutAll id d.terms listed listed2 → ClearsAll id d.values slots slots2
-    → document_at id docs ≡ Some d → Stands all listed slots docs → Stands all2 listed2 slots2 (without_id id docs)
-Stands-without docs all all2 listed listed2 slots slots2 id d a l v some old = record {
+    → flat all2 ≡ without id (flat all) → TakesOutAll id d.terms listed listed2 → ClearsAll id slots slots2
+    → RiseAbove 0 docs → document_at id docs ≡ Some d → Stands all listed slots docs → Stands all2 listed2 slots2 (without_id id docs)
+Stands-without docs all all2 listed listed2 slots slots2 id d a l v up some old = record {
   all_is = a ∙ ap (without id) old.all_is ∙ sym (all_postings-without id d docs some);
   lists = λ t. l t ∙ ap (λ (ps : Postings). if has_term t d.terms then without id ps else ps) (old.lists t) ∙ sym (postings-without t id d docs some);
-  values = λ slot. v slot ∙ ap (λ (vs : SlotValues). if has_value slot d.values then without id vs else vs) (old.values slot) ∙ sym (slot_values-without slot id d docs some);
+  values = λ slot. v slot ∙ ap (without id) (old.values slot) ∙ sym (slot_values-without 0 slot id docs up);
 }
 
 -- a slot that no value has is empty

@@ -1,4 +1,4 @@
--- The documents that packed ones are under a dictionary.
+-- The documents that packed ones are under a dictionary and the lists of the slots.
 use Rattle.std.specs.Prelude.{◌≡◌, ◌<◌, ◌≤◌, ℕ, List, length, map}
 use Rattle.std.specs.List.{AllByRecursion}
 use Rattle.sk_sorted.specs.Entries.{RiseAbove}
@@ -12,6 +12,7 @@ use Rattle.sk_index.specs.declared.packed.Packed.{Packed}
 use Rattle.sk_index.specs.declared.slot_lists.SlotEntry.{SlotEntry}
 use Rattle.sk_index.specs.Packed.{NumberedTerm, AreKnown}
 use Rattle.sk_index.specs.Listed.{Listed}
+use Rattle.sk_index.specs.Slotted.{values_at}
 use Rattle.sk_index.specs.Stands.{Stands}
 
 -- A term with the text that the dictionary has for its number.
@@ -22,13 +23,13 @@ named dict one = record { term = term_at dict one.number; wdf = one.wdf; positio
 abbrev pub named_all : List (List ℕ) → List NumberedTerm → List DocTerm
 named_all dict terms = map (named dict) terms
 
--- The document that a packed one is.
-abbrev pub unpacked : List (List ℕ) → Packed → Document
-unpacked dict one = record { terms = named_all dict one.terms; values = one.values; payload = one.payload }
+-- The document that a packed one is under its id: its values stand in the lists of the slots.
+abbrev pub unpacked : List (List ℕ) → List SlotEntry → ℕ → Packed → Document
+unpacked dict slots id one = record { terms = named_all dict one.terms; values = values_at id slots; payload = one.payload }
 
 -- The same of several, with their ids.
-abbrev pub unpacked_all : List (List ℕ) → List (ℕ × Packed) → Docs
-unpacked_all dict entries = map (λ e. (e.0, unpacked dict e.1)) entries
+abbrev pub unpacked_all : List (List ℕ) → List SlotEntry → List (ℕ × Packed) → Docs
+unpacked_all dict slots entries = map (λ e. (e.0, unpacked dict slots e.0 e.1)) entries
 
 -- The numbers of a packed document, with its id, have terms.
 abbrev pub HasKnown : List (List ℕ) → ℕ × Packed → Type 0
@@ -46,9 +47,9 @@ pub record Kept : Type 0 where
   pub listed : Listed
   pub slots : List SlotEntry
 
--- The packed documents are in order under the dictionary, and each list is what they give.
+-- The packed documents are in order under the dictionary, and each list is what they give with the values in the slots.
 pub record AreWhole (all : Runs) (listed : Listed) (slots : List SlotEntry) (entries : List (ℕ × Packed)) : Type 0 where
   pub known : AllByRecursion (HasKnown listed.terms) entries
-  pub rise : RiseAbove 0 (unpacked_all listed.terms entries)
-  pub ordered : AllByRecursion HasTerms (unpacked_all listed.terms entries)
-  pub stand : Stands all listed slots (unpacked_all listed.terms entries)
+  pub rise : RiseAbove 0 (unpacked_all listed.terms slots entries)
+  pub ordered : AllByRecursion HasTerms (unpacked_all listed.terms slots entries)
+  pub stand : Stands all listed slots (unpacked_all listed.terms slots entries)

@@ -16,15 +16,16 @@ use crate::term_lists::TermLists;
 use sk_base::{Doc, DocId};
 use sk_documents::Keeper;
 use sk_lists::List;
+use sk_pieces::Pieces;
 use std::alloc::{AllocError, Global};
-use std::collections::BTreeMap;
 use std::marker::Model;
 
 /// The documents, the list of all of them, a list for each term, and one for each slot. A document stands as numbers of
-/// the terms: the texts of these stand once, with the lists. Contracts see the documents and the lists.
+/// the terms and its payload: the texts of the terms stand once, with the lists, and its values in the lists of the slots
+/// alone. Contracts see the documents and the lists.
 #[derive(Drop)]
 pub(crate) struct Lists {
-    map: BTreeMap<DocId, Packed>,
+    map: Pieces<Packed>,
     /// The terms of a document that is not there.
     none: PackedTerms,
     all: List,
@@ -34,13 +35,14 @@ pub(crate) struct Lists {
 
 impl Model for Lists {
     ghost use Rattle.std.specs.Prelude.{◌≡◌, []};
+    ghost use Rattle.sk_runs.specs.Runs.{flat};
     ghost use Rattle.sk_index.specs.Unpacked.{Kept, AreWhole, unpacked_all};
 
     ghost Value = { Kept };
 
-    ghost view = { λ l. record { documents = unpacked_all l.terms.terms l.map.entries; all = l.all; listed = l.terms; slots = l.slots } };
+    ghost view = { λ l. record { documents = unpacked_all l.terms.terms l.slots (flat l.map); all = l.all; listed = l.terms; slots = l.slots } };
 
-    ghost invariant = { λ l. AreWhole l.all l.terms l.slots l.map.entries × (l.none ≡ []) };
+    ghost invariant = { λ l. AreWhole l.all l.terms l.slots (flat l.map) × (l.none ≡ []) };
 }
 
 impl Lists {
@@ -49,7 +51,7 @@ impl Lists {
         ensures { IfOk result (λ lists. lists ≡ record { documents = []; all = []; listed = record { terms = []; lists = [] }; slots = [] }) }
     {
         Ok(Lists {
-            map: BTreeMap::new(alloc),
+            map: Pieces::new(alloc),
             none: PackedTerms::new(alloc),
             all: List::new(alloc),
             terms: TermLists::new(alloc),
@@ -102,11 +104,11 @@ impl Lists {
     }
 
     fn packed(&self, id: DocId) -> Option<&Packed>
-        ensures value { option_map (λ p. unpacked self.now.listed.terms p.now) result ≡ document_at id self.now.documents }
+        ensures value { option_map (λ p. unpacked self.now.listed.terms self.now.slots id p.now) result ≡ document_at id self.now.documents }
         ensures rising { IfSome result (λ p. AreTerms (named_all self.now.listed.terms p.now.terms)) }
         ensures known { IfSome result (λ p. AreKnown (length self.now.listed.terms) p.now.terms) }
     {
-        self.map.get(&id)
+        self.map.get(id)
     }
 }
 
@@ -114,7 +116,7 @@ impl Keeper for Lists {
     ghost documents = { λ l. l.documents };
 
     fn count(&self) -> usize {
-        self.map.len()
+        self.map.length() as usize
     }
 
     fn put(self, id: DocId, doc: Doc) -> Result<Lists, AllocError> {
@@ -133,11 +135,10 @@ impl Keeper for Lists {
         all.insert(id, 0)?;
         let packed = terms.put_all(id, texts.as_slice())?;
         slots.set_all(id, values.as_slice())?;
-        map.insert(
+        map.put(
             id,
             Packed {
                 terms: packed,
-                values,
                 payload,
             },
         )?;
@@ -151,12 +152,12 @@ impl Keeper for Lists {
     }
 
     fn remove(&mut self, id: DocId) -> bool {
-        let Some(packed) = self.map.remove(&id) else {
+        let Some(packed) = self.map.take(id) else {
             return false;
         };
         self.all.remove(id);
         self.terms.take_out_all(id, &packed.terms);
-        self.slots.clear_all(id, packed.values.as_slice());
+        self.slots.clear_all(id);
         true
     }
 

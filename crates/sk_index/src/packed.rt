@@ -1,11 +1,10 @@
-//! A document without the texts of its terms.
+//! A document without the texts of its terms and without its values.
 use crate::packed_terms::PackedTerms;
-use sk_base::{SlotValues, Text};
+use sk_base::Text;
 
-/// A document as the index keeps it: its terms are numbers of the dictionary.
+/// A document as the index keeps it: its terms are numbers of the dictionary, and its values stand in the slots' lists.
 #[derive(Drop)]
 pub(crate) struct Packed {
     pub terms: PackedTerms,
-    pub values: SlotValues,
     pub payload: Text,
 }

@@ -1,13 +1,13 @@
 //! The terms of a document as numbers.
-ghost use Rattle.std.specs.Prelude.{◌≡◌, ◌<◌, ◌≤◌, ◌+◌, ◌^◌, [], ◌∷◌, ◌++◌, length, IfOk, OnOk, OnErr};
+ghost use Rattle.std.specs.Prelude.{◌≡◌, ◌<◌, ◌≤◌, ◌+◌, ◌*◌, ◌^◌, [], ◌∷◌, ◌++◌, length, drop, slice_index, IfOk, OnOk, OnErr};
 ghost use Rattle.sk_base.specs.Order.{ArePositions};
-ghost use Rattle.sk_index.specs.Packed.{numbered_at, start_at};
+ghost use Rattle.sk_index.specs.Packed.{numbered_at, words_of, heads_of, wdfs_of, are_plain, count_in, begin_in, behind};
 
 use std::alloc::{AllocError, Global};
 use std::marker::Model;
 
-/// A term of a document: its number in the dictionary, its wdf, and where its positions end. They begin where those of the
-/// term before end.
+/// A term of a document: its number in the dictionary, its wdf, and where its positions end. They begin where those of
+/// the term before end.
 #[derive(Clone, Copy)]
 pub(crate) struct PackedTerm {
     number: u32,
@@ -15,14 +15,15 @@ pub(crate) struct PackedTerm {
     end: u32,
 }
 
-/// The terms of a document, with their positions in one vector. Contracts see them as a list, each with its own positions.
+/// The terms of a document while they are gathered, with their positions in one vector. Contracts see them as a list,
+/// each with its own positions.
 #[derive(Drop)]
-pub(crate) struct PackedTerms {
+pub(crate) struct Packing {
     terms: Vec<PackedTerm>,
     positions: Vec<u32>,
 }
 
-impl Model for PackedTerms {
+impl Model for Packing {
     ghost use Rattle.std.specs.Prelude.{List};
     ghost use Rattle.sk_index.specs.Packed.{NumberedTerm, cut, IsPacked};
 
@@ -33,35 +34,19 @@ impl Model for PackedTerms {
     ghost invariant = { λ p. IsPacked p.terms.items p.positions.items };
 }
 
-impl PackedTerms {
-    /// No term. It takes no memory.
-    pub fn new(alloc: Global) -> PackedTerms
-        ensures { result ≡ [] }
-    {
-        PackedTerms {
-            terms: Vec::new(alloc),
-            positions: Vec::new(alloc),
-        }
-    }
-
+impl Packing {
     /// No term, and room for so many terms and positions, and no more.
     pub fn with_capacity(
         alloc: Global,
         terms: usize,
         positions: usize,
-    ) -> Result<PackedTerms, AllocError>
-        ensures { IfOk result (λ packed. packed ≡ []) }
+    ) -> Result<Packing, AllocError>
+        ensures { IfOk result (λ packing. packing ≡ []) }
     {
-        Ok(PackedTerms {
+        Ok(Packing {
             terms: Vec::with_capacity(alloc, terms)?,
             positions: Vec::with_capacity(alloc, positions)?,
         })
-    }
-
-    pub fn len(&self) -> usize
-        ensures { result ≡ length self.now }
-    {
-        self.terms.len()
     }
 
     /// Puts a term last. A number or a count of positions past 32 bits is want of memory.
@@ -78,12 +63,55 @@ impl PackedTerms {
         Ok(())
     }
 
+    /// The terms, to be kept: in one vector that has no more room than they take.
+    pub fn packed(&self, alloc: Global) -> Result<PackedTerms, AllocError>
+        ensures { IfOk result (λ packed. packed ≡ self.now) }
+    {
+        let words = words_of(alloc, self.terms.as_slice(), self.positions.as_slice())?;
+        Ok(PackedTerms { words })
+    }
+}
+
+/// The terms of a document in one vector of numbers: how many they are; for each its number in the dictionary and where
+/// its positions end; the positions; and the wdf of each, if one of them is not the number of its positions.
+#[derive(Drop)]
+pub(crate) struct PackedTerms {
+    words: Vec<u32>,
+}
+
+impl Model for PackedTerms {
+    ghost use Rattle.std.specs.Prelude.{List};
+    ghost use Rattle.sk_index.specs.Packed.{NumberedTerm, frozen, IsFrozen};
+
+    ghost Value = { List NumberedTerm };
+
+    ghost view = { λ p. frozen p.words.items };
+
+    ghost invariant = { λ p. IsFrozen p.words.items };
+}
+
+impl PackedTerms {
+    /// No term. It takes no memory.
+    pub fn new(alloc: Global) -> PackedTerms
+        ensures { result ≡ [] }
+    {
+        PackedTerms {
+            words: Vec::new(alloc),
+        }
+    }
+
+    pub fn len(&self) -> usize
+        ensures { result ≡ length self.now }
+    {
+        count(self.words.as_slice())
+    }
+
     /// The number of the i-th term.
     pub fn number(&self, i: usize) -> usize
         requires there { i < length self.now }
         ensures { result ≡ (numbered_at self.now i).number }
     {
-        self.terms[i].number as usize
+        number(self.words.as_slice(), i)
     }
 
     /// The positions of the i-th term.
@@ -92,19 +120,118 @@ impl PackedTerms {
         ensures value { result.now ≡ (numbered_at self.now i).positions }
         ensures rising { ArePositions result.now }
     {
-        let from = start(&self.terms, i);
-        let to = self.terms[i].end as usize;
-        &self.positions[from..to]
+        let words = self.words.as_slice();
+        let from = start(words, i);
+        let to = end(words, i);
+        let seen = behind(words);
+        &seen[from..to]
     }
 }
 
+// How many terms the words have.
+fn count(words: &[u32]) -> usize
+    ensures { result ≡ count_in words.now }
+{
+    if words.is_empty() {
+        0
+    } else {
+        words[0] as usize
+    }
+}
+
+// The number of the i-th term.
+fn number(words: &[u32], i: usize) -> usize
+    requires { 2 * i + 2 < length words.now }
+    ensures { result ≡ slice_index words.now (2 * i + 1) }
+{
+    words[2 * i + 1] as usize
+}
+
 // Where the positions of the i-th term begin.
-fn start(terms: &[PackedTerm], i: usize) -> usize
-    requires { i ≤ length terms.now }
-    ensures value { result ≡ start_at 0 terms.now i }
+fn start(words: &[u32], i: usize) -> usize
+    requires { 2 * i < length words.now }
+    ensures value { result ≡ begin_in 0 (drop 1 words.now) i }
     ensures small { result < 2 ^ 32 }
 {
-    if i == 0 { 0 } else { terms[i - 1].end as usize }
+    if i == 0 { 0 } else { words[2 * i] as usize }
+}
+
+// Where they end.
+fn end(words: &[u32], i: usize) -> usize
+    requires { 2 * i + 2 < length words.now }
+    ensures { result ≡ slice_index words.now (2 * i + 2) }
+{
+    words[2 * i + 2] as usize
+}
+
+// What stands behind the heads.
+fn behind(words: &[u32]) -> &[u32]
+    requires { 2 * count_in words.now < length words.now }
+    ensures { result.now ≡ behind words.now }
+{
+    let first = 2 * count(words) + 1;
+    &words[first..]
+}
+
+// The terms in one vector.
+fn words_of(alloc: Global, terms: &[PackedTerm], positions: &[u32]) -> Result<Vec<u32>, AllocError>
+    ensures { IfOk result (λ words. words.items ≡ words_of terms.now positions.now) }
+{
+    if terms.is_empty() {
+        return Ok(Vec::new(alloc));
+    }
+    let plain = are_plain(terms);
+    let mut words = Vec::with_capacity(alloc, room(terms.len(), positions.len(), plain))?;
+    words.push(narrow(terms.len())?)?;
+    push_heads(&mut words, terms)?;
+    words.extend_from_slice(positions)?;
+    if plain {
+        return Ok(words);
+    }
+    push_wdfs(&mut words, terms)?;
+    Ok(words)
+}
+
+// How many words so many terms and positions take.
+fn room(terms: usize, positions: usize, plain: bool) -> usize {
+    let each = if plain { 2 } else { 3 };
+    terms
+        .saturating_mul(each)
+        .saturating_add(positions)
+        .saturating_add(1)
+}
+
+// Whether each wdf is the number of the term's positions.
+fn are_plain(terms: &[PackedTerm]) -> bool
+    ensures { result ≡ are_plain 0 terms.now }
+{
+    let mut from = 0;
+    'terms: for one in terms {
+        if one.wdf != one.end.saturating_sub(from) {
+            return false;
+        }
+        from = one.end;
+    }
+    true
+}
+
+fn push_heads(words: &mut Vec<u32>, terms: &[PackedTerm]) -> Result<(), AllocError>
+    ensures { OnOk result (words.new.items ≡ words.old.items ++ heads_of terms.now) }
+{
+    'terms: for one in terms {
+        words.push(one.number)?;
+        words.push(one.end)?;
+    }
+    Ok(())
+}
+
+fn push_wdfs(words: &mut Vec<u32>, terms: &[PackedTerm]) -> Result<(), AllocError>
+    ensures { OnOk result (words.new.items ≡ words.old.items ++ wdfs_of terms.now) }
+{
+    'terms: for one in terms {
+        words.push(one.wdf)?;
+    }
+    Ok(())
 }
 
 /// The number, where 32 bits hold it.

@@ -2,7 +2,7 @@
 ghost use Rattle.std.specs.Prelude.{◌≡◌, ◌≤◌, ◌<◌, ◌==◌, [], length, position, IfOk, OnOk, IfSome};
 ghost use Rattle.sk_base.specs.Documents.{AreValues};
 ghost use Rattle.sk_runs.specs.Runs.{flat};
-ghost use Rattle.sk_index.specs.Slotted.{slot_pieces, slot_list, Sets, Clears, SetsAll, ClearsAll};
+ghost use Rattle.sk_index.specs.Slotted.{slot_pieces, slot_list, Sets, SetsAll, ClearsAll, RiseFrom, IsNowhere, KeepsOthers, values_at};
 
 use sk_base::{Bytes, DocId, SlotValue};
 use sk_values::SlotList;
@@ -16,7 +16,7 @@ pub(crate) struct SlotEntry {
     pub list: SlotList,
 }
 
-/// A list for each slot in which a document has a value, or had one.
+/// A list for each slot in which a document has a value, or had one, by rising slot.
 #[derive(Drop)]
 pub(crate) struct SlotLists {
     alloc: Global,
@@ -28,12 +28,13 @@ pub(crate) struct SlotLists {
 impl Model for SlotLists {
     ghost use Rattle.std.specs.Prelude.{◌≡◌, List, []};
     ghost use Rattle.sk_index.specs.declared.slot_lists.SlotEntry.{SlotEntry};
+    ghost use Rattle.sk_index.specs.Slotted.{RiseFrom};
 
     ghost Value = { List SlotEntry };
 
     ghost view = { λ l. l.slots.items };
 
-    ghost invariant = { λ l. l.none ≡ [] };
+    ghost invariant = { λ l. (l.none ≡ []) × RiseFrom 0 l.slots.items };
 }
 
 impl SlotLists {
@@ -64,22 +65,27 @@ impl SlotLists {
     pub fn set_all(&mut self, id: DocId, values: &[SlotValue]) -> Result<(), AllocError>
         requires id { 1 ≤ id }
         requires sound { AreValues values.now }
-        ensures { OnOk result (SetsAll id values.now self.old self.new) }
+        ensures sets { OnOk result (SetsAll id values.now self.old self.new) }
+
+        // It has these alone where it had none, and no other document has other ones.
+        ensures values { OnOk result (IsNowhere id self.old → values_at id self.new ≡ values.now) }
+        ensures others { OnOk result (KeepsOthers id self.old self.new) }
     {
+        let alloc = self.alloc;
         'values: for one in values {
-            let value = Bytes::new(self.alloc, one.value.as_slice())?;
+            let value = Bytes::new(alloc, one.value.as_slice())?;
             self.set(id, one.slot, value)?;
         }
         Ok(())
     }
 
-    /// Takes the document out of the lists of these values. Want of memory stops nothing.
-    pub fn clear_all(&mut self, id: DocId, values: &[SlotValue])
-        requires sound { AreValues values.now }
-        ensures { ClearsAll id values.now self.old self.new }
+    /// Takes the document out of each list. Want of memory stops nothing.
+    pub fn clear_all(&mut self, id: DocId)
+        ensures clears { ClearsAll id self.old self.new }
+        ensures others { KeepsOthers id self.old self.new }
     {
-        'values: for one in values {
-            self.clear(id, one.slot);
+        'slots: for one in self.slots.iter_mut() {
+            one.list.clear(id);
         }
     }
 
@@ -93,7 +99,8 @@ impl SlotLists {
     fn set(&mut self, id: DocId, slot: u32, value: Bytes) -> Result<(), AllocError>
         requires id { 1 ≤ id }
         requires some { 1 ≤ length value }
-        ensures { OnOk result (Sets id slot value self.old self.new) }
+        ensures sets { OnOk result (Sets id slot value self.old self.new) }
+        ensures rise { OnOk result (RiseFrom 0 self.new) }
     {
         match self.place_of(slot) {
             Some(at) => {
@@ -103,17 +110,10 @@ impl SlotLists {
             None => {
                 let mut list = SlotList::new(self.alloc);
                 list.set(id, value)?;
-                self.slots.push(SlotEntry { slot, list })?;
+                let at = self.slots.partition_point(|one| one.slot < slot);
+                self.slots.insert(at, SlotEntry { slot, list })?;
                 Ok(())
             }
-        }
-    }
-
-    fn clear(&mut self, id: DocId, slot: u32)
-        ensures { Clears id slot self.old self.new }
-    {
-        if let Some(at) = self.place_of(slot) {
-            self.slots[at].list.clear(id);
         }
     }
 }

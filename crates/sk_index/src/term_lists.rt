@@ -9,7 +9,7 @@ ghost use Rattle.sk_index.specs.Packed.{AreKnown};
 ghost use Rattle.sk_index.specs.Unpacked.{named_all, Grows};
 ghost use Rattle.sk_index.specs.Wild.{figure_of, sum_behind};
 
-use crate::packed_terms::{PackedTerms, narrow_sum};
+use crate::packed_terms::{PackedTerms, Packing, narrow_sum};
 use sk_base::{DocId, DocTerm};
 use sk_dict::{Dict, make_room};
 use sk_lists::List;
@@ -142,11 +142,12 @@ impl TermLists {
         ensures known { IfOk result (λ packed. AreKnown (length self.new.terms) packed) }
     {
         let positions = count_positions(terms)?;
-        let mut packed = PackedTerms::with_capacity(self.alloc, terms.len(), positions)?;
+        let mut packing = Packing::with_capacity(self.alloc, terms.len(), positions)?;
         'terms: for one in terms {
             let number = self.put(id, one.term.as_str().as_bytes(), one.wdf)?;
-            packed.push(number, one.wdf, one.positions.as_slice())?;
+            packing.push(number, one.wdf, one.positions.as_slice())?;
         }
+        let packed = packing.packed(self.alloc)?;
         Ok(packed)
     }
 

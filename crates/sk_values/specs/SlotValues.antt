@@ -1,9 +1,8 @@
 -- The values of one slot: who has one, and which.
-use Rattle.std.specs.Prelude.{◌≡◌, ◌≤◌, ℕ, zero, suc, List, [], ◌∷◌, length}
+use Rattle.std.specs.Prelude.{◌≤◌, ℕ, zero, suc, List, [], ◌∷◌, length}
 use Rattle.std.specs.List.{AllByRecursion}
 use Rattle.std.specs.Option.{unwrap_or}
 use Rattle.sk_sorted.specs.Entries.{AreSorted, found}
-use Rattle.sk_runs.specs.Runs.{flat, AreRuns}
 
 -- The entries of a list, each an id and the value there.
 abbrev pub SlotValues : Type 0
@@ -21,12 +20,6 @@ HaveValues es = AllByRecursion (λ e. 1 ≤ length e.1) es
 pub record AreSlotValues (es : SlotValues) : Type 0 where
   pub sorted : AreSorted es
   pub some : HaveValues es
-
--- The pieces of a list, with the number of all entries.
-pub record IsSlotList (runs : SlotRuns) (count : ℕ) : Type 0 where
-  pub sound : AreRuns runs
-  pub some : HaveValues (flat runs)
-  pub count_is : length (flat runs) ≡ count
 
 -- The value with this id, empty where there is none.
 abbrev pub found_value : ℕ → SlotValues → List ℕ

@@ -1,8 +1,6 @@
 //! The values of one slot, by document, and a cursor over those in a range; every reading of one is counted.
 #![tactic(auto)]
 
-mod piece;
-mod place;
 mod range;
 mod range_cursor;
 mod slot_list;

@@ -1,14 +1,15 @@
 //! A place in a slot's list, which only moves on, and stops only at values in a range.
-ghost use Rattle.std.specs.Prelude.{◌≡◌, ◌+◌, ◌≤◌, length, drop, IfSome};
+ghost use Rattle.std.specs.Prelude.{◌≡◌, ◌+◌, ◌≤◌, ◌<◌, length, drop, IfSome};
 ghost use Rattle.sk_sorted.specs.Entries.{from, first_id};
+ghost use Rattle.sk_sorted.specs.Places.{id_at};
 ghost use Rattle.sk_runs.specs.Runs.{flat};
-ghost use Rattle.sk_values.specs.SlotValues.{SlotRuns};
+ghost use Rattle.sk_values.specs.SlotValues.{SlotRuns, value_at};
 ghost use Rattle.sk_values.specs.RangeCursor.{in_range, unread, ahead, left, IsHeadAt, IsPlaceIn, IsOn, is_head_below};
 
 use crate::SlotList;
-use crate::piece::Piece;
 use crate::range::is_within;
 use sk_base::{Bytes, DocId};
+use sk_pieces::Piece;
 use sk_steps::Steps;
 use std::sync::ledger::Ledger;
 
@@ -172,7 +173,7 @@ fn stop_from<L: Ledger>(
 
 // The same within a piece.
 fn stop_in<L: Ledger>(
-    piece: &Piece,
+    piece: &Piece<Bytes>,
     place: u32,
     lo: &Option<Bytes>,
     hi: &Option<Bytes>,
@@ -188,11 +189,23 @@ fn stop_in<L: Ledger>(
     let end = piece.count();
     let mut read = place;
     'entries: while read < end {
-        let (id, value) = piece.entry(read, steps);
+        let (id, value) = entry(piece, read, steps);
         read += 1;
         if is_within(lo, hi, value) {
             return (read, Some(id));
         }
     }
     (end, None)
+}
+
+// Reads the entry at this place of a piece, counted from 0. All that a cursor reads it reads by this.
+fn entry<'a, L: Ledger>(piece: &'a Piece<Bytes>, i: u32, steps: &mut Steps<L>) -> (DocId, &'a [u8])
+    requires { i < length piece.now }
+    ensures id { result.0 ≡ id_at piece.now i }
+    ensures value { result.1.now ≡ value_at piece.now i }
+    ensures cost { steps.new ≡ steps.old + 1 }
+{
+    let entry = &piece.as_slice()[i as usize];
+    steps.tick();
+    (entry.0, entry.1.as_slice())
 }

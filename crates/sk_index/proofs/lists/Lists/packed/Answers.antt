@@ -1,4 +1,5 @@
 -- The document that is found is in order, and its numbers have terms.
+use Rattle.sk_runs.specs.Runs.{flat}
 use Rattle.std.proofs.Common.{length, option_map, sym, ap, ◌∙◌}
 use Rattle.sk_base.specs.Documents.{AreTerms}
 use Rattle.sk_sorted.specs.Entries.{found}
@@ -11,17 +12,18 @@ use Rattle.sk_index.proofs.lists.Lists.packed.Goals as goal
 pub returns-clause-value : goal.returns-clause-value
 returns-clause-value c =
     let dict = c.self.inside.terms.terms in
-    let entries = c.self.inside.map.entries in
-    rw (← c.self.view_is) (mapped_twice (λ p. p.now) (unpacked dict) c.get.result ∙ ap (option_map (unpacked dict)) c.get.ensures.value ∙ sym (unpacked-found dict c.args.id entries))
+    let slots = c.self.inside.slots in
+    let entries = flat c.self.inside.map in
+    rw (← c.self.view_is) (mapped_twice (λ p. p.now) (unpacked dict slots c.args.id) c.get.result ∙ ap (option_map (unpacked dict slots c.args.id)) c.get.ensures ∙ sym (unpacked-found dict slots c.args.id entries))
 
 pub returns-clause-rising : goal.returns-clause-rising
 returns-clause-rising c =
     let dict = c.self.inside.terms.terms in
-    let entries = c.self.inside.map.entries in
-    rw (← c.self.view_is) (some_of (λ p. p.now) (λ (p : Packed). AreTerms (named_all dict p.terms)) c.get.result (found c.args.id entries) c.get.ensures.value (λ p. found-ordered dict c.args.id p entries c.self.invariant.0.ordered))
+    let entries = flat c.self.inside.map in
+    rw (← c.self.view_is) (some_of (λ p. p.now) (λ (p : Packed). AreTerms (named_all dict p.terms)) c.get.result (found c.args.id entries) c.get.ensures (λ p. found-ordered dict c.self.inside.slots c.args.id p entries c.self.invariant.0.ordered))
 
 pub returns-clause-known : goal.returns-clause-known
 returns-clause-known c =
     let dict = c.self.inside.terms.terms in
-    let entries = c.self.inside.map.entries in
-    rw (← c.self.view_is) (some_of (λ p. p.now) (λ (p : Packed). AreKnown (length dict) p.terms) c.get.result (found c.args.id entries) c.get.ensures.value (λ p. found-known dict c.args.id p entries c.self.invariant.0.known))
+    let entries = flat c.self.inside.map in
+    rw (← c.self.view_is) (some_of (λ p. p.now) (λ (p : Packed). AreKnown (length dict) p.terms) c.get.result (found c.args.id entries) c.get.ensures (λ p. found-known dict c.self.inside.slots c.args.id p entries c.self.invariant.0.known))

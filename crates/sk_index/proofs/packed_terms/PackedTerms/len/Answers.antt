@@ -1,7 +1,8 @@
--- There are as many terms as packed ones.
+-- There are as many terms as the words say.
 use Rattle.std.proofs.Common.{length, sym, ap, ◌∙◌}
-use Rattle.sk_index.proofs.PackedLemmas.{length-cut}
+use Rattle.sk_index.specs.Packed.{count_in}
+use Rattle.sk_index.proofs.FrozenLemmas.{length-frozen}
 use Rattle.sk_index.proofs.packed_terms.PackedTerms.len.Goals as goal
 
 pub returns : goal.returns
-returns c = c.len.ensures ∙ c.self.inside.terms.ok.0 ∙ sym (length-cut 0 c.self.inside.terms.items c.self.inside.positions.items) ∙ ap length c.self.view_is
+returns c = c.count.ensures ∙ ap count_in c.as_slice.ensures.value ∙ sym (length-frozen c.self.inside.words.items) ∙ ap length c.self.view_is

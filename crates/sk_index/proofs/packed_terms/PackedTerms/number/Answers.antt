@@ -1,12 +1,10 @@
--- The number is that of the packed term.
-use Rattle.std.proofs.Common.{ap, arith}
-use Rattle.sk_index.specs.Packed.{NumberedTerm}
-use Rattle.sk_index.proofs.PackedLemmas.{there, term_is}
+-- The number is that of the term's head.
+use Rattle.std.proofs.Common.{◌∙◌}
+use Rattle.sk_index.proofs.FrozenLemmas.{head_inside, number_is}
 use Rattle.sk_index.proofs.packed_terms.PackedTerms.number.Goals as goal
 
-pub index-requires : goal.index-requires
-index-requires c = omega (arith, there c.self.inside.terms.items c.self.inside.positions.items c.args.self.now c.args.i c.self.invariant c.self.view_is c.requires.there, c.self.inside.terms.ok.0)
+pub number-requires : goal.number-requires
+number-requires c = head_inside c.self.inside.words.items c.as_slice.result.now c.as_slice.ensures.value c.args.self.now c.args.i c.self.invariant c.self.view_is c.requires.there
 
 pub returns : goal.returns
-returns c =
-    ap (λ (t : NumberedTerm). t.number) (term_is c.self.inside.terms.items c.self.inside.positions.items c.args.self.now c.args.i c.self.invariant c.self.view_is c.requires.there c.index.result.now c.index.ensures)
+returns c = c.number.ensures ∙ number_is c.self.inside.words.items c.as_slice.result.now c.as_slice.ensures.value c.args.self.now c.args.i c.self.invariant c.self.view_is c.requires.there

@@ -1,8 +1,6 @@
--- What the values that are left do from here on, all values do from the start.
-use Rattle.std.proofs.Common.{List, drop}
-use Rattle.sk_index.specs.declared.slot_lists.SlotEntry.{SlotEntry}
-use Rattle.sk_index.specs.Slotted.{ClearsAll}
+-- The lists before the place are without the document.
+use Rattle.sk_index.proofs.SlottedLemmas.{AreCutTo}
 use Rattle.sk_index.proofs.slot_lists.SlotLists.clear_all.Given as goal
 
-abbrev pub invariant-values : goal.invariant-values
-invariant-values l = (new : List SlotEntry) → ClearsAll l.id (drop l.one-index l.values) l.self new → ClearsAll l.id l.values l.initial.self new
+abbrev pub invariant-slots : goal.invariant-slots
+invariant-slots l = AreCutTo l.id l.initial.one-items l.one-items l.one-index

@@ -19,9 +19,9 @@ returns-in-Some-clause-entries c =
     ∙ flat-slot_pieces c.args.slot c.args.self.now
 
 pub returns-in-None-clause-pieces : goal.returns-in-None-clause-pieces
-returns-in-None-clause-pieces c = c.self.invariant ∙ sym (slot_pieces-none c.args.slot c.args.self.now (none_from c.args.slot c.args.self.now (sym c.place_of.ensures.value ∙ c.in-None.is)))
+returns-in-None-clause-pieces c = c.self.invariant.0 ∙ sym (slot_pieces-none c.args.slot c.args.self.now (none_from c.args.slot c.args.self.now (sym c.place_of.ensures.value ∙ c.in-None.is)))
 
 pub returns-in-None-clause-entries : goal.returns-in-None-clause-entries
 returns-in-None-clause-entries c =
-    ap (λ (rs : SlotRuns). flat rs) (c.self.invariant ∙ sym (slot_pieces-none c.args.slot c.args.self.now (none_from c.args.slot c.args.self.now (sym c.place_of.ensures.value ∙ c.in-None.is))))
+    ap (λ (rs : SlotRuns). flat rs) (c.self.invariant.0 ∙ sym (slot_pieces-none c.args.slot c.args.self.now (none_from c.args.slot c.args.self.now (sym c.place_of.ensures.value ∙ c.in-None.is))))
     ∙ flat-slot_pieces c.args.slot c.args.self.now

@@ -9,6 +9,6 @@ abbrev pub invariant-terms : goal.invariant-terms
 invariant-terms l = record {
   rest : (new : Listed) → PutsAll l.id (drop l.one-index l.terms) l.self new → PutsAll l.id l.terms l.initial.self new;
   grows : Grows l.initial.self.terms l.self.terms;
-  named : named_all l.self.terms l.packed ≡ take l.one-index l.terms;
-  known : AreKnown (length l.self.terms) l.packed;
+  named : named_all l.self.terms l.packing ≡ take l.one-index l.terms;
+  known : AreKnown (length l.self.terms) l.packing;
 }

@@ -1,21 +1,9 @@
--- The piece at the place is where the value belongs; where all end before it, it is nowhere.
-use Rattle.std.proofs.Common.{◌≡◌, length, sym, ap, arith}
-use Rattle.sk_runs.proofs.RunLaws.{fits_place}
-use Rattle.sk_runs.proofs.EditLaws.{nowhere, nothing_without}
-use Rattle.sk_values.specs.SlotValues.{SlotRuns}
+-- A removal leaves no value empty.
+use Rattle.std.proofs.Common.{subst, sym}
+use Rattle.sk_runs.specs.Runs.{flat}
+use Rattle.sk_values.specs.SlotValues.{SlotValues, HaveValues}
+use Rattle.sk_values.proofs.ValueLaws.{HaveValues-without}
 use Rattle.sk_values.proofs.slot_list.SlotList.clear.Goals as goal
 
-pub returns-then-at-len-clause-after : goal.returns-then-at-len-clause-after
-returns-then-at-len-clause-after c =
-    let same : length c.self.inside.pieces.items ≡ length c.args.self.now = ap (λ (s : SlotRuns). length s) c.self.view_is in
-    sym (nothing_without c.args.id c.args.self.now c.place-at.ensures.sound (λ k lt. c.place-at.ensures.before k (omega (arith, same))))
-
-pub returns-then-at-len-clause-there : goal.returns-then-at-len-clause-there
-returns-then-at-len-clause-there c =
-    let same : length c.self.inside.pieces.items ≡ length c.args.self.now = ap (λ (s : SlotRuns). length s) c.self.view_is in
-    sym (nowhere c.args.id c.args.self.now c.place-at.ensures.sound (λ k lt. c.place-at.ensures.before k (omega (arith, same))))
-
-pub take_out-requires-clause-fits : goal.take_out-requires-clause-fits
-take_out-requires-clause-fits c =
-    let same : length c.self.inside.pieces.items ≡ length c.args.self.now = ap (λ (s : SlotRuns). length s) c.self.view_is in
-    fits_place 0 c.args.id c.args.self.now c.place-at.result c.place-at.ensures.sound.rise (omega (arith, same)) c.place-at.ensures.before (c.place-at.ensures.at (omega (arith, same)))
+pub invariant_of-self : goal.invariant_of-self
+invariant_of-self c = subst (λ (es : SlotValues). HaveValues es) (sym c.take.ensures.after) (HaveValues-without c.args.id (flat c.self.inside.entries) c.self.invariant)

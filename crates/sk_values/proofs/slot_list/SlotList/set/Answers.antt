@@ -1,10 +1,15 @@
--- The piece at the place is where the value belongs.
-use Rattle.std.proofs.Common.{◌≡◌, length, ap, arith}
-use Rattle.sk_runs.proofs.RunLaws.{fits_place}
-use Rattle.sk_values.specs.SlotValues.{SlotRuns}
+-- A value that is not empty leaves none empty.
+use Rattle.std.proofs.Common.{◌≡◌, ◌≤◌, ℕ, List, length, Result, Ok, Err, OnOk, OnErr, subst, sym}
+use Rattle.sk_sorted.specs.Entries.{put}
+use Rattle.sk_runs.specs.Runs.{flat}
+use Rattle.sk_values.specs.SlotValues.{SlotValues, SlotRuns, HaveValues}
+use Rattle.sk_values.proofs.ValueLaws.{HaveValues-put}
 use Rattle.sk_values.proofs.slot_list.SlotList.set.Goals as goal
 
-pub make_room-requires-clause-fits : goal.make_room-requires-clause-fits
-make_room-requires-clause-fits c =
-    let same : length c.self.inside.pieces.items ≡ length c.args.self.now = ap (λ (s : SlotRuns). length s) c.self.view_is in
-    fits_place 0 c.args.id c.args.self.now c.place-at.result c.place-at.ensures.sound.rise (omega (arith, same)) c.place-at.ensures.before (c.place-at.ensures.at (omega (arith, same)))
+values_kept : {A E : Type 0} (r : Result A E) (id : ℕ) (value : List ℕ) (old new : SlotRuns) → OnOk r (flat new ≡ put id value (flat old)) → OnErr r (flat new ≡ flat old)
+    → 1 ≤ length value → HaveValues (flat old) → HaveValues (flat new)
+values_kept (Ok x) id value old new ok err some values = subst (λ (es : SlotValues). HaveValues es) (sym ok) (HaveValues-put id value (flat old) some values)
+values_kept (Err e) id value old new ok err some values = subst (λ (es : SlotValues). HaveValues es) (sym err) values
+
+pub invariant_of-self : goal.invariant_of-self
+invariant_of-self c = values_kept c.put.result c.args.id c.args.value c.self.inside.entries c.put.new.self c.put.ensures.ok c.put.ensures.err c.requires.some c.self.invariant
