@@ -10,8 +10,8 @@ use sk_steps::Steps;
 use std::alloc::Global;
 use std::sync::ledger::Ledger;
 
-/// Does what the words ask for. `run`: each line of `input` is a command, and is answered on `output` before the next
-/// line is read. `search FILE`, with `and` behind it or not: each line of `records` is a command, and then each line of
+/// Does what the words ask for. `run`: each line of `input` is a command, and is answered on `output` before more of it
+/// is asked for. `search FILE`, with `and` behind it or not: each line of `records` is a command, and then each line of
 /// `input` a query text. `demo N`: the commands of a demonstration with N documents. What is not named is not touched.
 pub fn run<S: Source, R: Source, K: Sink, L: Ledger>(
     alloc: Global,

@@ -1,11 +1,11 @@
 -- Where the first line's end stands.
-use Rattle.std.proofs.Common.{◌≡◌, ◌≢◌, ◌≤◌, ◌<◌, ◌+◌, ◌-◌, ◌==◌, ℕ, suc, Bool, true, false, not, cond, List, [], ◌∷◌, ◌++◌, Option, None, Some, MatchOption, length, take, drop, refl, sym, ap, ◌∙◌, subst, append_assoc, arith, length-drop, inl, inr, ◌⊎◌, nat_lt}
+use Rattle.std.proofs.Common.{◌≡◌, ◌≢◌, ◌≤◌, ◌<◌, ◌+◌, ◌-◌, ◌==◌, ℕ, suc, Bool, true, false, not, cond, List, [], ◌∷◌, ◌++◌, Option, None, Some, MatchOption, length, take, drop, refl, sym, ap, ◌∙◌, subst, append_assoc, arith, length-drop, inl, inr, ◌⊎◌, ◌↔◌, nat_lt, is_some, IsTrue, true≢false}
 use Rattle.std.specs.List.{position, position_or_len}
 use Rattle.std.proofs.lemmas.List.{take-append-drop, drop-drop, length-take}
 use Rattle.std.proofs.lemmas.Slice.{between_to_end}
 use Rattle.std.proofs.Math.Seq.{take-add, take-append-add}
 use Rattle.std.proofs.lemmas.Bool.Decides.{nat_tests}
-use Rattle.sk_io.specs.LineText.{NoLineEnd}
+use Rattle.sk_io.specs.LineText.{NoLineEnd, HasLineEnd}
 use Rattle.sk_io.specs.Steps.{EndsAt}
 
 -- no end in either part, so none in both together
@@ -115,3 +115,17 @@ take-through xs at h =
 -- in an equal list the end stands at the same place
 pub ends_same : (xs ys : List ℕ) (at : ℕ) → xs ≡ ys → EndsAt xs at → EndsAt ys at
 ends_same xs ys at e h = subst (λ w. EndsAt w at) e h
+
+-- of two parts, the second has no end where both together have none
+no_end_behind : (xs ys : List ℕ) → NoLineEnd (xs ++ ys) → NoLineEnd ys
+no_end_behind [] ys h = h
+no_end_behind (x ∷ xs) ys h = no_end_behind xs ys h.1
+
+-- where an end stands, there is one
+ends_has : (xs : List ℕ) (at : ℕ) → EndsAt xs at → HasLineEnd xs
+ends_has xs at h none = (no_end_behind (take at xs) (10 ∷ drop (at + 1) xs) (no_end_same _ _ h.is none)).0 refl
+
+-- whether an end was found tells whether there is one
+pub has_end : (xs ys : List ℕ) (r : Option ℕ) (b : Bool) → xs ≡ ys → MatchOption r (NoLineEnd xs) (EndsAt xs) → b ≡ is_some r → IsTrue b ↔ HasLineEnd ys
+has_end xs ys None b e h is = (λ t. absurd (true≢false (sym t ∙ is)), λ has. absurd (has (no_end_same xs ys e h)))
+has_end xs ys (Some at) b e h is = (λ t. λ none. ends_has xs at h (no_end_same ys xs (sym e) none), λ has. is)

@@ -1,5 +1,5 @@
 -- What each answer of a reader of lines means.
-use Rattle.std.specs.Prelude.{◌≡◌, ℕ, ◌+◌, ◌<◌, ◌≤◌, ◌⊎◌, true, List, [], ◌++◌, length, Option, None, Some, Result, IsErrOf}
+use Rattle.std.specs.Prelude.{◌≡◌, ℕ, ◌+◌, ◌<◌, ◌≤◌, ◌⊎◌, true, List, [], ◌++◌, length, Option, None, Some, Result, Ok, Err, IsErrOf}
 use Rattle.sk_io.specs.declared.line.LineStop.{LineStop}
 use Rattle.sk_io.specs.declared.line.LineStop.TheVariants.{Failed, TooMuch}
 use Rattle.sk_io.specs.declared.line.Line.{Line}
@@ -95,3 +95,9 @@ abbrev pub IsShort : Option Line → Type 0
 IsShort None = Unit {0}
 IsShort (Some (Whole line)) = length line.now ≤ most_line
 IsShort (Some TooLong) = Unit {0}
+
+-- a line was given
+abbrev pub IsGiven : Result (Option Line) LineStop → Type 0
+IsGiven (Ok None) = ⊥
+IsGiven (Ok (Some line)) = Unit {0}
+IsGiven (Err why) = ⊥

@@ -151,3 +151,10 @@ EndIsFound (Ok (At at)) = Unit {0}
 EndIsFound (Ok Far) = ⊥
 EndIsFound (Ok Nowhere) = ⊥
 EndIsFound (Err why) = ⊥
+
+-- a line was found
+abbrev pub LineIsFound : Result Found LineStop → Type 0
+LineIsFound (Ok End) = ⊥
+LineIsFound (Ok (Whole n)) = Unit {0}
+LineIsFound (Ok TooLong) = Unit {0}
+LineIsFound (Err why) = ⊥

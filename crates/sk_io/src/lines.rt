@@ -1,12 +1,12 @@
 //! A source cut into lines.
-ghost use Rattle.std.specs.Prelude.{◌≡◌, ◌<◌, ◌≤◌, ◌+◌, true, false, List, [], None, Some, Ok, IfOk, IfErr, OnOk, IsOk, IsSome, length, drop};
+ghost use Rattle.std.specs.Prelude.{◌≡◌, ◌<◌, ◌≤◌, ◌+◌, ◌↔◌, true, false, List, [], None, Some, Ok, IfOk, IfErr, OnOk, IsOk, IsSome, IsTrue, length, drop};
 ghost use Rattle.std.specs.Borrow.{sem};
 ghost use Rattle.std.specs.Io.BufRead.{Rests};
 ghost use Rattle.sk_io.specs.contracts.lines.Lines.{the_row};
 ghost use Rattle.sk_io.specs.LineText.{NoLineEnd, HasLineEnd};
 ghost use Rattle.sk_io.specs.Reading.{pending, outcome};
-ghost use Rattle.sk_io.specs.Answers.{Reads, ReadsOn, StopHasCause, IsShort};
-ghost use Rattle.sk_io.specs.Steps.{IsOpen, Fills, Halts, Halted, Sought, Skips, FailHasCause, found_outcome, IsWithin, EndIsFound};
+ghost use Rattle.sk_io.specs.Answers.{Reads, ReadsOn, StopHasCause, IsShort, IsGiven};
+ghost use Rattle.sk_io.specs.Steps.{IsOpen, Fills, Halts, Halted, Sought, Skips, FailHasCause, found_outcome, IsWithin, EndIsFound, LineIsFound};
 
 use crate::found::{Found, LineEnd};
 use crate::line::{Line, LineStop, MAX_LINE};
@@ -60,6 +60,7 @@ impl Lines {
         ensures short { IfOk result IsShort }
         ensures untouched { IsSome self.old.stopped → source.new ≡ source.old }
         ensures prompt { HasLineEnd (pending self.old) → source.new ≡ source.old }
+        ensures given { HasLineEnd (pending self.old) → self.old.stopped ≡ None → IsGiven result }
         ensures ended { self.old.ended ≡ true → source.new ≡ source.old }
         ensures no_stop { self.old.ended ≡ true → self.old.stopped ≡ None → IsOk result }
         ensures cause { StopHasCause self.old.stopped (S.faults source.old) (S.faults source.new) result }
@@ -73,6 +74,19 @@ impl Lines {
         }
     }
 
+    /// Whether the line that comes next is held with its end, so that `next` gives it and does not ask the source.
+    pub fn waits(&self) -> bool
+        ensures { IsTrue result ↔ HasLineEnd (pending self.now) }
+    {
+        end_from(self.pending(), 0).is_some()
+    }
+
+    fn pending(&self) -> &[u8]
+        ensures { result.now ≡ pending self.now }
+    {
+        &self.held()[self.given..]
+    }
+
     fn held(&self) -> &[u8]
         ensures { result.now ≡ self.now.held }
     {
@@ -84,6 +98,7 @@ impl Lines {
         ensures within { IfOk result (IsWithin self.new) }
         ensures untouched { IsSome self.old.stopped → source.new ≡ source.old }
         ensures prompt { HasLineEnd (pending self.old) → source.new ≡ source.old }
+        ensures given { HasLineEnd (pending self.old) → self.old.stopped ≡ None → LineIsFound result }
         ensures ended { self.old.ended ≡ true → source.new ≡ source.old }
         ensures no_stop { self.old.ended ≡ true → self.old.stopped ≡ None → IsOk result }
         ensures cause { StopHasCause self.old.stopped (S.faults source.old) (S.faults source.new) result }
@@ -99,7 +114,7 @@ impl Lines {
         requires { self.old.stopped ≡ None }
         ensures reads { ReadsOn self.old (S.left source.old) self.new (S.left source.new) (found_outcome self.new result) }
         ensures within { IfOk result (IsWithin self.new) }
-        ensures prompt { HasLineEnd (pending self.old) → source.new ≡ source.old }
+        ensures prompt { HasLineEnd (pending self.old) → (source.new ≡ source.old) × LineIsFound result }
         ensures ended { self.old.ended ≡ true → (self.new.ended ≡ true) × (source.new ≡ source.old) × IsOk result }
         ensures cause { FailHasCause (S.faults source.old) (S.faults source.new) result }
     {

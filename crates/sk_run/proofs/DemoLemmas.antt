@@ -1,24 +1,28 @@
 -- The commands of a demonstration, and how far it has come.
-use Rattle.std.proofs.Common.{◌≡◌, ◌≤◌, ◌<◌, ◌+◌, ◌-◌, ◌*◌, ◌%◌, ◌^◌, ℕ, zero, suc, Bool, true, false, ◌||◌, ◌==◌, nat_le, if◌then◌else◌, ◌⊎◌, inl, List, [], ◌∷◌, ◌++◌, length, Option, Some, None, codes, decimal, refl, sym, ap, ◌∙◌, subst, arith, rules, append_assoc, append-nil, length-append, sum_by, AllPairs}
+use Rattle.std.proofs.Common.{◌≡◌, ◌≤◌, ◌<◌, ◌+◌, ◌-◌, ◌*◌, ◌%◌, ◌^◌, ℕ, zero, suc, Bool, true, false, ◌||◌, ◌==◌, nat_le, if◌then◌else◌, inl, inr, List, [], ◌∷◌, ◌++◌, length, Option, Some, None, codes, decimal, refl, sym, ap, ◌∙◌, subst, arith, append_assoc, append-nil, length-append, flat_map, AllPairs}
 use Rattle.std.specs.Io.KnownBytes.{Appends}
+use Rattle.std.proofs.KnownBytes.{Appends-nil}
 use Rattle.std.proofs.lemmas.Fmt.{length-decimal-le}
 use Rattle.std.proofs.lemmas.List.Sums.{sum_by-append}
 use Rattle.std.proofs.lemmas.Bool.Decides.{nat_tests}
 use Rattle.sk_base.specs.declared.command.Command.{Command}
-use Rattle.sk_base.specs.declared.command.Command.TheVariants as Command
-use Rattle.sk_base.specs.declared.find.Find.{Find}
 use Rattle.sk_base.specs.declared.record.Edit.TheVariants as Edit
 use Rattle.sk_base.specs.declared.record.Entry.{Entry}
 use Rattle.sk_base.specs.declared.schema.Field.{Field}
 use Rattle.sk_base.specs.Fields.{IsSchema}
-use Rattle.sk_base.specs.Records.{FitsFind, FitsValues, most_bytes, bytes_of_values}
+use Rattle.sk_base.specs.Records.{FitsFind, FitsValues}
 use Rattle.sk_record.specs.Outcome.{MayCome}
+use Rattle.sk_io.specs.Causes.{Rose}
 use Rattle.sk_io.specs.Fronts.{AppendsPrefix}
+use Rattle.sk_run.specs.declared.status.Status.{Status}
 use Rattle.sk_run.specs.Lines.{Meets}
 use Rattle.sk_run.specs.Machines.{schema_behind}
 use Rattle.sk_run.specs.Outsides.{Output}
-use Rattle.sk_run.specs.Ended.{BreaksOff, RunsOut, Continues}
-use Rattle.sk_run.proofs.RunLemmas.{IsPut, none_put, put_more, put_in_part}
+use Rattle.sk_run.specs.Ended.{BreaksOff, RunsOut, Continues, Ended, NotWhole}
+use Rattle.sk_run.specs.Closing.{NeverTaken}
+use Rattle.sk_run.specs.Waiting.{PutsLast, Joins, FailsWithin, FailsToPut, JoinsNot}
+use Rattle.sk_run.proofs.WaitingLemmas.{moves_last, moves_prefix, puts_front}
+use Rattle.sk_run.proofs.RunLemmas.{IsPut, none_put, put_more, put_in_part, rose_since}
 use Rattle.sk_run.specs.Obeying.{Obeyings, rest, obey, ObeysFirst, ObeysThrough}
 use Rattle.sk_run.specs.Demos.{demo_fields, alls, demo_body, demo_record, demo_find, demo_command, demo_commands_from, demo_commands}
 
@@ -111,18 +115,18 @@ module _ {W S R : Type 0} (text : R → List ℕ) (refuses : R → Bool) (cost :
   abbrev from : ℕ → List Command
   from place = demo_commands_from documents place (documents + 6 - place)
 
-  -- The commands before a place were obeyed, and their answers put and counted.
-  pub record DemoSoFar (held0 : Option (List ℕ)) (steps0 place : ℕ) (held : Option (List ℕ)) (machine : W) (refused : Bool) (steps : ℕ) : Type 0 where
+  -- The commands before a place were obeyed, and their answers put, but for what waits, and counted.
+  pub record DemoSoFar (held0 : Option (List ℕ)) (steps0 place : ℕ) (waiting : List ℕ) (held : Option (List ℕ)) (machine : W) (refused : Bool) (steps : ℕ) : Type 0 where
     pub answers : List R
-    pub put : IsPut text refuses cost answers held0 held false refused steps0 steps
+    pub put : IsPut text refuses cost answers waiting held0 held false refused steps0 steps
     pub state : S
     pub at : Stands machine state
     pub goes_on : (more : List R) (last : S) (left : List Command) → Obeyings Obeys state (from place) more last left → Obeyings Obeys start (demo_commands documents) (answers ++ more) last left
 
-  pub demo_none : (held : Option (List ℕ)) (machine : W) (steps : ℕ) → Stands machine start → DemoSoFar held steps 0 held machine false steps
-  demo_none held machine steps at = record {
+  pub demo_none : (waiting : List ℕ) (held : Option (List ℕ)) (machine : W) (steps : ℕ) → waiting ≡ [] → Stands machine start → DemoSoFar held steps 0 waiting held machine false steps
+  demo_none waiting held machine steps none at = record {
     answers = [];
-    put = none_put text refuses cost held false steps;
+    put = none_put text refuses cost waiting held false steps none;
     state = start;
     at = at;
     goes_on = λ more last left runs. subst (λ (n : ℕ). Obeyings Obeys start (demo_commands_from documents 0 n) more last left) (omega arith) runs;
@@ -131,85 +135,127 @@ module _ {W S R : Type 0} (text : R → List ℕ) (refuses : R → Bool) (cost :
   first_from : (place : ℕ) → place < documents + 6 → from place ≡ demo_command documents place ∷ from (place + 1)
   first_from place inside = let more : documents + 6 - place ≡ suc (documents + 6 - (place + 1)) = omega arith in ap (demo_commands_from documents place) more
 
-  -- One command more was obeyed, and its answer put.
-  pub demo_more : (held0 : Option (List ℕ)) (steps0 place : ℕ) (held held' : Option (List ℕ)) (machine machine' : W) (refused refused' : Bool) (steps steps' : ℕ) (command : Command) (answer : R) (piece : List ℕ)
-      → place < documents + 6 → DemoSoFar held0 steps0 place held machine refused steps → command ≡ demo_command documents place → ((s : S) → Stands machine s → Meets Stands (Obeys s command answer) machine')
-      → piece ≡ text answer → Appends held held' piece → refused' ≡ (refused || refuses answer) → steps' ≡ steps + cost answer → DemoSoFar held0 steps0 (place + 1) held' machine' refused' steps'
-  demo_more held0 steps0 place held held' machine machine' refused refused' steps steps' command answer piece inside so is obeyed same put refusal paid =
-      let met : Meets Stands (Obeys so.state command answer) machine' = obeyed so.state so.at in
+  -- Nothing was obeyed.
+  pub demo_at_once : (before after : Output) → after ≡ before → RunsOut text refuses cost (ObeysFirst Obeys start (demo_commands documents)) before after
+  demo_at_once before after same =
+      subst (RunsOut text refuses cost (ObeysFirst Obeys start (demo_commands documents)) before) (sym same)
+      (record { answers = []; put = Appends-nil before.held; steps = omega arith; finishes = refl; lines = record { last = start; left = demo_commands documents; runs = rest } })
+
+  -- One command more was obeyed, and its answer joined what waits.
+  pub demo_more : (held0 : Option (List ℕ)) (steps0 place : ℕ) (waiting waiting' : List ℕ) (machine machine' : W) (refused more : Bool) (before after : Output) (command : Command)
+      → place < documents + 6 → DemoSoFar held0 steps0 place waiting before.held machine refused before.steps → command ≡ demo_command documents place
+      → Joins text refuses cost (λ answer. (s : S) → Stands machine s → Meets Stands (Obeys s command answer) machine') waiting waiting' more before after
+      → DemoSoFar held0 steps0 (place + 1) waiting' after.held machine' (refused || more) after.steps
+  demo_more held0 steps0 place waiting waiting' machine machine' refused more before after command inside so is joins =
+      let met : Meets Stands (Obeys so.state command joins.answer) machine' = joins.allowed so.state so.at in
       record {
-        answers = so.answers ++ answer ∷ [];
-        put = put_more text refuses cost so.answers held0 held held' false refused refused' steps0 steps steps' answer piece so.put same put refusal paid;
+        answers = so.answers ++ joins.answer ∷ [];
+        put = put_more text refuses cost so.answers waiting waiting' held0 before.held after.held false refused (refused || more) steps0 before.steps after.steps joins.answer so.put joins.moves (ap (λ b. refused || b) joins.refusal) joins.paid;
         state = met.next;
         at = met.at;
-        goes_on = λ more last left runs.
-            subst (λ (all : List R). Obeyings Obeys start (demo_commands documents) all last left) (sym (append_assoc so.answers (answer ∷ []) more))
-            (so.goes_on (answer ∷ more) last left
-            (subst (λ (cs : List Command). Obeyings Obeys so.state cs (answer ∷ more) last left) (sym (first_from place inside))
-            (subst (λ (c : Command). Obeyings Obeys so.state (c ∷ from (place + 1)) (answer ∷ more) last left) is (obey met.allowed runs))));
+        goes_on = λ rest_of last left runs.
+            subst (λ (all : List R). Obeyings Obeys start (demo_commands documents) all last left) (sym (append_assoc so.answers (joins.answer ∷ []) rest_of))
+            (so.goes_on (joins.answer ∷ rest_of) last left
+            (subst (λ (cs : List Command). Obeyings Obeys so.state cs (joins.answer ∷ rest_of) last left) (sym (first_from place inside))
+            (subst (λ (c : Command). Obeyings Obeys so.state (c ∷ from (place + 1)) (joins.answer ∷ rest_of) last left) is (obey met.allowed runs))));
       }
 
-  stops_at : (held0 : Option (List ℕ)) (steps0 place : ℕ) (held : Option (List ℕ)) (machine : W) (refused : Bool) (steps : ℕ) → (so : DemoSoFar held0 steps0 place held machine refused steps)
-      → Obeyings Obeys start (demo_commands documents) so.answers so.state (from place)
-  stops_at held0 steps0 place held machine refused steps so =
-      subst (λ (all : List R). Obeyings Obeys start (demo_commands documents) all so.state (from place)) (append-nil so.answers) (so.goes_on [] so.state (from place) rest)
+  -- For what was answered so far.
+  module _ (place : ℕ) (waiting : List ℕ) (machine : W) (refused : Bool) (before middle after : Output) (so : DemoSoFar before.held before.steps place waiting middle.held machine refused middle.steps)
+      (same : middle.finishes ≡ before.finishes) (since : before.faults ≤ middle.faults) where
+    stops_at : Obeyings Obeys start (demo_commands documents) so.answers so.state (from place)
+    stops_at = subst (λ (all : List R). Obeyings Obeys start (demo_commands documents) all so.state (from place)) (append-nil so.answers) (so.goes_on [] so.state (from place) rest)
 
-  -- Memory ran out for the next command.
-  pub demo_lost : (place : ℕ) (machine : W) (refused : Bool) (steps : ℕ) (before after : Output) → DemoSoFar before.held before.steps place after.held machine refused steps → steps ≤ after.steps → after.finishes ≡ before.finishes
-      → RunsOut text refuses cost (ObeysFirst Obeys start (demo_commands documents)) before after
-  demo_lost place machine refused steps before after so later same = record {
-    answers = so.answers;
-    put = so.put.put;
-    steps = omega (arith, so.put.paid, later);
-    finishes = same;
-    lines = record { last = so.state; left = from place; runs = stops_at before.held before.steps place after.held machine refused steps so };
-  }
+    first_ones : ObeysFirst Obeys start (demo_commands documents) so.answers
+    first_ones = record { last = so.state; left = from place; runs = stops_at }
 
-  -- The sink failed within the answer of a command.
-  pub demo_unwritten : (place : ℕ) (machine machine' : W) (refused : Bool) (steps : ℕ) (held : Option (List ℕ)) (before after : Output) (command : Command) (answer : R) (piece : List ℕ)
-      → place < documents + 6 → DemoSoFar before.held before.steps place held machine refused steps → command ≡ demo_command documents place → ((s : S) → Stands machine s → Meets Stands (Obeys s command answer) machine')
-      → piece ≡ text answer → AppendsPrefix held after.held piece → after.steps ≡ steps + cost answer → after.finishes ≡ before.finishes
-      → BreaksOff text refuses cost (ObeysFirst Obeys start (demo_commands documents)) before after
-  demo_unwritten place machine machine' refused steps held before after command answer piece inside so is obeyed same prefix paid finishes =
-      let met : Meets Stands (Obeys so.state command answer) machine' = obeyed so.state so.at in
-      record {
-        answers = so.answers ++ answer ∷ [];
-        put = put_in_part text refuses cost so.answers before.held held after.held answer piece so.put.put same prefix;
-        steps = omega (arith, paid, so.put.paid, sum_by-append cost so.answers (answer ∷ []));
-        finishes = inl finishes;
-        lines = record {
-          last = met.next;
-          left = from (place + 1);
-          runs =
-              so.goes_on (answer ∷ []) met.next (from (place + 1))
-              (subst (λ (cs : List Command). Obeyings Obeys so.state cs (answer ∷ []) met.next (from (place + 1))) (sym (first_from place inside))
-              (subst (λ (c : Command). Obeyings Obeys so.state (c ∷ from (place + 1)) (answer ∷ []) met.next (from (place + 1))) is (obey met.allowed rest)));
-        };
-      }
+    lost : Appends middle.held after.held waiting → middle.steps ≤ after.steps → after.finishes ≡ middle.finishes → RunsOut text refuses cost (ObeysFirst Obeys start (demo_commands documents)) before after
+    lost put later still = record {
+      answers = so.answers;
+      put = moves_last (flat_map text so.answers) waiting before.held middle.held after.held so.put.put put;
+      steps = omega (arith, so.put.paid, later);
+      finishes = still ∙ same;
+      lines = first_ones;
+    }
 
-  none_left : documents + 6 - (documents + 6) ≡ 0
-  none_left = omega arith
+    unput : AppendsPrefix middle.held after.held waiting → after.steps ≡ middle.steps → after.finishes ≡ middle.finishes → BreaksOff text refuses cost (ObeysFirst Obeys start (demo_commands documents)) before after
+    unput prefix paid still = record {
+      answers = so.answers;
+      put = puts_front text so.answers before.held after.held (moves_prefix (flat_map text so.answers) waiting before.held middle.held after.held so.put.put prefix);
+      steps = paid ∙ so.put.paid;
+      finishes = inl (still ∙ same);
+      lines = first_ones;
+    }
 
-  -- All commands were obeyed.
-  demo_through : (machine : W) (refused : Bool) (before after : Output) → DemoSoFar before.held before.steps (documents + 6) after.held machine refused after.steps → after.finishes ≡ before.finishes → before.faults ≤ after.faults
-      → Continues text refuses cost (ObeysThrough Obeys Stands machine start (demo_commands documents)) false refused before after
-  demo_through machine refused before after so same later = record {
-    answers = so.answers;
-    put = so.put.put;
-    refusals = so.put.refusals;
-    steps = so.put.paid;
-    finishes = same;
-    later = later;
-    lines = record {
-      last = so.state;
-      runs =
-          subst (λ (n : ℕ). Obeyings Obeys start (demo_commands documents) so.answers so.state (demo_commands_from documents (documents + 6) n)) none_left
-          (stops_at before.held before.steps (documents + 6) after.held machine refused after.steps so);
-      at = so.at;
-    };
-  }
+    -- The sink failed within what waited.
+    pub demo_unput : AppendsPrefix middle.held after.held waiting → after.steps ≡ middle.steps → after.finishes ≡ middle.finishes → Rose middle.faults after.faults
+        → BreaksOff text refuses cost (ObeysFirst Obeys start (demo_commands documents)) before after × Rose before.faults after.faults
+    demo_unput prefix paid still rose = (unput prefix paid still, rose_since before.faults middle.faults after.faults since rose)
 
-  pub demo_ended : (place : ℕ) (machine : W) (refused : Bool) (before after : Output) → place ≡ documents + 6 → DemoSoFar before.held before.steps place after.held machine refused after.steps → after.finishes ≡ before.finishes → before.faults ≤ after.faults
-      → Continues text refuses cost (ObeysThrough Obeys Stands machine start (demo_commands documents)) false refused before after
-  demo_ended place machine refused before after last so same later =
-      demo_through machine refused before after (subst (λ (n : ℕ). DemoSoFar before.held before.steps n after.held machine refused after.steps) last so) same later
+    -- Memory ran out for the next command.
+    pub demo_last : (status : Status) → PutsLast waiting status middle after → after.steps ≡ middle.steps → Ended text refuses cost NotWhole NeverTaken (ObeysFirst Obeys start (demo_commands documents)) false status before after
+    demo_last Status.Done e paid = absurd e
+    demo_last Status.Refused e paid = absurd e
+    demo_last Status.Usage e paid = absurd e
+    demo_last Status.ReadFault e paid = absurd e
+    demo_last Status.WriteFault e paid = demo_unput e.0 paid e.1 e.2
+    demo_last Status.Memory e paid = lost e.0 (omega (arith, paid)) e.1
+    demo_last Status.TooMuch e paid = absurd e
+
+    -- For the command at that place.
+    module _ (command : Command) (inside : place < documents + 6) (is : command ≡ demo_command documents place) where
+      abbrev Answer : R → Type 0
+      Answer answer = (next : W) × ((s : S) → Stands machine s → Meets Stands (Obeys s command answer) next)
+
+      unwritten : FailsWithin text refuses cost Answer waiting middle after → after.finishes ≡ middle.finishes → BreaksOff text refuses cost (ObeysFirst Obeys start (demo_commands documents)) before after
+      unwritten fails still =
+          let met : Meets Stands (Obeys so.state command fails.answer) fails.allowed.0 = fails.allowed.1 so.state so.at in
+          record {
+            answers = so.answers ++ fails.answer ∷ [];
+            put = put_in_part text refuses cost so.answers waiting before.held middle.held after.held fails.answer so.put.put fails.put;
+            steps = omega (arith, fails.paid, so.put.paid, sum_by-append cost so.answers (fails.answer ∷ []));
+            finishes = inl (still ∙ same);
+            lines = record {
+              last = met.next;
+              left = from (place + 1);
+              runs =
+                  so.goes_on (fails.answer ∷ []) met.next (from (place + 1))
+                  (subst (λ (cs : List Command). Obeyings Obeys so.state cs (fails.answer ∷ []) met.next (from (place + 1))) (sym (first_from place inside))
+                  (subst (λ (c : Command). Obeyings Obeys so.state (c ∷ from (place + 1)) (fails.answer ∷ []) met.next (from (place + 1))) is (obey met.allowed rest)));
+            };
+          }
+
+      breaks : FailsToPut text refuses cost Answer waiting middle after → BreaksOff text refuses cost (ObeysFirst Obeys start (demo_commands documents)) before after
+      breaks fails = elim fails.which as (λ _. BreaksOff text refuses cost (ObeysFirst Obeys start (demo_commands documents)) before after) [ inl early ↦ unput early.put early.same fails.finishes | inr late ↦ unwritten late fails.finishes ]
+
+      -- Its answer did not join what waits.
+      pub demo_within : (status : Status) → JoinsNot text refuses cost Answer waiting status middle after → Ended text refuses cost NotWhole NeverTaken (ObeysFirst Obeys start (demo_commands documents)) false status before after
+      demo_within Status.Done e = absurd e
+      demo_within Status.Refused e = absurd e
+      demo_within Status.Usage e = absurd e
+      demo_within Status.ReadFault e = absurd e
+      demo_within Status.WriteFault e = (breaks e, rose_since before.faults middle.faults after.faults since e.rose)
+      demo_within Status.Memory e = lost e.put e.later e.finishes
+      demo_within Status.TooMuch e = absurd e
+
+    none_left : documents + 6 - (documents + 6) ≡ 0
+    none_left = omega arith
+
+    -- All commands were obeyed, and all that waited was put.
+    pub demo_ended : place ≡ documents + 6 → Appends middle.held after.held waiting → after.steps ≡ middle.steps → after.finishes ≡ middle.finishes → middle.faults ≤ after.faults
+        → Continues text refuses cost (ObeysThrough Obeys Stands machine start (demo_commands documents)) false refused before after
+    demo_ended last put paid still later = record {
+      answers = so.answers;
+      put = moves_last (flat_map text so.answers) waiting before.held middle.held after.held so.put.put put;
+      refusals = so.put.refusals;
+      steps = paid ∙ so.put.paid;
+      finishes = still ∙ same;
+      later = omega (arith, since, later);
+      lines = record {
+        last = so.state;
+        runs =
+            subst (λ (n : ℕ). Obeyings Obeys start (demo_commands documents) so.answers so.state (demo_commands_from documents (documents + 6) n)) none_left
+            (subst (λ (n : ℕ). Obeyings Obeys start (demo_commands documents) so.answers so.state (from n)) last stops_at);
+        at = so.at;
+      };
+    }

@@ -1,11 +1,9 @@
 -- The ends of a run over lines, from how far it has come.
-use Rattle.std.proofs.Common.{◌≡◌, ◌≤◌, ◌+◌, ◌^◌, ℕ, Bool, ◌||◌, if◌then◌else◌, ◌⊎◌, inl, inr, List, [], ◌∷◌, ◌++◌, Option, Some, None, Ok, sum_by, flat_map, refl, sym, ap, ◌∙◌, subst, arith, true, false}
-use Rattle.std.specs.Io.KnownBytes.{Appends, Keeps}
-use Rattle.std.proofs.KnownBytes.{Appends-nil, Appends-kept}
+use Rattle.std.proofs.Common.{◌≡◌, ◌≤◌, ◌^◌, ℕ, Bool, ◌||◌, inl, inr, List, [], ◌∷◌, ◌++◌, Option, Some, None, Ok, flat_map, refl, sym, ap, ◌∙◌, subst, arith, true, false}
+use Rattle.std.proofs.KnownBytes.{Appends-nil}
 use Rattle.std.proofs.lemmas.List.Sums.{sum_by-append}
 use Rattle.sk_io.specs.declared.line.Line.{Line}
 use Rattle.sk_io.specs.declared.line.LineStop.{LineStop}
-use Rattle.sk_io.specs.Causes.{Rose, counted}
 use Rattle.sk_io.specs.Fronts.{AppendsPrefix}
 use Rattle.sk_io.specs.Reading.{Reader, outcome}
 use Rattle.sk_io.specs.Answers.{Ends, Stops, ReadsOn}
@@ -13,34 +11,45 @@ use Rattle.sk_run.specs.declared.status.Status.{Status}
 use Rattle.sk_run.specs.Lines.{AnsweredLine, stop}
 use Rattle.sk_run.specs.Outsides.{Seen, Output, WhereTold}
 use Rattle.sk_run.specs.Ends.{AnswersTaken, AnswersFirst, AnswersThrough, Stopped}
-use Rattle.sk_run.specs.Ended.{CutsShort, BreaksOff, RunsOut, Continues}
+use Rattle.sk_run.specs.Ended.{CutsShort, BreaksOff, RunsOut, Continues, Ended, NotWhole}
+use Rattle.sk_run.specs.Waiting.{Moves, Joins, LacksMemory, FailsBefore, FailsWithin, FailsToPut, JoinsNot}
+use Rattle.sk_run.proofs.WaitingLemmas.{moves_on, moves_done, moves_last, moves_prefix, puts_front}
 use Rattle.sk_run.proofs.RunLemmas.{IsPut, none_put, put_more, put_in_part, Reached, begins, reach_more, first_ones, lost, cut, through, rose_since}
 
 -- For answers that have these texts, refuse their lines so and tell of so many readings, and an answerer that stands for states, where a line may be answered so.
 module _ {W S R : Type 0} (text : R → List ℕ) (refuses : R → Bool) (cost : R → ℕ) (Stands : W → S → Type 0) (Answers : S → List ℕ → R → S → Type 0) where
-  -- The answers so far were put and counted. Where the source tells its bytes, they are those of its first lines.
-  pub record SoFar (first : W) (left0 held0 : Option (List ℕ)) (refused0 : Bool) (steps0 : ℕ) (reader : Reader) (left held : Option (List ℕ)) (answerer : W) (refused : Bool) (steps : ℕ) : Type 0 where
+  -- The answers so far were put, but for what waits, and counted. Where the source tells its bytes, they are those of its first lines.
+  pub record SoFar (first : W) (left0 held0 : Option (List ℕ)) (refused0 : Bool) (steps0 : ℕ) (reader : Reader) (left : Option (List ℕ)) (waiting : List ℕ) (held : Option (List ℕ)) (answerer : W) (refused : Bool) (steps : ℕ) : Type 0 where
     pub answers : List R
-    pub put : IsPut text refuses cost answers held0 held refused0 refused steps0 steps
+    pub put : IsPut text refuses cost answers waiting held0 held refused0 refused steps0 steps
     pub reached : (bytes : List ℕ) → left0 ≡ Some bytes → (s : S) → Stands first s → Reached Stands Answers s bytes answers reader left answerer
 
-  pub so_none : (first : W) (left held : Option (List ℕ)) (refused : Bool) (steps : ℕ) (reader : Reader)
-      → reader ≡ record { held = []; given = 0; room = 2 ^ 40; stopped = None; ended = false } → SoFar first left held refused steps reader left held first refused steps
-  so_none first left held refused steps reader new = record {
+  pub so_none : (first : W) (left : Option (List ℕ)) (waiting : List ℕ) (held : Option (List ℕ)) (refused : Bool) (steps : ℕ) (reader : Reader)
+      → reader ≡ record { held = []; given = 0; room = 2 ^ 40; stopped = None; ended = false } → waiting ≡ [] → SoFar first left held refused steps reader left waiting held first refused steps
+  so_none first left waiting held refused steps reader new none = record {
     answers = [];
-    put = none_put text refuses cost held refused steps;
+    put = none_put text refuses cost waiting held refused steps none;
     reached = λ bytes told s at. begins Stands Answers s bytes reader left first new told at;
   }
 
-  -- A line was read, answered and its answer put.
-  pub so_more : (first : W) (left0 held0 : Option (List ℕ)) (refused0 : Bool) (steps0 : ℕ) (reader reader' : Reader) (left left' held held' : Option (List ℕ)) (answerer answerer' : W) (refused refused' : Bool) (steps steps' : ℕ) (l : Line) (answer : R) (piece : List ℕ)
-      → SoFar first left0 held0 refused0 steps0 reader left held answerer refused steps → ReadsOn reader left reader' left' (outcome (Ok (Some l))) → AnsweredLine Stands Answers answerer l answer answerer'
-      → piece ≡ text answer → Appends held held' piece → refused' ≡ (refused || refuses answer) → steps' ≡ steps + cost answer
-      → SoFar first left0 held0 refused0 steps0 reader' left' held' answerer' refused' steps'
-  so_more first left0 held0 refused0 steps0 reader reader' left left' held held' answerer answerer' refused refused' steps steps' l answer piece so reads answered is put refusal paid = record {
-    answers = so.answers ++ answer ∷ [];
-    put = put_more text refuses cost so.answers held0 held held' refused0 refused refused' steps0 steps steps' answer piece so.put is put refusal paid;
-    reached = λ bytes told s at. reach_more Stands Answers s bytes so.answers reader reader' left left' answerer answerer' answer l (so.reached bytes told s at) reads answered;
+  -- Of what waits a front was put.
+  pub so_put : (first : W) (left0 held0 : Option (List ℕ)) (refused0 : Bool) (steps0 : ℕ) (reader : Reader) (left : Option (List ℕ)) (waiting waiting' : List ℕ) (held held' : Option (List ℕ)) (answerer : W) (refused : Bool) (steps : ℕ)
+      → SoFar first left0 held0 refused0 steps0 reader left waiting held answerer refused steps → Moves waiting waiting' held held' → SoFar first left0 held0 refused0 steps0 reader left waiting' held' answerer refused steps
+  so_put first left0 held0 refused0 steps0 reader left waiting waiting' held held' answerer refused steps so moves = record {
+    answers = so.answers;
+    put = record { put = moves_on (flat_map text so.answers) waiting waiting' held0 held held' so.put.put moves; refusals = so.put.refusals; paid = so.put.paid };
+    reached = so.reached;
+  }
+
+  -- A line was read and answered, and its answer joined what waits.
+  pub so_more : (first : W) (left0 held0 : Option (List ℕ)) (refused0 : Bool) (steps0 : ℕ) (reader reader' : Reader) (left left' : Option (List ℕ)) (waiting waiting' : List ℕ) (answerer answerer' : W) (refused more : Bool) (before after : Output) (l : Line)
+      → SoFar first left0 held0 refused0 steps0 reader left waiting before.held answerer refused before.steps → ReadsOn reader left reader' left' (outcome (Ok (Some l)))
+      → Joins text refuses cost (λ answer. AnsweredLine Stands Answers answerer l answer answerer') waiting waiting' more before after
+      → SoFar first left0 held0 refused0 steps0 reader' left' waiting' after.held answerer' (refused || more) after.steps
+  so_more first left0 held0 refused0 steps0 reader reader' left left' waiting waiting' answerer answerer' refused more before after l so reads joins = record {
+    answers = so.answers ++ joins.answer ∷ [];
+    put = put_more text refuses cost so.answers waiting waiting' held0 before.held after.held refused0 refused (refused || more) steps0 before.steps after.steps joins.answer so.put joins.moves (ap (λ b. refused || b) joins.refusal) joins.paid;
+    reached = λ bytes told s at. reach_more Stands Answers s bytes so.answers reader reader' left left' answerer answerer' joins.answer l (so.reached bytes told s at) reads joins.allowed;
   }
 
   -- What comes first of what a source tells, from each state that the first answerer stands for.
@@ -67,55 +76,92 @@ module _ {W S R : Type 0} (text : R → List ℕ) (refuses : R → Bool) (cost :
         lines = λ bytes told s at. record { last = s; pending = []; rest = bytes; runs = stop; left = told };
       })
 
-  -- The source stopped.
-  pub ends_unread : (first : W) (seen seen' : Seen) (refused0 : Bool) (before after : Output) (reader reader' : Reader) (left : Option (List ℕ)) (answerer : W) (refused : Bool) (why : LineStop) (status : Status)
-      → SoFar first seen.left before.held refused0 before.steps reader left after.held answerer refused after.steps → Stops reader left reader' seen'.left why → (reader.ended ≡ true → ⊥) → after.finishes ≡ before.finishes
+  -- The source stopped, when nothing waited.
+  pub ends_unread : (first : W) (seen seen' : Seen) (refused0 : Bool) (before after : Output) (reader reader' : Reader) (left : Option (List ℕ)) (waiting : List ℕ) (answerer : W) (refused : Bool) (why : LineStop) (status : Status)
+      → SoFar first seen.left before.held refused0 before.steps reader left waiting after.held answerer refused after.steps → waiting ≡ [] → Stops reader left reader' seen'.left why → (reader.ended ≡ true → ⊥) → after.finishes ≡ before.finishes
       → Stopped status seen seen' → CutsShort text refuses cost (TakenOf first seen seen' status) before after
-  ends_unread first seen seen' refused0 before after reader reader' left answerer refused why status so stops not_ended same cause = record {
+  ends_unread first seen seen' refused0 before after reader reader' left waiting answerer refused why status so none stops not_ended same cause = record {
     answers = so.answers;
-    put = so.put.put;
+    put = moves_done (flat_map text so.answers) waiting before.held after.held so.put.put none;
     steps = so.put.paid;
     finishes = same;
     lines = (cause, λ bytes told s at. cut Stands Answers s bytes so.answers reader reader' left seen'.left answerer why (so.reached bytes told s at) stops not_ended);
   }
 
-  -- Memory ran out for the line that was read.
-  pub ends_lost : (first : W) (seen : Seen) (left' : Option (List ℕ)) (refused0 : Bool) (before after : Output) (reader reader' : Reader) (left : Option (List ℕ)) (answerer : W) (refused : Bool) (steps : ℕ) (l : Line)
-      → SoFar first seen.left before.held refused0 before.steps reader left after.held answerer refused steps → ReadsOn reader left reader' left' (outcome (Ok (Some l))) → steps ≤ after.steps → after.finishes ≡ before.finishes
-      → RunsOut text refuses cost (FirstOf first seen left') before after
-  ends_lost first seen left' refused0 before after reader reader' left answerer refused steps l so reads later same = record {
-    answers = so.answers;
-    put = so.put.put;
-    steps = omega (arith, so.put.paid, later);
-    finishes = same;
-    lines = λ bytes told s at. lost Stands Answers s bytes so.answers reader reader' left left' answerer l (so.reached bytes told s at) reads;
-  }
-
-  -- The sink failed within the answer of a line.
-  pub ends_unwritten : (first : W) (seen : Seen) (left' : Option (List ℕ)) (refused0 : Bool) (before after : Output) (reader reader' : Reader) (left held : Option (List ℕ)) (answerer answerer' : W) (refused : Bool) (steps : ℕ) (l : Line) (answer : R) (piece : List ℕ)
-      → SoFar first seen.left before.held refused0 before.steps reader left held answerer refused steps → ReadsOn reader left reader' left' (outcome (Ok (Some l))) → AnsweredLine Stands Answers answerer l answer answerer'
-      → piece ≡ text answer → AppendsPrefix held after.held piece → after.steps ≡ steps + cost answer → after.finishes ≡ before.finishes
-      → BreaksOff text refuses cost (FirstOf first seen left') before after
-  ends_unwritten first seen left' refused0 before after reader reader' left held answerer answerer' refused steps l answer piece so reads answered is prefix paid same = record {
-    answers = so.answers ++ answer ∷ [];
-    put = put_in_part text refuses cost so.answers before.held held after.held answer piece so.put.put is prefix;
-    steps = omega (arith, paid, so.put.paid, sum_by-append cost so.answers (answer ∷ []));
-    finishes = inl same;
-    lines = λ bytes told s at.
-        let more = reach_more Stands Answers s bytes so.answers reader reader' left left' answerer answerer' answer l (so.reached bytes told s at) reads answered in
-        first_ones Stands Answers s bytes (so.answers ++ answer ∷ []) reader' left' answerer' more;
-  }
-
-  -- The end was reached.
-  pub ends_read : (first : W) (seen : Seen) (left' : Option (List ℕ)) (refused0 : Bool) (before after : Output) (reader reader' : Reader) (left : Option (List ℕ)) (answerer : W) (refused : Bool)
-      → SoFar first seen.left before.held refused0 before.steps reader left after.held answerer refused after.steps → Ends reader left reader' left' → after.finishes ≡ before.finishes → before.faults ≤ after.faults
+  -- The end was reached, when nothing waited.
+  pub ends_read : (first : W) (seen : Seen) (left' : Option (List ℕ)) (refused0 : Bool) (before after : Output) (reader reader' : Reader) (left : Option (List ℕ)) (waiting : List ℕ) (answerer : W) (refused : Bool)
+      → SoFar first seen.left before.held refused0 before.steps reader left waiting after.held answerer refused after.steps → waiting ≡ [] → Ends reader left reader' left' → after.finishes ≡ before.finishes → before.faults ≤ after.faults
       → Continues text refuses cost (ThroughOf first seen left' answerer) refused0 refused before after
-  ends_read first seen left' refused0 before after reader reader' left answerer refused so ends same later = record {
+  ends_read first seen left' refused0 before after reader reader' left waiting answerer refused so none ends same later = record {
     answers = so.answers;
-    put = so.put.put;
+    put = moves_done (flat_map text so.answers) waiting before.held after.held so.put.put none;
     refusals = so.put.refusals;
     steps = so.put.paid;
     finishes = same;
     later = later;
     lines = λ bytes told s at. through Stands Answers s bytes so.answers reader reader' left left' answerer (so.reached bytes told s at) ends;
   }
+
+  -- The sink failed within what waited, before the source was asked.
+  pub ends_unput : (first : W) (seen : Seen) (refused0 : Bool) (before after : Output) (reader : Reader) (left : Option (List ℕ)) (waiting : List ℕ) (held : Option (List ℕ)) (answerer : W) (refused : Bool)
+      → SoFar first seen.left before.held refused0 before.steps reader left waiting held answerer refused after.steps → AppendsPrefix held after.held waiting → after.finishes ≡ before.finishes
+      → BreaksOff text refuses cost (FirstOf first seen left) before after
+  ends_unput first seen refused0 before after reader left waiting held answerer refused so prefix same = record {
+    answers = so.answers;
+    put = puts_front text so.answers before.held after.held (moves_prefix (flat_map text so.answers) waiting before.held held after.held so.put.put prefix);
+    steps = so.put.paid;
+    finishes = inl same;
+    lines = λ bytes told s at. first_ones Stands Answers s bytes so.answers reader left answerer (so.reached bytes told s at);
+  }
+
+  -- For a line that was read behind those so far.
+  module _ (first : W) (seen seen' : Seen) (refused0 : Bool) (before middle after : Output) (reader reader' : Reader) (left : Option (List ℕ)) (waiting : List ℕ) (answerer : W) (refused : Bool) (l : Line)
+      (so : SoFar first seen.left before.held refused0 before.steps reader left waiting middle.held answerer refused middle.steps) (reads : ReadsOn reader left reader' seen'.left (outcome (Ok (Some l))))
+      (same : middle.finishes ≡ before.finishes) (since : before.faults ≤ middle.faults) where
+    abbrev Answer : R → Type 0
+    Answer answer = (next : W) × AnsweredLine Stands Answers answerer l answer next
+
+    -- The sink failed, before its answer was made.
+    breaks_before : FailsBefore text refuses cost Answer waiting middle after → after.finishes ≡ middle.finishes → BreaksOff text refuses cost (FirstOf first seen seen'.left) before after
+    breaks_before fails still = record {
+      answers = so.answers;
+      put = puts_front text so.answers before.held after.held (moves_prefix (flat_map text so.answers) waiting before.held middle.held after.held so.put.put fails.put);
+      steps = fails.same ∙ so.put.paid;
+      finishes = inl (still ∙ same);
+      lines = λ bytes told s at. lost Stands Answers s bytes so.answers reader reader' left seen'.left answerer l (so.reached bytes told s at) reads;
+    }
+
+    -- The sink failed, when its answer was made.
+    breaks_within : FailsWithin text refuses cost Answer waiting middle after → after.finishes ≡ middle.finishes → BreaksOff text refuses cost (FirstOf first seen seen'.left) before after
+    breaks_within fails still = record {
+      answers = so.answers ++ fails.answer ∷ [];
+      put = put_in_part text refuses cost so.answers waiting before.held middle.held after.held fails.answer so.put.put fails.put;
+      steps = omega (arith, fails.paid, so.put.paid, sum_by-append cost so.answers (fails.answer ∷ []));
+      finishes = inl (still ∙ same);
+      lines = λ bytes told s at.
+          let more = reach_more Stands Answers s bytes so.answers reader reader' left seen'.left answerer fails.allowed.0 fails.answer l (so.reached bytes told s at) reads fails.allowed.1 in
+          first_ones Stands Answers s bytes (so.answers ++ fails.answer ∷ []) reader' seen'.left fails.allowed.0 more;
+    }
+
+    breaks : FailsToPut text refuses cost Answer waiting middle after → BreaksOff text refuses cost (FirstOf first seen seen'.left) before after
+    breaks fails = elim fails.which as (λ _. BreaksOff text refuses cost (FirstOf first seen seen'.left) before after) [ inl early ↦ breaks_before early fails.finishes | inr late ↦ breaks_within late fails.finishes ]
+
+    -- Memory ran out for it.
+    runs_out : LacksMemory text refuses cost Answer waiting middle after → RunsOut text refuses cost (FirstOf first seen seen'.left) before after
+    runs_out lacks = record {
+      answers = so.answers;
+      put = moves_last (flat_map text so.answers) waiting before.held middle.held after.held so.put.put lacks.put;
+      steps = omega (arith, so.put.paid, lacks.later);
+      finishes = lacks.finishes ∙ same;
+      lines = λ bytes told s at. lost Stands Answers s bytes so.answers reader reader' left seen'.left answerer l (so.reached bytes told s at) reads;
+    }
+
+    -- Its answer did not join what waits.
+    pub ends_within : (status : Status) → JoinsNot text refuses cost Answer waiting status middle after → Ended text refuses cost NotWhole (TakenOf first seen seen') (FirstOf first seen seen'.left) refused0 status before after
+    ends_within Status.Done e = absurd e
+    ends_within Status.Refused e = absurd e
+    ends_within Status.Usage e = absurd e
+    ends_within Status.ReadFault e = absurd e
+    ends_within Status.WriteFault e = (breaks e, rose_since before.faults middle.faults after.faults since e.rose)
+    ends_within Status.Memory e = runs_out e
+    ends_within Status.TooMuch e = absurd e

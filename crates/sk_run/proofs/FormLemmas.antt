@@ -7,8 +7,7 @@ use Rattle.std.specs.Str.Parse.{ParsesUnsigned, digits_value}
 use Rattle.std.specs.List.{list_all}
 use Rattle.std.specs.Char.{is_ascii_digit}
 use Rattle.sk_run.specs.declared.form.Form.{Form}
-use Rattle.sk_run.specs.declared.form.Form.TheVariants as Form
-use Rattle.sk_run.specs.Forms.{is_size, most_documents, demo_of}
+use Rattle.sk_run.specs.Forms.{is_size, demo_of}
 
 own : IsNumeralModel (λ ds. list_all is_ascii_digit ds ≡ true) (digits_value 10)
 own = numerals_by_value _ (search rules)

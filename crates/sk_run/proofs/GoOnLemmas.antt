@@ -1,20 +1,20 @@
 -- One part of a run behind another.
-use Rattle.std.proofs.Common.{◌≡◌, ◌≤◌, ◌+◌, ◌<◌, ℕ, Bool, ◌||◌, if◌then◌else◌, ◌⊎◌, inl, inr, List, [], ◌∷◌, ◌++◌, Option, Some, None, sum_by, flat_map, refl, sym, ap, ◌∙◌, subst, arith, true, false, append_assoc, append-nil}
+use Rattle.std.proofs.Common.{◌≡◌, ◌+◌, ℕ, Bool, ◌||◌, if◌then◌else◌, ◌⊎◌, inl, inr, List, [], ◌∷◌, ◌++◌, Option, Some, None, sum_by, flat_map, refl, sym, ap, ◌∙◌, subst, arith, true, append_assoc, append-nil}
 use Rattle.std.specs.List.{list_any}
 use Rattle.std.specs.Io.KnownBytes.{Appends, Keeps}
 use Rattle.std.proofs.KnownBytes.{Appends-nil, Appends-trans, Appends-kept}
 use Rattle.std.proofs.lemmas.List.Sums.{sum_by-append}
 use Rattle.std.proofs.lemmas.List.Folds.{list_any-append}
 use Rattle.std.proofs.lemmas.Grind.{flat_map-append}
-use Rattle.sk_io.specs.Causes.{Rose, counted}
+use Rattle.sk_io.specs.Causes.{counted}
 use Rattle.sk_io.specs.Fronts.{AppendsPrefix}
 use Rattle.sk_run.specs.declared.status.Status.{Status}
-use Rattle.sk_run.specs.declared.status.Status.TheVariants as Status
 use Rattle.sk_run.specs.Outsides.{Output}
 use Rattle.sk_run.specs.Ends.{PutsFront}
-use Rattle.sk_run.specs.Ended.{Finishes, CutsShort, BreaksOff, RunsOut, Continues, Ended, NotWhole, finished_status}
-use Rattle.sk_run.specs.Closing.{ClosedBy, ClosedOrNot, NeverTaken}
-use Rattle.sk_run.proofs.RunLemmas.{or-false, or-assoc, rose_since, put_in_part}
+use Rattle.sk_run.specs.Ended.{Finishes, CutsShort, BreaksOff, RunsOut, Continues, Ended, finished_status}
+use Rattle.sk_run.specs.Closing.{ClosedBy, ClosedOrNot}
+use Rattle.sk_run.proofs.RunLemmas.{or-false, or-assoc, rose_since}
+use Rattle.sk_run.proofs.WaitingLemmas.{puts_front}
 
 module _ {R : Type 0} (text : R → List ℕ) (refuses : R → Bool) (cost : R → ℕ) where
   -- What is said of the answers may be said in other words.
@@ -143,7 +143,7 @@ module _ {Whole S R : Type 0} (text : R → List ℕ) (refuses : R → Bool) (co
       → (after.finishes ≡ before.finishes) ⊎ (after.finishes ≡ counted before.finishes) → after.steps ≡ before.steps → BreaksOff text refuses cost (ClosedOrNot Stands Closes now) before after
   closes_in_part answer piece before after closes free is put finishes steps = record {
     answers = answer ∷ [];
-    put = put_in_part text refuses cost [] before.held before.held after.held answer piece (Appends-nil before.held) is put;
+    put = puts_front text (answer ∷ []) before.held after.held (subst (λ w. AppendsPrefix before.held after.held w) (is ∙ sym (append-nil (text answer))) put);
     steps = omega (arith, free, steps);
     finishes = finishes;
     lines = inr (record { closing = answer; alone = refl; closes = closes });

@@ -1,5 +1,7 @@
 mod MachineLemmas
+mod WaitingLemmas
 mod RunLemmas
+mod AnsweringLemmas
 mod EndLemmas
 mod GoOnLemmas
 mod LineEndLemmas

@@ -1,10 +1,10 @@
 -- A run over lines, and what closes it.
-use Rattle.std.proofs.Common.{◌≡◌, ℕ, Bool, inl, inr, List, [], ◌∷◌, ◌++◌, Option, Some, sym, ap, ◌∙◌, subst, append-nil}
+use Rattle.std.proofs.Common.{ℕ, Bool, inl, inr, List, [], ◌++◌, Option, sym, ap, ◌∙◌, subst, append-nil}
 use Rattle.sk_base.specs.declared.command.Command.{Command}
 use Rattle.sk_run.specs.declared.status.Status.{Status}
 use Rattle.sk_run.specs.Lines.{Runs}
 use Rattle.sk_run.specs.Outsides.{Seen, Output, WhereTold}
-use Rattle.sk_run.specs.Ends.{AnswersAll, AnswersTaken, AnswersFirst, AnswersSome, AnswersThrough, Stopped}
+use Rattle.sk_run.specs.Ends.{AnswersAll, AnswersTaken, AnswersSome, AnswersThrough, Stopped}
 use Rattle.sk_run.specs.Ended.{Continues, Ended, NotWhole}
 use Rattle.sk_run.specs.Closing.{ClosedBy, ClosedOrNot, NeverTaken}
 use Rattle.sk_run.proofs.EndLemmas.{FirstOf, TakenOf, ThroughOf}

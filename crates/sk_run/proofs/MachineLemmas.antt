@@ -1,11 +1,10 @@
 -- How a machine goes from state to state.
-use Rattle.std.proofs.Common.{◌≡◌, ◌≤◌, ◌<◌, ℕ, true, false, if◌then◌else◌, List, length, nat_lt, Option, Some, None, Result, Ok, refl, sym, ap, ◌∙◌, subst, arith}
+use Rattle.std.proofs.Common.{◌≡◌, ◌≤◌, ◌<◌, ℕ, true, false, if◌then◌else◌, List, length, nat_lt, Option, Some, None, Result, refl, sym, ap, ◌∙◌, subst, arith}
 use Rattle.std.proofs.lemmas.Bool.Decides.{nat_tests}
 use Rattle.std.specs.Str.{is_utf8, IsUtf8}
 use Rattle.std.proofs.lemmas.Str.{IsUtf8-from_is_utf8}
 use Rattle.sk_io.specs.LineText.{most_line}
 use Rattle.sk_base.specs.declared.command.Command.{Command}
-use Rattle.sk_base.specs.declared.command.Command.TheVariants as Command
 use Rattle.sk_base.specs.declared.find.Find.{Find}
 use Rattle.sk_base.specs.declared.find.Join.{Join}
 use Rattle.sk_base.specs.declared.schema.Field.{Field}
@@ -13,20 +12,22 @@ use Rattle.sk_record.specs.declared.fault.LineFault.{LineFault}
 use Rattle.sk_record.specs.Lines.{line_value}
 use Rattle.sk_record.specs.Told.{Told, told_by}
 use Rattle.sk_record.specs.Outcome.{outcome}
+use Rattle.sk_io.specs.declared.line.Line.{Line}
+use Rattle.sk_io.specs.declared.line.Line.TheVariants.{Whole, TooLong}
+use Rattle.sk_run.specs.declared.heard.Heard.{Heard}
 use Rattle.sk_run.specs.declared.machine.Machine.{Machine}
 use Rattle.sk_run.specs.declared.machine.Reading.{Reading}
-use Rattle.sk_run.specs.declared.machine.Reading.TheVariants as Reading
 use Rattle.sk_run.specs.declared.refusal.Refusal.TheVariants as Refusal
 use Rattle.sk_run.specs.declared.response.Response.{Response}
-use Rattle.sk_run.specs.declared.response.Response.TheVariants as Response
 use Rattle.sk_run.specs.Meaning.{Meaning, blank, refusal, told, is_blank, meaning, meaning_of}
-use Rattle.sk_run.specs.Lines.{Meets, Answered}
+use Rattle.sk_run.specs.Lines.{Meets, Answered, AnsweredLine}
 use Rattle.sk_run.specs.Queries.{find_by, text_meaning, query_meaning}
-use Rattle.sk_run.specs.Output.{State, schema_of, Obeys, Follows, Answers, AnswersQuery, AnswersAs}
-use Rattle.sk_run.specs.Machines.{StandsFor, IsAt, schema_in, Did, Obeyed, Queried}
+use Rattle.sk_run.specs.Output.{State, schema_of, Obeys, Follows, AnswersAs}
+use Rattle.sk_run.specs.Machines.{StandsFor, IsAt, schema_in, Did}
+use Rattle.sk_run.specs.Heard.{meant, meaning_as, IsHeard, Heeds, Heeded}
 
 -- A line that is not blank means what its outcome does.
-line_meant : (schema : Option (List Field)) (line : List ℕ) (o : Result Told LineFault) → length line ≤ most_line → is_blank line ≡ false → outcome schema (line_value line) ≡ o → meaning schema line ≡ meaning_of o
+pub line_meant : (schema : Option (List Field)) (line : List ℕ) (o : Result Told LineFault) → length line ≤ most_line → is_blank line ≡ false → outcome schema (line_value line) ≡ o → meaning schema line ≡ meaning_of o
 line_meant schema line o short full is =
     let fits : nat_lt most_line (length line) ≡ false = grind (arith, nat_tests) in
     ap (λ b. if b then refusal Refusal.TooLong else (if is_blank line then blank else meaning_of (outcome schema (line_value line)))) fits
@@ -51,6 +52,26 @@ long_asked join schema line long = ap (λ b. if b then refusal Refusal.TooLong e
 
 short_asked : (join : Join) (schema : Option (List Field)) (line : List ℕ) → length line ≤ most_line → query_meaning join schema line ≡ text_meaning join schema line
 short_asked join schema line short = ap (λ b. if b then refusal Refusal.TooLong else text_meaning join schema line) (short_test line short)
+
+-- A line that is too long is refused, however lines are read.
+pub long_heard : (reading : Reading) (schema : Option (List Field)) (line : List ℕ) → most_line < length line → meaning_as reading schema line ≡ refusal Refusal.TooLong
+long_heard Reading.Commands schema line long = long_meant schema line long
+long_heard (Reading.Queries join) schema line long = long_asked join schema line long
+
+-- Before a schema was accepted a query text is refused.
+pub none_asked : (join : Join) (schema : Option (List Field)) (line : List ℕ) → schema ≡ None → length line ≤ most_line → query_meaning join schema line ≡ refusal Refusal.NoSchema
+none_asked join schema line none short = short_asked join schema line short ∙ ap (λ o. text_meaning join o line) none
+
+-- A line that is no text is refused.
+pub not_text : (join : Join) (schema : Option (List Field)) (fields : List Field) (line : List ℕ) → schema ≡ Some fields → length line ≤ most_line → is_utf8 line ≡ false → query_meaning join schema line ≡ refusal Refusal.BadShape
+not_text join schema fields line some short is_not =
+    short_asked join schema line short ∙ ap (λ o. text_meaning join o line) some ∙ ap (λ b. if b then told (told_by (Command.Find (find_by join line))) else refusal Refusal.BadShape) is_not
+
+-- A text asks for a find of it.
+pub text_asked : (join : Join) (schema : Option (List Field)) (fields : List Field) (line : List ℕ) (find : Find) → schema ≡ Some fields → length line ≤ most_line → is_utf8 line ≡ true → find ≡ find_by join line → query_meaning join schema line ≡ told (told_by (Command.Find find))
+text_asked join schema fields line find some short is_text is =
+    short_asked join schema line short ∙ ap (λ o. text_meaning join o line) some ∙ ap (λ b. if b then told (told_by (Command.Find (find_by join line))) else refusal Refusal.BadShape) is_text
+    ∙ ap (λ (f : Find). told (told_by (Command.Find f))) (sym is)
 
 -- Over a store that tells these.
 module _ {M S A : Type 0} (fields : M → List Field) (Holds : M → S → Type 0) (begun : S) (Does : List Field → S → Command → Response A → S → Type 0) where
@@ -79,54 +100,25 @@ module _ {M S A : Type 0} (fields : M → List Field) (Holds : M → S → Type 
   schema_in_state (Some store) None at = absurd at
   schema_in_state (Some store) (Some s) at = ap Some (sym at.0)
 
-  -- A command that was obeyed answers its line.
-  pub answered : (old new : Machine M) (schema : Option (List Field)) (line : List ℕ) (c : Command) (response : Response A)
-      → length line ≤ most_line → is_blank line ≡ false → schema ≡ schema_in fields old → outcome schema (line_value line) ≡ Ok (told_by c) → Obeyed fields Holds begun Does old.store c response new
-      → Answered (IsAt fields Holds) (Answers begun Does) old line response new
-  answered old new schema line c response short full same is obeyed = λ s at.
-      let met = obeyed s at in
-      let means : meaning (schema_of s) line ≡ told (told_by c) =
-      line_meant (schema_of s) line (Ok (told_by c)) short full (subst (λ o. outcome o (line_value line) ≡ Ok (told_by c)) (same ∙ schema_in_state old.store s at) is) in
-      record { next = met.next; allowed = subst (λ (m : Meaning). Follows begun Does s m response met.next) (sym means) (c, refl, met.allowed); at = met.at }
+  -- What was heard means what it is heeded as.
+  heeded_as : (s : State S) (heard : Heard) (response : Response A) (next : State S) → Heeds begun Does s heard response next → Follows begun Does s (meant heard) response next
+  heeded_as s Heard.Blank response next h = h
+  heeded_as s (Heard.Refused why) response next h = h
+  heeded_as s (Heard.Asks c) response next h = (c, refl, h)
 
--- Over a store that tells these.
-module _ {M S A : Type 0} (fields : M → List Field) (Holds : M → S → Type 0) (begun : S) (Does : List Field → S → Command → Response A → S → Type 0) where
-  -- A line that is too long is refused, however lines are read.
-  pub too_long : (machine : Machine M) (reading : Reading) (response : Response A) → response ≡ Response.Refused Refusal.TooLong
-      → (line : List ℕ) → most_line < length line → Answered (IsAt fields Holds) (AnswersAs begun Does reading) machine line response machine
-  too_long machine Reading.Commands response is line long s at =
-      record { next = s; allowed = subst (λ (m : Meaning). Follows begun Does s m response s) (sym (long_meant (schema_of s) line long)) (is, refl); at = at }
-  too_long machine (Reading.Queries join) response is line long s at =
-      record { next = s; allowed = subst (λ (m : Meaning). Follows begun Does s m response s) (sym (long_asked join (schema_of s) line long)) (is, refl); at = at }
+  follows_as : (reading : Reading) (s : State S) (line : List ℕ) (response : Response A) (next : State S) → Follows begun Does s (meaning_as reading (schema_of s) line) response next → AnswersAs begun Does reading s line response next
+  follows_as Reading.Commands s line response next h = h
+  follows_as (Reading.Queries join) s line response next h = h
 
-  -- Before a schema was accepted a query text is refused.
-  pub no_schema : (join : Join) (line : List ℕ) (response : Response A) → length line ≤ most_line → response ≡ Response.Refused Refusal.NoSchema
-      → Answered (IsAt fields Holds) (AnswersQuery begun Does join) (record { store = None }) line response (record { store = None })
-  no_schema join line response short is None at =
-      record { next = None; allowed = subst (λ (m : Meaning). Follows begun Does None m response None) (sym (short_asked join None line short)) (is, refl); at = tt }
-  no_schema join line response short is (Some s) at = absurd at
+  text_answered : (old new : Machine M) (reading : Reading) (line : List ℕ) (heard : Heard) (response : Response A) → meaning_as reading (schema_in fields old) line ≡ meant heard → Heeded fields Holds begun Does old heard response new
+      → Answered (IsAt fields Holds) (AnswersAs begun Does reading) old line response new
+  text_answered old new reading line heard response is heeded = λ s at.
+      let met = heeded s at in
+      let means : meaning_as reading (schema_of s) line ≡ meant heard = subst (λ o. meaning_as reading o line ≡ meant heard) (schema_in_state old.store s at) is in
+      record { next = met.next; allowed = follows_as reading s line response met.next (subst (λ (m : Meaning). Follows begun Does s m response met.next) (sym means) (heeded_as s heard response met.next met.allowed)); at = met.at }
 
-  -- A line that is no text is refused.
-  pub not_text : (store : M) (join : Join) (line : List ℕ) (response : Response A) → length line ≤ most_line → is_utf8 line ≡ false → response ≡ Response.Refused Refusal.BadShape
-      → Queried fields Holds begun Does store join line response (record { store = Some store })
-  not_text store join line response short is_not is None at = absurd at
-  not_text store join line response short is_not is (Some s) at =
-      let means : query_meaning join (Some s.0) line ≡ refusal Refusal.BadShape =
-      short_asked join (Some s.0) line short ∙ ap (λ b. if b then told (told_by (Command.Find (find_by join line))) else refusal Refusal.BadShape) is_not in
-      record { next = Some s; allowed = subst (λ (m : Meaning). Follows begun Does (Some s) m response (Some s)) (sym means) (is, refl); at = at }
-
-  -- A text was found as a find of it is.
-  pub queried : (old : M) (new : Machine M) (join : Join) (line : List ℕ) (find : Find) (response : Response A) → length line ≤ most_line → is_utf8 line ≡ true → find ≡ find_by join line
-      → Obeyed fields Holds begun Does (Some old) (Command.Find find) response new → Queried fields Holds begun Does old join line response new
-  queried old new join line find response short is_text is obeyed None at = absurd at
-  queried old new join line find response short is_text is obeyed (Some s) at =
-      let met = obeyed (Some s) at in
-      let means : query_meaning join (Some s.0) line ≡ told (told_by (Command.Find (find_by join line))) =
-      short_asked join (Some s.0) line short ∙ ap (λ b. if b then told (told_by (Command.Find (find_by join line))) else refusal Refusal.BadShape) is_text in
-      record {
-        next = met.next;
-        allowed =
-            subst (λ (m : Meaning). Follows begun Does (Some s) m response met.next) (sym means)
-            (Command.Find (find_by join line), refl, subst (λ (f : Find). Obeys begun Does (Some s) (Command.Find f) response met.next) is met.allowed);
-        at = met.at;
-      }
+  -- A line is answered as what it was heard as.
+  pub line_answered : (old new : Machine M) (reading : Reading) (l : Line) (heard : Heard) (response : Response A) → IsHeard reading (schema_in fields old) l heard → Heeded fields Holds begun Does old heard response new
+      → AnsweredLine (IsAt fields Holds) (AnswersAs begun Does reading) old l response new
+  line_answered old new reading (Whole text) heard response is heeded = text_answered old new reading text.now heard response is heeded
+  line_answered old new reading TooLong heard response is heeded = λ text long. text_answered old new reading text heard response (is text long) heeded

@@ -1,18 +1,15 @@
 -- The main theorem, from the end of a run by its form.
-use Rattle.std.proofs.Common.{◌≡◌, ◌≢◌, ◌≤◌, ◌<◌, ◌+◌, ◌^◌, ℕ, Bool, true, false, List, length, Option, Some, None, ◌⊎◌, inl, inr, sum_by, refl, sym, ap, ◌∙◌, subst, arith}
+use Rattle.std.proofs.Common.{◌≡◌, ◌≤◌, ◌^◌, ℕ, Bool, false, List, Some, None, ◌⊎◌, inl, inr, refl, sym, ◌∙◌, subst, arith}
 use Rattle.sk_base.specs.declared.command.Command.{Command}
-use Rattle.sk_base.specs.declared.find.Join.{Join}
 use Rattle.sk_base.specs.declared.schema.Field.{Field}
 use Rattle.sk_io.specs.Causes.{Rose}
 use Rattle.sk_run.specs.declared.form.Form.{Form}
-use Rattle.sk_run.specs.declared.form.Form.TheVariants as Form
 use Rattle.sk_run.specs.declared.response.Response.{Response}
 use Rattle.sk_run.specs.declared.status.Status.{Status}
-use Rattle.sk_run.specs.declared.status.Status.TheVariants as Status
 use Rattle.sk_run.specs.Statuses.{IsFinished}
 use Rattle.sk_run.specs.Forms.{form_of}
 use Rattle.sk_run.specs.Responses.{text_under, is_refusal, steps_of}
-use Rattle.sk_run.specs.Outsides.{Seen, Outside, WhereTold}
+use Rattle.sk_run.specs.Outsides.{Seen, Outside}
 use Rattle.sk_run.specs.Ends.{TakesAll, Stopped}
 use Rattle.sk_run.specs.Ended.{Ended}
 use Rattle.sk_run.specs.ByForm.{printing_of, WholeBy, TakenBy, FirstBy, Keeps}

@@ -1,21 +1,21 @@
 -- How far a run over lines has come.
-use Rattle.std.proofs.Common.{◌≡◌, ◌<◌, ◌≤◌, ◌+◌, ◌^◌, ℕ, Bool, true, false, ◌||◌, if◌then◌else◌, ◌⊎◌, inl, inr, List, [], ◌∷◌, ◌++◌, length, Option, Some, None, Ok, sum_by, flat_map, refl, sym, ap, ◌∙◌, subst, arith, append_assoc, append-nil, true≢false}
+use Rattle.std.proofs.Common.{◌≡◌, ◌<◌, ◌≤◌, ◌+◌, ◌^◌, ℕ, Bool, true, false, ◌||◌, ◌⊎◌, inl, inr, List, [], ◌∷◌, ◌++◌, length, Option, Some, None, Ok, sum_by, flat_map, refl, sym, ap, ◌∙◌, subst, arith, append_assoc, append-nil, IsTrue, ◌↔◌, true≢false}
 use Rattle.std.specs.List.{list_any}
-use Rattle.std.specs.Io.KnownBytes.{Appends, Keeps}
-use Rattle.std.proofs.KnownBytes.{Appends-nil, Appends-trans, Appends-kept}
+use Rattle.std.proofs.KnownBytes.{Appends-nil}
 use Rattle.std.proofs.lemmas.List.Sums.{sum_by-append}
 use Rattle.std.proofs.lemmas.List.Folds.{list_any-append}
 use Rattle.std.proofs.lemmas.Grind.{flat_map-append}
 use Rattle.sk_io.specs.declared.line.Line.{Line}
 use Rattle.sk_io.specs.declared.line.Line.TheVariants.{Whole, TooLong}
 use Rattle.sk_io.specs.declared.line.LineStop.{LineStop}
-use Rattle.sk_io.specs.Causes.{Rose, counted}
-use Rattle.sk_io.specs.Fronts.{AppendsFront, AppendsPrefix}
+use Rattle.sk_io.specs.Causes.{Rose}
+use Rattle.sk_io.specs.Fronts.{AppendsPrefix}
 use Rattle.sk_io.specs.Reading.{Reader, pending, StreamIs, outcome}
 use Rattle.sk_io.specs.Answers.{Charged, Ends, LineOf, LongLineOf, OpenLineOf, Stops, ReadsOn}
-use Rattle.sk_run.specs.declared.status.Status.{Status}
 use Rattle.sk_run.specs.Lines.{Runs, stop, line, Meets, Answered, AnsweredLine}
 use Rattle.sk_run.specs.Ends.{EndsLine, PutsFront, AnswersTaken, AnswersFirst, AnswersThrough, TakesAll}
+use Rattle.sk_run.specs.Waiting.{Moves}
+use Rattle.sk_run.proofs.WaitingLemmas.{moves_all, moves_more, moves_text, moves_prefix, puts_front}
 
 -- as many bytes as are taken off the room were taken of the bytes
 pub record TakenSoFar (bytes : List ℕ) (reader : Reader) (left : Option (List ℕ)) : Type 0 where
@@ -80,24 +80,10 @@ read_on reader reader' left left' TooLong s is reads =
 texts-push : {R : Type 0} (text : R → List ℕ) (answers : List R) (answer : R) → flat_map text (answers ++ answer ∷ []) ≡ flat_map text answers ++ text answer
 texts-push text answers answer = flat_map-append text answers (answer ∷ []) ∙ ap (λ (w : List ℕ). flat_map text answers ++ w) (append-nil (text answer))
 
--- what the sink took of the answers so far and of one text more
-record PutFront (held held_now : Option (List ℕ)) (before text : List ℕ) : Type 0 where
-  shown : List ℕ
-  hidden : List ℕ
-  parts : before ++ text ≡ shown ++ hidden
-  put : Appends held held_now shown
-
-put_front : (held held_now held' : Option (List ℕ)) (before text : List ℕ) → Appends held held_now before → AppendsPrefix held_now held' text → PutFront held held' before text
-put_front None held_now held' before text put prefix = record { shown = before; hidden = text; parts = refl; put = tt }
-put_front (Some xs) None held' before text put prefix = absurd put
-put_front (Some xs) (Some ys) held' before text put prefix =
-    let front : AppendsFront ys held' text = prefix in
-    record {
-      shown = before ++ front.shown;
-      hidden = front.rest;
-      parts = ap (λ (w : List ℕ). before ++ w) front.whole ∙ sym (append_assoc before front.shown front.rest);
-      put = subst (λ o. Appends (Some xs) o (before ++ front.shown)) (sym front.now_held) (ap (λ (w : List ℕ). w ++ front.shown) put ∙ append_assoc xs before front.shown);
-    }
+-- what is not held is not said to be
+pub not_held : (b : Bool) (P : Type 0) → IsTrue b ↔ P → (P → ⊥) → b ≡ false
+not_held true P h none = absurd (none (h.0 refl))
+not_held false P h none = refl
 
 -- at first nothing was taken
 pub taken_none : (bytes : List ℕ) (reader : Reader) (left : Option (List ℕ)) → reader ≡ record { held = []; given = 0; room = 2 ^ 40; stopped = None; ended = false } → left ≡ Some bytes → TakenSoFar bytes reader left
@@ -155,40 +141,36 @@ or-assoc false b c = refl
 
 -- For answers that have these texts, refuse their lines so and tell of so many readings.
 module _ {R : Type 0} (text : R → List ℕ) (refuses : R → Bool) (cost : R → ℕ) where
-  -- The answers so far were put, and counted; whether a line was refused before them, or by them, is known.
-  pub record IsPut (answers : List R) (held held_now : Option (List ℕ)) (refused_before refused : Bool) (begun now : ℕ) : Type 0 where
-    pub put : Appends held held_now (flat_map text answers)
+  -- The answers so far were put, but for what waits, and counted; whether a line was refused before them, or by them, is known.
+  pub record IsPut (answers : List R) (waiting : List ℕ) (held held_now : Option (List ℕ)) (refused_before refused : Bool) (begun now : ℕ) : Type 0 where
+    pub put : Moves (flat_map text answers) waiting held held_now
     pub refusals : refused ≡ (refused_before || list_any refuses answers)
     pub paid : now ≡ begun + sum_by cost answers
 
-  pub none_put : (held : Option (List ℕ)) (refused : Bool) (begun : ℕ) → IsPut [] held held refused refused begun begun
-  none_put held refused begun = record { put = Appends-nil held; refusals = sym (or-false refused); paid = omega arith }
+  pub none_put : (waiting : List ℕ) (held : Option (List ℕ)) (refused : Bool) (begun : ℕ) → waiting ≡ [] → IsPut [] waiting held held refused refused begun begun
+  none_put waiting held refused begun none = record { put = moves_all [] waiting held held (Appends-nil held) none; refusals = sym (or-false refused); paid = omega arith }
 
-  -- One answer more was put.
-  pub put_more : (answers : List R) (held held_now held' : Option (List ℕ)) (refused_before refused refused' : Bool) (begun now now' : ℕ) (answer : R) (piece : List ℕ)
-      → IsPut answers held held_now refused_before refused begun now → piece ≡ text answer → Appends held_now held' piece → refused' ≡ (refused || refuses answer) → now' ≡ now + cost answer
-      → IsPut (answers ++ answer ∷ []) held held' refused_before refused' begun now'
-  put_more answers held held_now held' refused_before refused refused' begun now now' answer piece so is put refusal paid = record {
+  -- One answer more joined what waits.
+  pub put_more : (answers : List R) (waiting waiting' : List ℕ) (held held_now held' : Option (List ℕ)) (refused_before refused refused' : Bool) (begun now now' : ℕ) (answer : R)
+      → IsPut answers waiting held held_now refused_before refused begun now → Moves (waiting ++ text answer) waiting' held_now held' → refused' ≡ (refused || refuses answer) → now' ≡ now + cost answer
+      → IsPut (answers ++ answer ∷ []) waiting' held held' refused_before refused' begun now'
+  put_more answers waiting waiting' held held_now held' refused_before refused refused' begun now now' answer so moves refusal paid = record {
     put =
-        subst (λ w. Appends held held' w) (ap (λ (w : List ℕ). flat_map text answers ++ w) is ∙ sym (texts-push text answers answer))
-        (Appends-trans held held_now held' (flat_map text answers) piece so.put put);
+        subst (λ w. Moves w waiting' held held') (sym (texts-push text answers answer))
+        (moves_more (flat_map text answers) waiting waiting' (text answer) held held_now held' so.put moves);
     refusals =
         refusal ∙ ap (λ b. b || refuses answer) so.refusals ∙ or-assoc refused_before (list_any refuses answers) (refuses answer)
         ∙ ap (λ b. refused_before || b) (sym (list_any-append refuses answers (answer ∷ []) ∙ ap (λ b. list_any refuses answers || b) (or-false (refuses answer))));
     paid = omega (arith, paid, so.paid, sum_by-append cost answers (answer ∷ []));
   }
 
-  -- A front of one answer more was put.
-  pub put_in_part : (answers : List R) (held held_now held' : Option (List ℕ)) (answer : R) (piece : List ℕ)
-      → Appends held held_now (flat_map text answers) → piece ≡ text answer → AppendsPrefix held_now held' piece → PutsFront text (answers ++ answer ∷ []) held held'
-  put_in_part answers held held_now held' answer piece before is prefix =
-      let front : PutFront held held' (flat_map text answers) piece = put_front held held_now held' (flat_map text answers) piece before prefix in
-      record {
-        shown = front.shown;
-        hidden = front.hidden;
-        parts = texts-push text answers answer ∙ ap (λ (w : List ℕ). flat_map text answers ++ w) (sym is) ∙ front.parts;
-        put = front.put;
-      }
+  -- A front of what waits and of one answer more was put.
+  pub put_in_part : (answers : List R) (waiting : List ℕ) (held held_now held' : Option (List ℕ)) (answer : R)
+      → Moves (flat_map text answers) waiting held held_now → AppendsPrefix held_now held' (waiting ++ text answer) → PutsFront text (answers ++ answer ∷ []) held held'
+  put_in_part answers waiting held held_now held' answer before prefix =
+      puts_front text (answers ++ answer ∷ []) held held'
+      (subst (λ w. AppendsPrefix held held' w) (sym (texts-push text answers answer))
+      (moves_prefix (flat_map text answers ++ text answer) (waiting ++ text answer) held held_now held' (moves_text (flat_map text answers) waiting (text answer) held held_now before) prefix))
 
 -- Over an answerer that stands for states, where a line may be answered so.
 module _ {W S R : Type 0} (Stands : W → S → Type 0) (Answers : S → List ℕ → R → S → Type 0) where

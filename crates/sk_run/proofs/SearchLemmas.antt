@@ -1,5 +1,5 @@
 -- The lines of the input behind those of the records.
-use Rattle.std.proofs.Common.{◌≡◌, ℕ, Bool, ◌⊎◌, inl, inr, List, [], ◌∷◌, ◌++◌, Option, Some, None, refl}
+use Rattle.std.proofs.Common.{◌≡◌, ℕ, Bool, ◌⊎◌, inl, inr, List, ◌++◌, Option, refl}
 use Rattle.sk_run.specs.declared.status.Status.{Status}
 use Rattle.sk_run.specs.Outsides.{Seen, Output, WhereTold}
 use Rattle.sk_run.specs.Ends.{AnswersAll, AnswersTaken, AnswersFirst, AnswersSome, AnswersThrough, Stopped}

@@ -1,7 +1,6 @@
 -- What the answers of a run are answers to, by the form of its words. A run begins without a schema.
-use Rattle.std.specs.Prelude.{◌≡◌, ℕ, List, [], ◌∷◌, ◌++◌, Option, Some, None, ◌⊎◌}
+use Rattle.std.specs.Prelude.{◌≡◌, ℕ, List, [], ◌++◌, Option, Some, None, ◌⊎◌}
 use Rattle.sk_base.specs.declared.command.Command.{Command}
-use Rattle.sk_base.specs.declared.find.Join.{Join}
 use Rattle.sk_base.specs.declared.schema.Field.{Field}
 use Rattle.sk_run.specs.declared.form.Form.{Form}
 use Rattle.sk_run.specs.declared.form.Form.TheVariants.{Run, Search, Demo}
@@ -12,7 +11,7 @@ use Rattle.sk_run.specs.declared.status.Status.{Status}
 use Rattle.sk_run.specs.Outsides.{Outside, WhereTold}
 use Rattle.sk_run.specs.Lines.{Runs}
 use Rattle.sk_run.specs.Ends.{Stopped, AnswersAll, AnswersTaken, AnswersFirst, AnswersSome}
-use Rattle.sk_run.specs.Output.{State, Obeys, Answers, AnswersQuery, Closes}
+use Rattle.sk_run.specs.Output.{Obeys, Answers, AnswersQuery, Closes}
 use Rattle.sk_run.specs.Obeying.{ObeysAll, ObeysSome}
 use Rattle.sk_run.specs.Demos.{demo_commands}
 

@@ -9,12 +9,9 @@ use Rattle.sk_base.specs.declared.schema.Field.{Field}
 use Rattle.sk_query.specs.Trees.{Tree}
 use Rattle.sk_shown.specs.Writing.{value_of}
 use Rattle.sk_grammar.specs.declared.fault.FaultKind.{FaultKind}
-use Rattle.sk_grammar.specs.declared.fault.FaultKind.TheVariants as FaultKind
 use Rattle.sk_asked.specs.declared.asked.AskError.{AskError}
-use Rattle.sk_asked.specs.declared.asked.AskError.TheVariants as AskError
 use Rattle.sk_asked.specs.Asked.{text_asked}
 use Rattle.sk_run.specs.declared.response.Response.{Response}
-use Rattle.sk_run.specs.declared.response.Response.TheVariants as Response
 use Rattle.sk_run.specs.declared.find_answer.FindAnswer.{FindAnswer}
 use Rattle.sk_run.specs.declared.find_answer.FindAnswer.TheVariants.{Found, Query, BadQuery, BadTree}
 

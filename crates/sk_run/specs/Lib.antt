@@ -10,6 +10,8 @@ pub mod Lines
 pub mod Outsides
 pub mod Output
 pub mod Machines
+pub mod Heard
+pub mod Waiting
 pub mod Ends
 pub mod Ended
 pub mod Closing

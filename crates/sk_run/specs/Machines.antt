@@ -1,13 +1,11 @@
 -- When a machine over some store stands for the state of a run. What the store tells is given as functions.
-use Rattle.std.specs.Prelude.{◌≡◌, ℕ, List, Option, Some, None, option_map}
+use Rattle.std.specs.Prelude.{◌≡◌, List, Option, Some, None, option_map}
 use Rattle.sk_base.specs.declared.command.Command.{Command}
-use Rattle.sk_base.specs.declared.command.Command.TheVariants as Command
-use Rattle.sk_base.specs.declared.find.Join.{Join}
 use Rattle.sk_base.specs.declared.schema.Field.{Field}
 use Rattle.sk_run.specs.declared.machine.Machine.{Machine}
 use Rattle.sk_run.specs.declared.response.Response.{Response}
 use Rattle.sk_run.specs.Lines.{Meets}
-use Rattle.sk_run.specs.Output.{State, Obeys, AnswersQuery}
+use Rattle.sk_run.specs.Output.{State, Obeys}
 
 -- Without a store nothing was accepted; a store has the schema, and holds the state under it.
 abbrev pub StandsFor : {M S : Type 0} → (M → List Field) → (M → S → Type 0) → Option M → State S → Type 0
@@ -37,7 +35,3 @@ abbrev pub schema_behind : Option (List Field) → Command → Option (List Fiel
 schema_behind None (Command.Schema fields) = Some fields
 schema_behind None _ = None
 schema_behind (Some fields) command = Some fields
-
--- From each state that the store holds, a line was answered as a query text.
-abbrev pub Queried : {M S A : Type 0} → (M → List Field) → (M → S → Type 0) → S → (List Field → S → Command → Response A → S → Type 0) → M → Join → List ℕ → Response A → Machine M → Type 0
-Queried {M} {S} fields Holds begun Does old join line answer new = (s : State S) → StandsFor fields Holds (Some old) s → Meets (IsAt fields Holds) (AnswersQuery begun Does join s line answer) new

@@ -7,7 +7,6 @@ use Rattle.sk_base.specs.declared.find.Join.{Join}
 use Rattle.sk_base.specs.declared.schema.Field.{Field}
 use Rattle.sk_record.specs.Told.{told_by}
 use Rattle.sk_model.specs.Edits.{Live, edited, reply_to}
-use Rattle.sk_run.specs.declared.refusal.Refusal.TheVariants as Refusal
 use Rattle.sk_run.specs.declared.response.Response.{Response}
 use Rattle.sk_run.specs.Responses.{response_to}
 use Rattle.sk_run.specs.declared.machine.Reading.{Reading}

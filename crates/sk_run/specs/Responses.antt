@@ -1,8 +1,7 @@
 -- The text of what a line is answered. Each line of it ends with the byte 10, and numbers are decimal.
-use Rattle.std.specs.Prelude.{ℕ, Bool, true, false, List, [], ◌++◌, codes, decimal, flat_map, if◌then◌else◌}
+use Rattle.std.specs.Prelude.{ℕ, Bool, true, false, List, [], ◌++◌, codes, decimal, if◌then◌else◌}
 use Rattle.sk_base.specs.declared.record.Reply.{Reply}
 use Rattle.sk_run.specs.declared.refusal.Refusal.{Refusal}
-use Rattle.sk_run.specs.declared.refusal.Refusal.TheVariants as Refusal
 use Rattle.sk_run.specs.declared.response.Response.{Response}
 use Rattle.sk_run.specs.declared.response.Printing.{Printing}
 use Rattle.sk_run.specs.declared.response.Printing.TheVariants.{All, WithoutOk}

@@ -14,12 +14,15 @@ ghost use Rattle.sk_run.specs.Obeying.{ObeysFirst, ObeysThrough};
 ghost use Rattle.sk_run.specs.Demos.{demo_fields, alls, demo_body, demo_record, three_by, demo_find, demo_command, demo_commands};
 ghost use Rattle.sk_run.specs.Queries.{by_relevance};
 
-use crate::{Machine, Printed, Printing, Status, Store};
+use crate::answering::answer_heard;
+use crate::heard::Heard;
+use crate::waiting::Waiting;
+use crate::{Machine, Printing, Status, Store};
 use sk_base::{
     Ask, Collapse, Command, Edit, Entry, Field, FieldKind, FieldValue, Find, Items, Join, Options,
     Order, OrderBy, Record, Schema, Scheme, SortKey, Text,
 };
-use sk_io::{Sink, put_all};
+use sk_io::Sink;
 use sk_steps::Steps;
 use std::alloc::{AllocError, Global};
 use std::sync::ledger::Ledger;
@@ -48,24 +51,30 @@ pub(crate) fn obey_demo<M: Store, K: Sink, L: Ledger>(
         (record { held = K.held output.old; faults = K.faults output.old; settled = K.settled output.old; finishes = K.finishes output.old; steps = steps.old })
         (record { held = K.held output.new; faults = K.faults output.new; settled = K.settled output.new; finishes = K.finishes output.new; steps = steps.new })) }
 {
+    let Ok(mut waiting) = Waiting::new(alloc) else {
+        return Err(Status::Memory);
+    };
     let mut machine = Machine::<M>::new();
     let mut refused = false;
     'commands: for place in 0..documents + 6 {
         let Ok(command) = demo_command(alloc, documents, place) else {
-            return Err(Status::Memory);
+            return Err(waiting.put_last(output));
         };
-        let Ok((next, answer)) = machine.execute(alloc, command, steps) else {
-            return Err(Status::Memory);
-        };
-        refused |= answer.refuses();
-        let Ok(text) = answer.into_text_under(alloc, Printing::WithoutOk) else {
-            return Err(Status::Memory);
-        };
-        let Ok(()) = put_all(output, text.as_bytes()) else {
-            return Err(Status::WriteFault);
-        };
+        let (next, refuses) = answer_heard(
+            alloc,
+            machine,
+            Heard::Asks(command),
+            Printing::WithoutOk,
+            &mut waiting,
+            output,
+            steps,
+        )?;
+        refused |= refuses;
         machine = next;
     }
+    let Ok(()) = waiting.put(output) else {
+        return Err(Status::WriteFault);
+    };
     Ok((machine, refused))
 }
 

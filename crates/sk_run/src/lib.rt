@@ -2,11 +2,13 @@
 //! commands of a demonstration. `specs/Ran.antt` has the main theorem.
 #![tactic(auto)]
 
+mod answering;
 mod asking;
 mod conclusion;
 mod demo;
 mod find_answer;
 mod form;
+mod heard;
 mod machine;
 mod printed;
 mod program;
@@ -16,6 +18,7 @@ mod running;
 mod runs;
 mod status;
 mod store;
+mod waiting;
 mod words;
 
 pub use asking::{refused, shown};

@@ -27,8 +27,8 @@ use std::alloc::Global;
 use std::sync::ledger::Ledger;
 
 /// Does what the words ask for, over a store of its own. `run`: each line of `input` is a command, and is answered on
-/// `output` before the next line is read. `search`: each line of `records` is a command, and then each line of `input`
-/// a query text. `demo`: the commands are made from a number.
+/// `output` before more of it is asked for. `search`: each line of `records` is a command, and then each line of
+/// `input` a query text. `demo`: the commands are made from a number.
 pub fn run<M: Store, S: Source, R: Source, K: Sink, L: Ledger>(
     alloc: Global,
     words: &[String],

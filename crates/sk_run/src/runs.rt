@@ -10,6 +10,8 @@ ghost use Rattle.sk_run.specs.Ends.{Stopped, AnswersAll, AnswersTaken, AnswersFi
 ghost use Rattle.sk_run.specs.Ended.{Ended, Continues, NotWhole};
 ghost use Rattle.sk_run.specs.Closing.{ClosedBy, ClosedOrNot, NeverTaken};
 
+use crate::answering::answer_line;
+use crate::waiting::Waiting;
 use crate::{Machine, Printed, Printing, Reading, Status, Store};
 use sk_io::{LineStop, Lines, Sink, Source, put_all};
 use sk_steps::Steps;
@@ -19,7 +21,7 @@ use std::sync::ledger::Ledger;
 /// How many bytes of one source a run takes at the most.
 const LIMIT: u64 = 1 << 40;
 
-/// Answers each line of `input` on `output`, before the next line is read, and closes the run. `refused` says whether
+/// Answers each line of `input` on `output`, before more of it is asked for, and closes the run. `refused` says whether
 /// a line was refused before. The answer is never `Usage`.
 pub(crate) fn answer_to_end<M: Store, S: Source, K: Sink, L: Ledger>(
     alloc: Global,
@@ -51,7 +53,8 @@ pub(crate) fn answer_to_end<M: Store, S: Source, K: Sink, L: Ledger>(
     }
 }
 
-/// Answers each line of `input` on `output`, before the next line is read. The answer is the machine behind the lines,
+/// Answers each line of `input` on `output`, before more of it is asked for: as long as a whole line is held, the
+/// answers wait and are put together. The answer is the machine behind the lines,
 /// and whether a line was refused so far, or why the lines were not answered to their end.
 pub(crate) fn answer_lines<M: Store, S: Source, K: Sink, L: Ledger>(
     alloc: Global,
@@ -83,25 +86,32 @@ pub(crate) fn answer_lines<M: Store, S: Source, K: Sink, L: Ledger>(
     let Ok(mut lines) = Lines::new(alloc, LIMIT) else {
         return Err(Status::Memory);
     };
+    let Ok(mut waiting) = Waiting::new(alloc) else {
+        return Err(Status::Memory);
+    };
     let mut machine = first;
     let mut refused = refused_before;
     'lines: loop {
+        let Ok(()) = waiting.put_unless(lines.waits(), output) else {
+            return Err(Status::WriteFault);
+        };
         let line = match lines.next(input) {
             Ok(Some(line)) => line,
             Ok(None) => return Ok((machine, refused)),
             Err(LineStop::Failed) => return Err(Status::ReadFault),
             Err(LineStop::TooMuch) => return Err(Status::TooMuch),
         };
-        let Ok((next, answer)) = machine.answer(alloc, reading, line, steps) else {
-            return Err(Status::Memory);
-        };
-        refused |= answer.refuses();
-        let Ok(text) = answer.into_text_under(alloc, printing) else {
-            return Err(Status::Memory);
-        };
-        let Ok(()) = put_all(output, text.as_bytes()) else {
-            return Err(Status::WriteFault);
-        };
+        let (next, refuses) = answer_line(
+            alloc,
+            machine,
+            reading,
+            printing,
+            line,
+            &mut waiting,
+            output,
+            steps,
+        )?;
+        refused |= refuses;
         machine = next;
     }
 }

@@ -1,10 +1,11 @@
 //! What a run changes and searches.
-ghost use Rattle.std.specs.Prelude.{◌≡◌, ◌≤◌, ◌+◌, List, Some, IfOk};
+ghost use Rattle.std.specs.Prelude.{◌≡◌, ◌≤◌, ◌+◌, List, false, Some, IfOk, OnErr};
 ghost use Rattle.sk_base.specs.declared.command.Command.{Command};
 ghost use Rattle.sk_base.specs.declared.schema.Field.{Field};
 ghost use Rattle.sk_record.specs.Outcome.{MayCome};
 ghost use Rattle.sk_run.specs.declared.response.Response.{Response};
 ghost use Rattle.sk_run.specs.Machines.{Did};
+ghost use Rattle.sk_run.specs.Heard.{is_find};
 ghost use Rattle.sk_run.specs.Responses.{steps_of};
 
 use crate::{Printed, Response};
@@ -45,7 +46,7 @@ pub trait Store: Drop {
         ensures { result.now ≡ fields self.now };
 
     /// Does what a command asks for. The counter rises by the readings that the answer tells of. Where memory runs
-    /// out the store is given up.
+    /// out the store is given up; only a find may have read by then.
     fn obey<L: Ledger>(
         self,
         command: Command,
@@ -55,7 +56,8 @@ pub trait Store: Drop {
         ensures did { IfOk result (λ p. Did fields holds does self command p.1 p.0) }
         ensures schema { IfOk result (λ p. fields p.0 ≡ fields self) }
         ensures cost { IfOk result (λ p. steps.new ≡ steps.old + steps_of Self.Answer.steps p.1) }
-        ensures later { steps.old ≤ steps.new };
+        ensures later { steps.old ≤ steps.new }
+        ensures still { OnErr result (is_find command ≡ false → steps.new ≡ steps.old) };
 
     /// What is put at the end of a run. It is no reading.
     fn close(self, alloc: Global) -> Result<Response<Self::Answer>, AllocError>

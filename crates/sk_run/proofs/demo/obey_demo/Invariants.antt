@@ -12,5 +12,5 @@ invariant-commands g l = record {
   write_later : g.K.Sink.faults l.fn.output ≤ g.K.Sink.faults l.output;
   finishes : g.K.Sink.finishes l.output ≡ g.K.Sink.finishes l.fn.output;
   so_far : DemoSoFar (text_under Printing.WithoutOk g.M.Answer.Printed.text) (is_refusal g.M.Answer.Printed.refuses) (steps_of g.M.Answer.Printed.steps) (IsAt g.M.Store.fields g.M.Store.holds) (Obeys g.M.Store.begun g.M.Store.does)
-      None l.documents (g.K.Sink.held l.fn.output) l.fn.steps l.place (g.K.Sink.held l.output) l.machine l.refused l.steps;
+      None l.documents (g.K.Sink.held l.fn.output) l.fn.steps l.place l.waiting (g.K.Sink.held l.output) l.machine l.refused l.steps;
 }

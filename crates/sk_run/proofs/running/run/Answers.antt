@@ -3,10 +3,9 @@ use Rattle.sk_run.specs.declared.form.Form.TheVariants as Form
 use Rattle.sk_run.specs.declared.response.Printing.TheVariants as Printing
 use Rattle.sk_run.specs.Responses.{text_under, is_refusal, steps_of}
 use Rattle.sk_run.specs.Machines.{IsAt}
-use Rattle.sk_run.specs.Outsides.{Seen, Output, Outside}
 use Rattle.sk_run.specs.Output.{Answers, Closes}
 use Rattle.sk_run.proofs.LineEndLemmas.{from_one}
-use Rattle.sk_run.proofs.RanLemmas.{used, unused}
+use Rattle.sk_run.proofs.RanLemmas.{used}
 use Rattle.sk_run.proofs.running.run.Goals as goal
 
 pub returns-in-Some-Run-clause-ran : goal.returns-in-Some-Run-clause-ran

@@ -2,7 +2,6 @@ use Rattle.std.proofs.Common.{None, refl, false}
 use Rattle.sk_run.specs.declared.response.Printing.TheVariants as Printing
 use Rattle.sk_run.specs.Responses.{text_under, is_refusal, steps_of}
 use Rattle.sk_run.specs.Machines.{IsAt}
-use Rattle.sk_run.specs.Outsides.{Seen}
 use Rattle.sk_run.specs.Output.{Answers, AnswersQuery, Closes}
 use Rattle.sk_run.proofs.SearchLemmas.{searched, not_searched}
 use Rattle.sk_run.proofs.running.search.Goals as goal

@@ -15,7 +15,7 @@ invariant-lines g l = record {
   finishes : g.K.Sink.finishes l.output ≡ g.K.Sink.finishes l.fn.output;
   taken : (bytes : List ℕ) → g.S.Source.left l.fn.input ≡ Some bytes → TakenSoFar bytes l.lines (g.S.Source.left l.input);
   so_far : SoFar (text_under l.fn.printing g.M.Answer.Printed.text) (is_refusal g.M.Answer.Printed.refuses) (steps_of g.M.Answer.Printed.steps) (IsAt g.M.Store.fields g.M.Store.holds) (AnswersAs g.M.Store.begun g.M.Store.does l.fn.reading)
-      l.fn.first (g.S.Source.left l.fn.input) (g.K.Sink.held l.fn.output) l.fn.refused_before l.fn.steps l.lines (g.S.Source.left l.input) (g.K.Sink.held l.output) l.machine l.refused l.steps;
+      l.fn.first (g.S.Source.left l.fn.input) (g.K.Sink.held l.fn.output) l.fn.refused_before l.fn.steps l.lines (g.S.Source.left l.input) l.waiting (g.K.Sink.held l.output) l.machine l.refused l.steps;
 }
 
 abbrev pub decreases-lines : goal.decreases-lines

@@ -1,6 +1,5 @@
 use Rattle.sk_run.specs.Responses.{text_under, is_refusal, steps_of}
 use Rattle.sk_run.specs.Machines.{IsAt}
-use Rattle.sk_run.specs.Outsides.{Seen}
 use Rattle.sk_run.specs.Output.{AnswersAs, Closes}
 use Rattle.sk_run.proofs.LineEndLemmas.{closed_behind, stopped_in}
 use Rattle.sk_run.proofs.runs.answer_to_end.Goals as goal

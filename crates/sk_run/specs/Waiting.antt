@@ -1,0 +1,69 @@
+-- What waits to be put, and how one answer more joins it.
+use Rattle.std.specs.Prelude.{◌≡◌, ℕ, ◌+◌, ◌≤◌, Bool, List, ◌++◌, Option, ◌⊎◌}
+use Rattle.std.specs.Io.KnownBytes.{Appends}
+use Rattle.sk_io.specs.Causes.{Rose}
+use Rattle.sk_io.specs.Fronts.{AppendsPrefix}
+use Rattle.sk_run.specs.declared.status.Status.{Status}
+use Rattle.sk_run.specs.declared.status.Status.TheVariants.{Done, Refused, Usage, ReadFault, WriteFault, Memory, TooMuch}
+use Rattle.sk_run.specs.Outsides.{Output}
+
+-- A front of these bytes was put, and the others wait.
+pub record Moves (bytes waiting : List ℕ) (held held_after : Option (List ℕ)) : Type 0 where
+  pub front : List ℕ
+  pub parts : bytes ≡ front ++ waiting
+  pub put : Appends held held_after front
+
+-- What waited was put, since memory ran out, if the sink did not fail.
+abbrev pub PutsLast : List ℕ → Status → Output → Output → Type 0
+PutsLast waiting Done before after = ⊥
+PutsLast waiting Refused before after = ⊥
+PutsLast waiting Usage before after = ⊥
+PutsLast waiting ReadFault before after = ⊥
+PutsLast waiting WriteFault before after = AppendsPrefix before.held after.held waiting × (after.finishes ≡ before.finishes) × Rose before.faults after.faults
+PutsLast waiting Memory before after = Appends before.held after.held waiting × (after.finishes ≡ before.finishes)
+PutsLast waiting TooMuch before after = ⊥
+
+-- For answers that have these texts, refuse their lines so and tell of so many readings, where one of them is such an answer.
+module _ {R : Type 0} (text : R → List ℕ) (refuses : R → Bool) (cost : R → ℕ) (Allowed : R → Type 0) (waiting : List ℕ) where
+  -- It joined what waited, and was counted.
+  pub record Joins (waiting_after : List ℕ) (refused : Bool) (before after : Output) : Type 0 where
+    pub answer : R
+    pub allowed : Allowed answer
+    pub refusal : refused ≡ refuses answer
+    pub moves : Moves (waiting ++ text answer) waiting_after before.held after.held
+    pub paid : after.steps ≡ before.steps + cost answer
+    pub finishes : after.finishes ≡ before.finishes
+    pub later : before.faults ≤ after.faults
+
+  -- Memory ran out for it. What waited was put.
+  pub record LacksMemory (before after : Output) : Type 0 where
+    pub put : Appends before.held after.held waiting
+    pub later : before.steps ≤ after.steps
+    pub finishes : after.finishes ≡ before.finishes
+
+  -- The sink failed before it was made, within what waited.
+  pub record FailsBefore (before after : Output) : Type 0 where
+    pub put : AppendsPrefix before.held after.held waiting
+    pub same : after.steps ≡ before.steps
+
+  -- The sink failed when it was made and counted, within what waited or within it.
+  pub record FailsWithin (before after : Output) : Type 0 where
+    pub answer : R
+    pub allowed : Allowed answer
+    pub put : AppendsPrefix before.held after.held (waiting ++ text answer)
+    pub paid : after.steps ≡ before.steps + cost answer
+
+  pub record FailsToPut (before after : Output) : Type 0 where
+    pub which : FailsBefore before after ⊎ FailsWithin before after
+    pub finishes : after.finishes ≡ before.finishes
+    pub rose : Rose before.faults after.faults
+
+  -- It did not join what waited, for want of memory or since the sink failed.
+  abbrev pub JoinsNot : Status → Output → Output → Type 0
+  JoinsNot Done before after = ⊥
+  JoinsNot Refused before after = ⊥
+  JoinsNot Usage before after = ⊥
+  JoinsNot ReadFault before after = ⊥
+  JoinsNot WriteFault before after = FailsToPut before after
+  JoinsNot Memory before after = LacksMemory before after
+  JoinsNot TooMuch before after = ⊥

@@ -1,0 +1,85 @@
+//! The answer of one line, which joins those that wait.
+ghost use Rattle.std.specs.Prelude.{◌≡◌, IfOk, IfErr, Some};
+ghost use Rattle.sk_io.specs.Answers.{IsShort};
+ghost use Rattle.sk_run.specs.Responses.{text_under, is_refusal, steps_of};
+ghost use Rattle.sk_run.specs.Outsides.{Output};
+ghost use Rattle.sk_run.specs.Lines.{AnsweredLine};
+ghost use Rattle.sk_run.specs.Machines.{IsAt, schema_in};
+ghost use Rattle.sk_run.specs.Output.{AnswersAs};
+ghost use Rattle.sk_run.specs.Heard.{MayFollow, Heeded, schema_after};
+ghost use Rattle.sk_run.specs.Waiting.{Joins, JoinsNot};
+ghost use Rattle.sk_run.specs.declared.machine.Machine.{Machine};
+
+use crate::heard::{Heard, hear};
+use crate::waiting::Waiting;
+use crate::{Machine, Printed, Printing, Reading, Status, Store};
+use sk_io::{Line, Sink};
+use sk_steps::Steps;
+use std::alloc::Global;
+use std::sync::ledger::Ledger;
+
+/// Answers a line. The answer is the machine behind it, and whether the line was refused, or why it was not answered.
+pub(crate) fn answer_line<M: Store, K: Sink, L: Ledger>(
+    alloc: Global,
+    machine: Machine<M>,
+    reading: Reading,
+    printing: Printing,
+    line: Line<'_>,
+    waiting: &mut Waiting,
+    output: &mut K,
+    steps: &mut Steps<L>,
+) -> Result<(Machine<M>, bool), Status>
+    requires { IsShort (Some line) }
+    ensures ok { IfOk result (λ p. Joins (text_under printing M.Answer.text) (is_refusal M.Answer.refuses) (steps_of M.Answer.steps)
+        (λ answer. AnsweredLine (IsAt M.fields M.holds) (AnswersAs M.begun M.does reading) machine line.entry answer p.0) waiting.old waiting.new p.1
+        (record { held = K.held output.old; faults = K.faults output.old; settled = K.settled output.old; finishes = K.finishes output.old; steps = steps.old })
+        (record { held = K.held output.new; faults = K.faults output.new; settled = K.settled output.new; finishes = K.finishes output.new; steps = steps.new })) }
+    ensures err { IfErr result (λ status. JoinsNot (text_under printing M.Answer.text) (is_refusal M.Answer.refuses) (steps_of M.Answer.steps)
+        (λ answer. (next : Machine M) × AnsweredLine (IsAt M.fields M.holds) (AnswersAs M.begun M.does reading) machine line.entry answer next) waiting.old status
+        (record { held = K.held output.old; faults = K.faults output.old; settled = K.settled output.old; finishes = K.finishes output.old; steps = steps.old })
+        (record { held = K.held output.new; faults = K.faults output.new; settled = K.settled output.new; finishes = K.finishes output.new; steps = steps.new })) }
+{
+    let Ok(heard) = hear(alloc, machine.schema(), reading, line) else {
+        return Err(waiting.put_last(output));
+    };
+    answer_heard(alloc, machine, heard, printing, waiting, output, steps)
+}
+
+/// Answers what a line was heard as. Where it may read, what waits is put before: should memory run out within, no
+/// answer waits whose readings would have to be told from those.
+pub(crate) fn answer_heard<M: Store, K: Sink, L: Ledger>(
+    alloc: Global,
+    machine: Machine<M>,
+    heard: Heard,
+    printing: Printing,
+    waiting: &mut Waiting,
+    output: &mut K,
+    steps: &mut Steps<L>,
+) -> Result<(Machine<M>, bool), Status>
+    requires { MayFollow (schema_in M.fields machine) heard }
+    ensures ok { IfOk result (λ p. Joins (text_under printing M.Answer.text) (is_refusal M.Answer.refuses) (steps_of M.Answer.steps)
+        (λ answer. Heeded M.fields M.holds M.begun M.does machine heard answer p.0) waiting.old waiting.new p.1
+        (record { held = K.held output.old; faults = K.faults output.old; settled = K.settled output.old; finishes = K.finishes output.old; steps = steps.old })
+        (record { held = K.held output.new; faults = K.faults output.new; settled = K.settled output.new; finishes = K.finishes output.new; steps = steps.new })) }
+    ensures schema { IfOk result (λ p. schema_in M.fields p.0 ≡ schema_after (schema_in M.fields machine) heard) }
+    ensures err { IfErr result (λ status. JoinsNot (text_under printing M.Answer.text) (is_refusal M.Answer.refuses) (steps_of M.Answer.steps)
+        (λ answer. (next : Machine M) × Heeded M.fields M.holds M.begun M.does machine heard answer next) waiting.old status
+        (record { held = K.held output.old; faults = K.faults output.old; settled = K.settled output.old; finishes = K.finishes output.old; steps = steps.old })
+        (record { held = K.held output.new; faults = K.faults output.new; settled = K.settled output.new; finishes = K.finishes output.new; steps = steps.new })) }
+{
+    let stays = !heard.may_read();
+    let Ok(()) = waiting.put_unless(stays, output) else {
+        return Err(Status::WriteFault);
+    };
+    let Ok((next, answer)) = machine.follow(alloc, heard, steps) else {
+        return Err(waiting.put_last(output));
+    };
+    let refuses = answer.refuses();
+    let Ok(text) = answer.into_text_under(alloc, printing) else {
+        return Err(waiting.put_last(output));
+    };
+    let Ok(()) = waiting.join(text.as_bytes(), output) else {
+        return Err(Status::WriteFault);
+    };
+    Ok((next, refuses))
+}
