@@ -5,7 +5,7 @@ use Rattle.std.proofs.lemmas.Bool.Decides.{nat_tests}
 use Rattle.std.specs.List.{insert}
 use Rattle.std.specs.List.Sorted.{IsPartitionedBy, IsPartitionPoint}
 use Rattle.std.proofs.lemmas.Bool.{cases_eq, ltb-true, ltb-false}
-use Rattle.std.proofs.lemmas.List.{drop_more, drop_all, take_all, take-append-le, get_or-set_same, get_or-set_other, get_or_default, length-set}
+use Rattle.std.proofs.lemmas.List.{take_all, take-append-le, get_or-set_same, get_or-set_other, get_or_default, length-set}
 use Rattle.std.proofs.lemmas.List.Quantifiers.{position-Some}
 use Rattle.std.specs.List.{position_or_len}
 use Rattle.std.proofs.lemmas.List.Sums.{fails_before_first}
@@ -298,11 +298,6 @@ AreValues-tail x xs sound = record {
   some = λ k d lt. sound.some (suc k) d (omega arith);
 }
 
-pub AreValues-drop : (n : ℕ) (xs : List SlotValue) → AreValues xs → AreValues (drop n xs)
-AreValues-drop zero xs sound = sound
-AreValues-drop (suc n) [] sound = sound
-AreValues-drop (suc n) (x ∷ xs) sound = AreValues-drop n xs (AreValues-tail x xs sound)
-
 once_at : (x : SlotValue) (xs : List SlotValue) (s : ℕ) → AreValues (x ∷ xs) → (x.slot == s) ≡ true → has_value s xs ≡ false
 once_at x xs s sound pro =
     let same : x.slot ≡ s = grind (arith, nat_tests) in
@@ -325,19 +320,31 @@ SetsAll-more id x xs old mid new sound one all s =
     all s ∙ two_tests (put id x.value) (put id (value_in s xs)) (x.slot == s) (has_value s xs) (slot_list s old) (slot_list s mid) (once_at x xs s sound) (one s)
     ∙ ap (λ (p : SlotValues). if has_value s (x ∷ xs) then p else slot_list s old) (choice_of (λ (v : List ℕ). put id v (slot_list s old)) (x.slot == s) x.value (value_in s xs))
 
-pub sets_on : (id i : ℕ) (values : List SlotValue) (x : SlotValue) (start mid next : List SlotEntry) → AreValues values → i < length values → x ≡ get_or values i x
-    → ((new : List SlotEntry) → SetsAll id (drop i values) mid new → SetsAll id values start new)
-    → Sets id x.slot x.value mid next
-    → (new : List SlotEntry) → SetsAll id (drop (i + 1) values) next new → SetsAll id values start new
-sets_on id i values x start mid next sound lt is before one new all =
-    let cut : drop i values ≡ x ∷ drop (i + 1) values = drop_more values i x lt ∙ ap (λ (y : SlotValue). y ∷ drop (i + 1) values) (sym is) in
-    before new (subst (λ w. SetsAll id w mid new) (sym cut) (SetsAll-more id x (drop (i + 1) values) mid next new (subst AreValues cut (AreValues-drop i values sound)) one all))
+-- these values are left to be given: from here on they do what all do from the start
+pub record AreLeft (id : ℕ) (values : List SlotValue) (start : List SlotEntry) (left : List SlotValue) (slots : List SlotEntry) : Type 0 where
+  pub sound : AreValues left
+  pub given : (new : List SlotEntry) → SetsAll id left slots new → SetsAll id values start new
+  pub rise : RiseFrom 0 slots
+
+pub all_left : (id : ℕ) (values : List SlotValue) (start : List SlotEntry) → AreValues values → RiseFrom 0 start → AreLeft id values start values start
+all_left id values start sound rise = record { sound = sound; given = λ new all. all; rise = rise }
+
+-- one value less
+pub one_given : (id : ℕ) (values : List SlotValue) (start : List SlotEntry) (left : List SlotValue) (x : SlotValue) (rest : List SlotValue) (slots next : List SlotEntry)
+    → AreLeft id values start left slots → left ≡ x ∷ rest → Sets id x.slot x.value slots next → RiseFrom 0 next → AreLeft id values start rest next
+one_given id values start left x rest slots next are is sets rise =
+    let sound : AreValues (x ∷ rest) = subst AreValues is are.sound in
+    record {
+      sound = AreValues-tail x rest sound;
+      given = λ new all. are.given new (subst (λ w. SetsAll id w slots new) (sym is) (SetsAll-more id x rest slots next new sound sets all));
+      rise = rise;
+    }
 
 -- none is left
-pub sets_end : (id i : ℕ) (values : List SlotValue) (start last : List SlotEntry) → length values ≤ i
-    → ((new : List SlotEntry) → SetsAll id (drop i values) last new → SetsAll id values start new)
-    → SetsAll id values start last
-sets_end id i values start last le rest = rest last (subst (λ w. SetsAll id w last last) (sym (drop_all i values le)) (λ slot. refl))
+pub all_given : (id : ℕ) (values : List SlotValue) (start : List SlotEntry) (left : List SlotValue) (slots : List SlotEntry) → AreLeft id values start left slots → length left ≡ 0
+    → SetsAll id values start slots
+all_given id values start [] slots are none = are.given slots (λ slot. refl)
+all_given id values start (x ∷ left) slots are none = absurd (omega (arith, none))
 
 -- what the lists are behind a writing through their slice
 module _ (id at n : ℕ) (now was items : List SlotEntry) (same : was ≡ items) (all : n ≡ length items) (so : AreCutTo id was now at) (end : length was ≤ at) where

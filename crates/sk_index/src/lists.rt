@@ -134,7 +134,7 @@ impl Keeper for Lists {
         } = doc;
         all.insert(id, 0)?;
         let packed = terms.put_all(id, texts.as_slice())?;
-        slots.set_all(id, values.as_slice())?;
+        slots.set_all(id, values.into_vec())?;
         map.put(
             id,
             Packed {

@@ -61,20 +61,19 @@ impl SlotLists {
         }
     }
 
-    /// Gives the document these values.
-    pub fn set_all(&mut self, id: DocId, values: &[SlotValue]) -> Result<(), AllocError>
+    /// Gives the document these values, which move into the lists.
+    pub fn set_all(&mut self, id: DocId, values: Vec<SlotValue>) -> Result<(), AllocError>
         requires id { 1 ≤ id }
-        requires sound { AreValues values.now }
-        ensures sets { OnOk result (SetsAll id values.now self.old self.new) }
+        requires sound { AreValues values.items }
+        ensures sets { OnOk result (SetsAll id values.items self.old self.new) }
 
         // It has these alone where it had none, and no other document has other ones.
-        ensures values { OnOk result (IsNowhere id self.old → values_at id self.new ≡ values.now) }
+        ensures values { OnOk result (IsNowhere id self.old → values_at id self.new ≡ values.items) }
         ensures others { OnOk result (KeepsOthers id self.old self.new) }
     {
-        let alloc = self.alloc;
+        let _rising = &self.slots;
         'values: for one in values {
-            let value = Bytes::new(alloc, one.value.as_slice())?;
-            self.set(id, one.slot, value)?;
+            self.set(id, one.slot, one.value)?;
         }
         Ok(())
     }

@@ -17,13 +17,13 @@ invariant_of-result c =
     let p : Packed = record { terms = c.in_ok-packed.packed; payload = doc.payload } in
     let free : document_at c.args.id (unpacked_all old.terms.terms old.slots (flat old.map)) ≡ None = ap (λ (k : Kept). document_at c.args.id k.documents) c.self.view_is ∙ c.requires.free in
     let values : values_at c.args.id c.set_all.new.self ≡ doc.values
-    = c.in_ok-set_all.ensures.values (nowhere_from c.args.id (unpacked_all old.terms.terms old.slots (flat old.map)) old.slots c.self.invariant.0.stand.values free) ∙ c.as_slice-2.ensures.value in
+    = c.in_ok-set_all.ensures.values (nowhere_from c.args.id (unpacked_all old.terms.terms old.slots (flat old.map)) old.slots c.self.invariant.0.stand.values free) ∙ c.into_vec.ensures.value in
     let same : unpacked c.put_all.new.self.terms c.set_all.new.self c.args.id p ≡ doc
     = λ i. record { terms = (c.in_ok-packed.ensures.named ∙ c.as_slice.ensures.value) i; values = values i; payload = doc.payload } in (
       AreWhole-put old.all c.insert.new.self old.terms c.put_all.new.self old.slots c.set_all.new.self (flat old.map) (flat c.put.new.self) c.args.id doc p c.self.invariant.0
           c.in_ok-put.ensures.ok c.in_ok-packed.ensures.grows c.in_ok-packed.ensures.known c.in_ok-set_all.ensures.others same free c.requires.id c.as_slice.ensures.rising c.in_ok-insert.ensures.ok
           (subst (λ w. PutsAll c.args.id w old.terms c.put_all.new.self) c.as_slice.ensures.value c.in_ok-packed.ensures.puts)
-          (subst (λ w. SetsAll c.args.id w old.slots c.set_all.new.self) c.as_slice-2.ensures.value c.in_ok-set_all.ensures.sets),
+          (subst (λ w. SetsAll c.args.id w old.slots c.set_all.new.self) c.into_vec.ensures.value c.in_ok-set_all.ensures.sets),
       c.self.invariant.1,
     )
 
@@ -34,7 +34,7 @@ returns c =
     let p : Packed = record { terms = c.in_ok-packed.packed; payload = doc.payload } in
     let free : document_at c.args.id (unpacked_all old.terms.terms old.slots (flat old.map)) ≡ None = ap (λ (k : Kept). document_at c.args.id k.documents) c.self.view_is ∙ c.requires.free in
     let values : values_at c.args.id c.set_all.new.self ≡ doc.values
-    = c.in_ok-set_all.ensures.values (nowhere_from c.args.id (unpacked_all old.terms.terms old.slots (flat old.map)) old.slots c.self.invariant.0.stand.values free) ∙ c.as_slice-2.ensures.value in
+    = c.in_ok-set_all.ensures.values (nowhere_from c.args.id (unpacked_all old.terms.terms old.slots (flat old.map)) old.slots c.self.invariant.0.stand.values free) ∙ c.into_vec.ensures.value in
     let same : unpacked c.put_all.new.self.terms c.set_all.new.self c.args.id p ≡ doc
     = λ i. record { terms = (c.in_ok-packed.ensures.named ∙ c.as_slice.ensures.value) i; values = values i; payload = doc.payload } in
     documents-put old.all c.insert.new.self old.terms c.put_all.new.self old.slots c.set_all.new.self (flat old.map) (flat c.put.new.self) c.args.id doc p c.self.invariant.0

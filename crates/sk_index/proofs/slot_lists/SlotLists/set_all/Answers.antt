@@ -1,30 +1,38 @@
 -- One value more, and none is left.
-use Rattle.std.proofs.Common.{◌≡◌, arith, ◌∙◌, subst}
-use Rattle.sk_index.specs.Slotted.{Sets, RiseFrom}
-use Rattle.sk_index.proofs.SlottedLemmas.{sets_on, sets_end}
+use Rattle.std.proofs.Common.{length, ap, arith, sym, subst}
+use Rattle.std.specs.Vec.Iter.{into_iter_items}
+use Rattle.sk_base.specs.Documents.{AreValues}
+use Rattle.sk_index.specs.Slotted.{SetsAll, RiseFrom}
+use Rattle.sk_index.proofs.SlottedLemmas.{all_left, one_given, all_given}
 use Rattle.sk_index.proofs.ValueLemmas.{values_given, others_given}
 use Rattle.sk_index.proofs.slot_lists.SlotLists.set_all.Goals as goal
 
 pub values-init : goal.values-init
-values-init c = (λ new all. all, subst (RiseFrom 0) c.self.view_is c.self.invariant.1)
+values-init c = (
+  all_left c.args.id (into_iter_items c.into_iter-one-iterator.result) c.args.self.now (subst AreValues (sym c.into_iter-one-iterator.ensures.into_iter_gives.0) c.requires.sound)
+      (subst (RiseFrom 0) c.self.view_is c.self.invariant.1),
+  omega (arith, c.into_iter-one-iterator.ensures.into_iter_gives.1, ap length c.into_iter-one-iterator.ensures.into_iter_gives.0),
+)
 
 pub values-preserved : goal.values-preserved
-values-preserved c =
-    let value : c.in_ok-value.value ≡ c.one-item.result.value = c.in_ok-value.ensures ∙ c.as_slice.ensures in (
-      sets_on c.args.id c.values.one-index c.args.values.now c.one-item.result c.args.self.now c.values.self c.set.new.self c.requires.sound (omega arith) c.one-item.is c.values.invariant.0
-          (subst (λ w. Sets c.args.id c.one-item.result.slot w c.values.self c.set.new.self) value c.in_ok-set.ensures.sets),
-      c.in_ok-set.ensures.rise,
-    )
+values-preserved c = (
+  one_given c.args.id _ c.args.self.now _ _ _ c.values.self c.set.new.self c.values.invariant.0 c.in-Some.ensures.steps.0 c.in_ok-set.ensures.sets c.in_ok-set.ensures.rise,
+  omega (arith, c.values.invariant.1, c.in-Some.ensures.steps.1, ap length c.in-Some.ensures.steps.0),
+)
 
 pub returns-clause-sets : goal.returns-clause-sets
-returns-clause-sets c = sets_end c.args.id c.values.one-index c.args.values.now c.args.self.now c.values.self (omega arith) c.values.invariant.0
+returns-clause-sets c =
+    subst (λ w. SetsAll c.args.id w c.args.self.now c.values.self) c.into_iter-one-iterator.ensures.into_iter_gives.0
+    (all_given c.args.id _ c.args.self.now _ c.values.self c.values.invariant.0 (omega (arith, c.values.invariant.1, c.in-None.ensures.steps.0)))
 
 pub returns-clause-values : goal.returns-clause-values
 returns-clause-values c =
-    values_given c.args.id c.args.values.now c.args.self.now c.values.self c.values.invariant.1 c.requires.sound
-    (sets_end c.args.id c.values.one-index c.args.values.now c.args.self.now c.values.self (omega arith) c.values.invariant.0)
+    values_given c.args.id c.args.values.items c.args.self.now c.values.self c.values.invariant.0.rise c.requires.sound
+    (subst (λ w. SetsAll c.args.id w c.args.self.now c.values.self) c.into_iter-one-iterator.ensures.into_iter_gives.0
+    (all_given c.args.id _ c.args.self.now _ c.values.self c.values.invariant.0 (omega (arith, c.values.invariant.1, c.in-None.ensures.steps.0))))
 
 pub returns-clause-others : goal.returns-clause-others
 returns-clause-others c =
-    others_given c.args.id c.args.values.now c.args.self.now c.values.self (subst (RiseFrom 0) c.self.view_is c.self.invariant.1) c.values.invariant.1
-    (sets_end c.args.id c.values.one-index c.args.values.now c.args.self.now c.values.self (omega arith) c.values.invariant.0)
+    others_given c.args.id c.args.values.items c.args.self.now c.values.self (subst (RiseFrom 0) c.self.view_is c.self.invariant.1) c.values.invariant.0.rise
+    (subst (λ w. SetsAll c.args.id w c.args.self.now c.values.self) c.into_iter-one-iterator.ensures.into_iter_gives.0
+    (all_given c.args.id _ c.args.self.now _ c.values.self c.values.invariant.0 (omega (arith, c.values.invariant.1, c.in-None.ensures.steps.0))))

@@ -1,8 +1,10 @@
--- What the values that are left do from here on, all values do from the start; and the slots rise.
-use Rattle.std.proofs.Common.{List, drop}
-use Rattle.sk_index.specs.declared.slot_lists.SlotEntry.{SlotEntry}
-use Rattle.sk_index.specs.Slotted.{SetsAll, RiseFrom}
+-- What the values that are left do from here on, all values do from the start.
+use Rattle.std.proofs.Common.{◌≡◌, length}
+use Rattle.std.specs.Vec.Iter.{into_iter_items, into_iter_len}
+use Rattle.sk_index.proofs.SlottedLemmas.{AreLeft}
 use Rattle.sk_index.proofs.slot_lists.SlotLists.set_all.Given as goal
 
 abbrev pub invariant-values : goal.invariant-values
-invariant-values l = ((new : List SlotEntry) → SetsAll l.id (drop l.one-index l.values) l.self new → SetsAll l.id l.values l.initial.self new) × RiseFrom 0 l.self
+invariant-values l =
+    AreLeft l.id (into_iter_items l.initial.one-iterator) l.initial.self (into_iter_items l.one-iterator) l.self
+    × (into_iter_len l.one-iterator ≡ length (into_iter_items l.one-iterator))
