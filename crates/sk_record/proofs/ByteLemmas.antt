@@ -1,6 +1,6 @@
 -- The members that fields of different names have are different members, so their strings are no longer than those of all members.
 use Rattle.std.proofs.Common.{◌≡◌, ◌≤◌, ◌+◌, ℕ, Bool, true, false, not, List, [], ◌∷◌, Option, Some, None, Ordering, Less, Equal, Greater, nat_cmp, is_eq, bytes_eq, true≢false, refl, sym, ap, ◌∙◌, arith}
-use Rattle.std.specs.List.{list_all}
+use Rattle.std.specs.List.{AllByRecursion, list_all}
 use Rattle.std.specs.Ordering.{match_ordering}
 use Rattle.std.specs.Cmp.Lexicographic.{slice_cmp}
 use Rattle.std.proofs.lemmas.Map.Text.{is_eq-slice_cmp}
@@ -31,19 +31,25 @@ differ : (xs ys : List ℕ) (b : Bool) → bytes_eq xs ys ≡ b → (xs ≡ ys �
 differ xs ys true e other = absurd (other ((bytes_eq-Decides xs ys).0 e))
 differ xs ys false e other = refl
 
-other_member : (q k : List ℕ) (d : Data) (ms : Members) → (q ≡ k → ⊥) → get_member q (member k d ms) ≡ get_member q ms
+pub other_member : (q k : List ℕ) (d : Data) (ms : Members) → (q ≡ k → ⊥) → get_member q (member k d ms) ≡ get_member q ms
 other_member q k d ms other = outer (slice_cmp nat_cmp q k) _ _ (is_eq-slice_cmp q k ∙ differ q k _ refl other)
 
+-- of these fields each has the member that it has without the first
+abbrev pub PassBy : List Field → List ℕ → Data → Members → Type 0
+PassBy fields k d ms = AllByRecursion (λ (g : Field). get_member g.name (member k d ms) ≡ get_member g.name ms) fields
+
 -- fields that do not clash with the one of this name have other names
-passes_by : (f : Field) (more : List Field) (k : List ℕ) (d : Data) (ms : Members) → f.name ≡ k → list_all (λ other. not (clash f other)) more ≡ true
-    → named_bytes more (object (member k d ms)) ≡ named_bytes more (object ms)
-passes_by f [] k d ms is apart = refl
+pub passes_by : (f : Field) (more : List Field) (k : List ℕ) (d : Data) (ms : Members) → f.name ≡ k → list_all (λ other. not (clash f other)) more ≡ true → PassBy more k d ms
+passes_by f [] k d ms is apart = tt
 passes_by f (g ∷ more) k d ms is apart =
-    let unlike : bytes_eq f.name g.name ≡ false = first_false (bytes_eq f.name g.name) (kinds_clash f.kind g.kind) (first_true (not (clash f g)) (list_all (λ other. not (clash f other)) more) apart) in
-    let here : get_member g.name (member k d ms) ≡ get_member g.name ms =
-    other_member g.name k d ms (λ same. true≢false (sym ((bytes_eq-Decides f.name g.name).1 (is ∙ sym same)) ∙ unlike)) in
-    let rest = passes_by f more k d ms is (second_true (not (clash f g)) (list_all (λ other. not (clash f other)) more) apart) in
-    λ i. bytes_at (here i) + rest i
+    let unlike : bytes_eq f.name g.name ≡ false = first_false (bytes_eq f.name g.name) (kinds_clash f.kind g.kind) (first_true (not (clash f g)) (list_all (λ other. not (clash f other)) more) apart) in (
+      other_member g.name k d ms (λ same. true≢false (sym ((bytes_eq-Decides f.name g.name).1 (is ∙ sym same)) ∙ unlike)),
+      passes_by f more k d ms is (second_true (not (clash f g)) (list_all (λ other. not (clash f other)) more) apart),
+    )
+
+bytes_passed : (fields : List Field) (k : List ℕ) (d : Data) (ms : Members) → PassBy fields k d ms → named_bytes fields (object (member k d ms)) ≡ named_bytes fields (object ms)
+bytes_passed [] k d ms by = refl
+bytes_passed (g ∷ more) k d ms by = λ i. bytes_at (by.0 i) + bytes_passed more k d ms by.1 i
 
 same_name : (q k : List ℕ) → slice_cmp nat_cmp q k ≡ Equal → q ≡ k
 same_name q k e = (bytes_eq-Decides q k).0 (sym (is_eq-slice_cmp q k) ∙ ap is_eq e)
@@ -57,7 +63,7 @@ one_member (f ∷ more) k d ms apart =
     elim (slice_cmp nat_cmp f.name k) as (λ o. slice_cmp nat_cmp f.name k ≡ o
     → bytes_at (match_ordering o (get_member f.name ms) (Some d) (get_member f.name ms)) + named_bytes more (object (member k d ms)) ≤ bytes_in d + (bytes_at (get_member f.name ms) + named_bytes more (object ms))) [
       | Less ↦ λ e. later
-      | Equal ↦ λ e. let rest = passes_by f more k d ms (same_name f.name k e) (first_true (list_all (λ other. not (clash f other)) more) (are_apart more) apart) in omega (arith, rest)
+      | Equal ↦ λ e. let rest = bytes_passed more k d ms (passes_by f more k d ms (same_name f.name k e) (first_true (list_all (λ other. not (clash f other)) more) (are_apart more) apart)) in omega (arith, rest)
       | Greater ↦ λ e. later
     ] refl
 

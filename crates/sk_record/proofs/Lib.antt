@@ -2,6 +2,7 @@ mod LineLemmas
 mod SchemaLemmas
 mod Choices
 mod ByteLemmas
+mod MemberLemmas
 mod EntryLemmas
 mod ShapeLemmas
 mod CommandLemmas

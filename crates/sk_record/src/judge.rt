@@ -1,14 +1,14 @@
 //! What a row says under the fields of a schema, none where a rule on fields is broken.
-ghost use Rattle.std.specs.Prelude.{◌≡◌, [], ◌++◌, IfOk, OnOk, is_some, option_map};
-ghost use Rattle.serde_json.specs.View.{view, items_view, members_view};
+ghost use Rattle.std.specs.Prelude.{◌≡◌, [], ◌++◌, IfOk, IfSome, OnOk, option_map};
+ghost use Rattle.serde_json.specs.View.{view, items_view};
 ghost use Rattle.serde_json.specs.Find.{as_str};
-ghost use Rattle.sk_json.specs.Values.{all_names};
+ghost use Rattle.sk_base.specs.Fields.{IsSchema};
 ghost use Rattle.sk_record.specs.Shown.{pair_shown, given_shown, asked_shown, sorted_shown, collapsed_shown, wanted_shown, shape_shown};
 ghost use Rattle.sk_record.specs.Told.{asked_by, sought_by, told_by};
-ghost use Rattle.sk_record.specs.FieldRules.{field_named, filter_texts, value_of, member_value, with_entry, entries_from, names_fields, entries_of, record_of, prefix_named, filter_prefix, term_of, slot_named, keyed, order_of, collapse_of, sought_of, replaced_by, command_of};
+ghost use Rattle.sk_record.specs.FieldRules.{field_named, filter_texts, value_of, member_value, with_entry, members_found, entries_from, entries_of, record_of, prefix_named, filter_prefix, term_of, slot_named, keyed, order_of, collapse_of, sought_of, replaced_by, command_of};
 
 use crate::row::{AskRow, CollapseRow, FindRow, OrderRow, RecordRow, Row, Sort, TextRow};
-use serde_json::{Map, Value};
+use serde_json::Value;
 use sk_base::{
     Ask, Collapse, Command, Edit, Entries, Entry, Field, FieldKind, FieldValue, Find, Items, Order,
     OrderBy, Record, SortKey, Term, Text, Texts, prefixed,
@@ -22,6 +22,7 @@ pub fn command_of(
     fields: &[Field],
     row: Row<'_>,
 ) -> Result<Option<Command>, AllocError>
+    requires { IsSchema fields.now }
     ensures { IfOk result (λ c. option_map told_by c ≡ command_of fields.now (shape_shown row.entry)) }
 {
     match row {
@@ -59,6 +60,7 @@ fn replaced_by(
     pair: TextRow<'_>,
     given: RecordRow<'_>,
 ) -> Result<Option<Edit>, AllocError>
+    requires { IsSchema fields.now }
     ensures { IfOk result (λ e. e ≡ replaced_by fields.now (pair_shown pair.entry) (given_shown given.entry)) }
 {
     let Some(term) = term_of(alloc, fields, pair)? else {
@@ -188,6 +190,7 @@ fn record_of(
     fields: &[Field],
     given: RecordRow<'_>,
 ) -> Result<Option<Record>, AllocError>
+    requires { IsSchema fields.now }
     ensures { IfOk result (λ r. r ≡ record_of fields.now (given_shown given.entry)) }
 {
     let Some(values) = entries_of(alloc, fields, given.values)? else {
@@ -197,57 +200,51 @@ fn record_of(
     Ok(Some(Record { values, payload }))
 }
 
+/// The entries of a values object, none where one of its members names no field.
 fn entries_of(
     alloc: Global,
     fields: &[Field],
     values: &Value,
 ) -> Result<Option<Entries>, AllocError>
+    requires { IsSchema fields.now }
     ensures { IfOk result (λ e. e ≡ entries_of fields.now (view values.now)) }
 {
-    if !names_fields(fields, values) {
+    let Some(members) = values.as_object() else {
+        return Ok(None);
+    };
+    let Some((entries, found)) = entries_from(alloc, fields, values)? else {
+        return Ok(None);
+    };
+    // No two fields have the same name, and no two members.
+    if found < members.len() {
         return Ok(None);
     }
-    entries_from(alloc, fields, values)
+    Ok(Some(entries))
 }
 
-/// Whether the value is an object, and each of its members names a field.
-fn names_fields(fields: &[Field], values: &Value) -> bool
-    ensures { result ≡ names_fields fields.now (view values.now) }
-{
-    match values {
-        Value::Object(members) => are_fields(fields, members),
-        _ => false,
-    }
-}
-
-fn are_fields(fields: &[Field], members: &Map<String, Value>) -> bool
-    ensures { result ≡ all_names (λ name. is_some (field_named fields.now name)) (members_view members.now.entries) }
-{
-    'members: for (name, _) in members.iter() {
-        if field_named(fields, name.as_str()).is_none() {
-            return false;
-        }
-    }
-    true
-}
-
-/// The entries of the fields in their order, whatever the order of the members.
+/// The entries of the fields in their order, whatever the order of the members, and how many fields have a member.
 fn entries_from(
     alloc: Global,
     fields: &[Field],
     values: &Value,
-) -> Result<Option<Entries>, AllocError>
-    ensures { IfOk result (λ e. e ≡ entries_from 0 fields.now (view values.now)) }
+) -> Result<Option<(Entries, usize)>, AllocError>
+    ensures value { IfOk result (λ r. option_map (λ p. p.0) r ≡ entries_from 0 fields.now (view values.now)) }
+    ensures found { IfOk result (λ r. IfSome r (λ p. p.1 ≡ members_found fields.now (view values.now))) }
 {
     let mut entries = Items::new(alloc);
+    let mut found = 0;
     'fields: for place in 0..fields.len() {
         let field = &fields[place];
-        let Some(value) = member_value(alloc, &field.kind, values.get(field.name.as_str()))? else {
+        let member = values.get(field.name.as_str());
+        if member.is_some() {
+            found += 1;
+        }
+        let Some(value) = member_value(alloc, &field.kind, member)? else {
             return Ok(None);
         };
         push_entry(&mut entries, place, value)?;
     }
-    Ok(Some(entries))
+    Ok(Some((entries, found)))
 }
 
 fn push_entry(
