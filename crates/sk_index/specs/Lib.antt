@@ -1,6 +1,7 @@
 pub mod Indexed
 pub mod Listed
 pub mod Packed
+pub mod Payloads
 pub mod Placed
 pub mod Slotted
 pub mod Stands

@@ -8,10 +8,10 @@ use Rattle.sk_dict.specs.Terms.{term_at}
 use Rattle.sk_documents.specs.Documented.{HasTerms}
 use Rattle.sk_model.specs.Documents.{Document}
 use Rattle.sk_lists.specs.Lists.{Runs}
-use Rattle.sk_index.specs.declared.packed.Packed.{Packed}
 use Rattle.sk_index.specs.declared.slot_lists.SlotEntry.{SlotEntry}
 use Rattle.sk_index.specs.Packed.{NumberedTerm, AreKnown}
 use Rattle.sk_index.specs.Listed.{Listed}
+use Rattle.sk_index.specs.Payloads.{Payloads, payload_of}
 use Rattle.sk_index.specs.Slotted.{values_at}
 use Rattle.sk_index.specs.Stands.{Stands}
 
@@ -23,33 +23,34 @@ named dict one = record { term = term_at dict one.number; wdf = one.wdf; positio
 abbrev pub named_all : List (List ℕ) → List NumberedTerm → List DocTerm
 named_all dict terms = map (named dict) terms
 
--- The document that a packed one is under its id: its values stand in the lists of the slots.
-abbrev pub unpacked : List (List ℕ) → List SlotEntry → ℕ → Packed → Document
-unpacked dict slots id one = record { terms = named_all dict one.terms; values = values_at id slots; payload = one.payload }
+-- The document whose terms are packed, under its id: its values stand in the lists of the slots, its payload among the payloads.
+abbrev pub unpacked : List (List ℕ) → List SlotEntry → Payloads → ℕ → List NumberedTerm → Document
+unpacked dict slots payloads id packed = record { terms = named_all dict packed; values = values_at id slots; payload = payload_of id payloads }
 
 -- The same of several, with their ids.
-abbrev pub unpacked_all : List (List ℕ) → List SlotEntry → List (ℕ × Packed) → Docs
-unpacked_all dict slots entries = map (λ e. (e.0, unpacked dict slots e.0 e.1)) entries
+abbrev pub unpacked_all : List (List ℕ) → List SlotEntry → Payloads → List (ℕ × List NumberedTerm) → Docs
+unpacked_all dict slots payloads entries = map (λ e. (e.0, unpacked dict slots payloads e.0 e.1)) entries
 
 -- The numbers of a packed document, with its id, have terms.
-abbrev pub HasKnown : List (List ℕ) → ℕ × Packed → Type 0
-HasKnown dict entry = AreKnown (length dict) entry.1.terms
+abbrev pub HasKnown : List (List ℕ) → ℕ × List NumberedTerm → Type 0
+HasKnown dict entry = AreKnown (length dict) entry.1
 
 -- Terms came at the end of a dictionary: each number that had a term has it still.
 pub record Grows (old new : List (List ℕ)) : Type 0 where
   pub longer : length old ≤ length new
   pub same : (n : ℕ) → n < length old → term_at new n ≡ term_at old n
 
--- What the keeper of an index holds: documents, the lists of all and of each term, and those of the slots.
+-- What the keeper of an index holds: documents, the lists of all and of each term, those of the slots, and the payloads.
 pub record Kept : Type 0 where
   pub documents : Docs
   pub all : Runs
   pub listed : Listed
   pub slots : List SlotEntry
+  pub payloads : Payloads
 
 -- The packed documents are in order under the dictionary, and each list is what they give with the values in the slots.
-pub record AreWhole (all : Runs) (listed : Listed) (slots : List SlotEntry) (entries : List (ℕ × Packed)) : Type 0 where
+pub record AreWhole (all : Runs) (listed : Listed) (slots : List SlotEntry) (payloads : Payloads) (entries : List (ℕ × List NumberedTerm)) : Type 0 where
   pub known : AllByRecursion (HasKnown listed.terms) entries
-  pub rise : RiseAbove 0 (unpacked_all listed.terms slots entries)
-  pub ordered : AllByRecursion HasTerms (unpacked_all listed.terms slots entries)
-  pub stand : Stands all listed slots (unpacked_all listed.terms slots entries)
+  pub rise : RiseAbove 0 (unpacked_all listed.terms slots payloads entries)
+  pub ordered : AllByRecursion HasTerms (unpacked_all listed.terms slots payloads entries)
+  pub stand : Stands all listed slots (unpacked_all listed.terms slots payloads entries)

@@ -4,8 +4,8 @@
 mod all_places;
 mod index;
 mod lists;
-mod packed;
 mod packed_terms;
+mod payloads;
 mod places;
 mod slot_lists;
 mod stats;

@@ -9,8 +9,8 @@ ghost use Rattle.sk_index.specs.Packed.{AreKnown};
 ghost use Rattle.sk_index.specs.Stands.{AreListsOf, AreSlotsOf};
 ghost use Rattle.sk_index.specs.Unpacked.{named_all, unpacked};
 
-use crate::packed::Packed;
 use crate::packed_terms::PackedTerms;
+use crate::payloads::Payloads;
 use crate::slot_lists::SlotLists;
 use crate::term_lists::TermLists;
 use sk_base::{Doc, DocId};
@@ -21,16 +21,17 @@ use std::alloc::{AllocError, Global};
 use std::marker::Model;
 
 /// The documents, the list of all of them, a list for each term, and one for each slot. A document stands as numbers of
-/// the terms and its payload: the texts of the terms stand once, with the lists, and its values in the lists of the slots
-/// alone. Contracts see the documents and the lists.
+/// the terms: the texts of the terms stand once, with the lists, its values in the lists of the slots alone, and its
+/// payload, if it has one, beside. Contracts see the documents and the lists.
 #[derive(Drop)]
 pub(crate) struct Lists {
-    map: Pieces<Packed>,
+    map: Pieces<PackedTerms>,
     /// The terms of a document that is not there.
     none: PackedTerms,
     all: List,
     terms: TermLists,
     slots: SlotLists,
+    payloads: Payloads,
 }
 
 impl Model for Lists {
@@ -40,15 +41,15 @@ impl Model for Lists {
 
     ghost Value = { Kept };
 
-    ghost view = { λ l. record { documents = unpacked_all l.terms.terms l.slots (flat l.map); all = l.all; listed = l.terms; slots = l.slots } };
+    ghost view = { λ l. record { documents = unpacked_all l.terms.terms l.slots l.payloads (flat l.map); all = l.all; listed = l.terms; slots = l.slots; payloads = l.payloads } };
 
-    ghost invariant = { λ l. AreWhole l.all l.terms l.slots (flat l.map) × (l.none ≡ []) };
+    ghost invariant = { λ l. AreWhole l.all l.terms l.slots l.payloads (flat l.map) × (l.none ≡ []) };
 }
 
 impl Lists {
     /// No document, and room for the lists of so many slots.
     pub fn new(alloc: Global, slots: usize) -> Result<Lists, AllocError>
-        ensures { IfOk result (λ lists. lists ≡ record { documents = []; all = []; listed = record { terms = []; lists = [] }; slots = [] }) }
+        ensures { IfOk result (λ lists. lists ≡ record { documents = []; all = []; listed = record { terms = []; lists = [] }; slots = []; payloads = [] }) }
     {
         Ok(Lists {
             map: Pieces::new(alloc),
@@ -56,6 +57,7 @@ impl Lists {
             all: List::new(alloc),
             terms: TermLists::new(alloc),
             slots: SlotLists::new(alloc, slots)?,
+            payloads: Payloads::new(alloc),
         })
     }
 
@@ -90,7 +92,7 @@ impl Lists {
         ensures known { AreKnown (length self.now.listed.terms) result.now }
     {
         match self.packed(id) {
-            Some(packed) => &packed.terms,
+            Some(packed) => packed,
             None => &self.none,
         }
     }
@@ -99,14 +101,14 @@ impl Lists {
     pub fn payload(&self, id: DocId) -> Option<&str>
         ensures { option_map (λ s. s.now) result ≡ option_map (λ d. d.payload) (document_at id self.now.documents) }
     {
-        let packed = self.packed(id)?;
-        Some(packed.payload.as_str())
+        self.packed(id)?;
+        Some(self.payloads.of(id))
     }
 
-    fn packed(&self, id: DocId) -> Option<&Packed>
-        ensures value { option_map (λ p. unpacked self.now.listed.terms self.now.slots id p.now) result ≡ document_at id self.now.documents }
-        ensures rising { IfSome result (λ p. AreTerms (named_all self.now.listed.terms p.now.terms)) }
-        ensures known { IfSome result (λ p. AreKnown (length self.now.listed.terms) p.now.terms) }
+    fn packed(&self, id: DocId) -> Option<&PackedTerms>
+        ensures value { option_map (λ p. unpacked self.now.listed.terms self.now.slots self.now.payloads id p.now) result ≡ document_at id self.now.documents }
+        ensures rising { IfSome result (λ p. AreTerms (named_all self.now.listed.terms p.now)) }
+        ensures known { IfSome result (λ p. AreKnown (length self.now.listed.terms) p.now) }
     {
         self.map.get(id)
     }
@@ -126,6 +128,7 @@ impl Keeper for Lists {
             mut all,
             mut terms,
             mut slots,
+            mut payloads,
         } = self;
         let Doc {
             terms: texts,
@@ -135,19 +138,15 @@ impl Keeper for Lists {
         all.insert(id, 0)?;
         let packed = terms.put_all(id, texts.as_slice())?;
         slots.set_all(id, values.into_vec())?;
-        map.put(
-            id,
-            Packed {
-                terms: packed,
-                payload,
-            },
-        )?;
+        payloads.set(id, payload)?;
+        map.put(id, packed)?;
         Ok(Lists {
             map,
             none,
             all,
             terms,
             slots,
+            payloads,
         })
     }
 
@@ -156,8 +155,9 @@ impl Keeper for Lists {
             return false;
         };
         self.all.remove(id);
-        self.terms.take_out_all(id, &packed.terms);
+        self.terms.take_out_all(id, &packed);
         self.slots.clear_all(id);
+        self.payloads.clear(id);
         true
     }
 

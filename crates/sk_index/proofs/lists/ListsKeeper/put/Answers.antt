@@ -2,7 +2,6 @@
 use Rattle.sk_runs.specs.Runs.{flat}
 use Rattle.std.proofs.Common.{◌≡◌, None, ap, subst, ◌∙◌}
 use Rattle.sk_model.specs.Edits.{document_at, put_document}
-use Rattle.sk_index.specs.declared.packed.Packed.{Packed}
 use Rattle.sk_index.specs.Listed.{PutsAll}
 use Rattle.sk_index.specs.Slotted.{SetsAll, values_at}
 use Rattle.sk_index.specs.Unpacked.{Kept, unpacked, unpacked_all}
@@ -14,14 +13,14 @@ pub invariant_of-result : goal.invariant_of-result
 invariant_of-result c =
     let old = c.self.inside in
     let doc = c.args.doc in
-    let p : Packed = record { terms = c.in_ok-packed.packed; payload = doc.payload } in
-    let free : document_at c.args.id (unpacked_all old.terms.terms old.slots (flat old.map)) ≡ None = ap (λ (k : Kept). document_at c.args.id k.documents) c.self.view_is ∙ c.requires.free in
+    let p = c.in_ok-packed.packed in
+    let free : document_at c.args.id (unpacked_all old.terms.terms old.slots old.payloads (flat old.map)) ≡ None = ap (λ (k : Kept). document_at c.args.id k.documents) c.self.view_is ∙ c.requires.free in
     let values : values_at c.args.id c.set_all.new.self ≡ doc.values
-    = c.in_ok-set_all.ensures.values (nowhere_from c.args.id (unpacked_all old.terms.terms old.slots (flat old.map)) old.slots c.self.invariant.0.stand.values free) ∙ c.into_vec.ensures.value in
-    let same : unpacked c.put_all.new.self.terms c.set_all.new.self c.args.id p ≡ doc
-    = λ i. record { terms = (c.in_ok-packed.ensures.named ∙ c.as_slice.ensures.value) i; values = values i; payload = doc.payload } in (
-      AreWhole-put old.all c.insert.new.self old.terms c.put_all.new.self old.slots c.set_all.new.self (flat old.map) (flat c.put.new.self) c.args.id doc p c.self.invariant.0
-          c.in_ok-put.ensures.ok c.in_ok-packed.ensures.grows c.in_ok-packed.ensures.known c.in_ok-set_all.ensures.others same free c.requires.id c.as_slice.ensures.rising c.in_ok-insert.ensures.ok
+    = c.in_ok-set_all.ensures.values (nowhere_from c.args.id (unpacked_all old.terms.terms old.slots old.payloads (flat old.map)) old.slots c.self.invariant.0.stand.values free) ∙ c.into_vec.ensures.value in
+    let same : unpacked c.put_all.new.self.terms c.set_all.new.self c.set.new.self c.args.id p ≡ doc
+    = λ i. record { terms = (c.in_ok-packed.ensures.named ∙ c.as_slice.ensures.value) i; values = values i; payload = c.in_ok-set.ensures.value i } in (
+      AreWhole-put old.all c.insert.new.self old.terms c.put_all.new.self old.slots c.set_all.new.self old.payloads c.set.new.self (flat old.map) (flat c.put.new.self) c.args.id doc p c.self.invariant.0
+          c.in_ok-put.ensures.ok c.in_ok-packed.ensures.grows c.in_ok-packed.ensures.known c.in_ok-set_all.ensures.others c.in_ok-set.ensures.others same free c.requires.id c.as_slice.ensures.rising c.in_ok-insert.ensures.ok
           (subst (λ w. PutsAll c.args.id w old.terms c.put_all.new.self) c.as_slice.ensures.value c.in_ok-packed.ensures.puts)
           (subst (λ w. SetsAll c.args.id w old.slots c.set_all.new.self) c.into_vec.ensures.value c.in_ok-set_all.ensures.sets),
       c.self.invariant.1,
@@ -31,12 +30,12 @@ pub returns : goal.returns
 returns c =
     let old = c.self.inside in
     let doc = c.args.doc in
-    let p : Packed = record { terms = c.in_ok-packed.packed; payload = doc.payload } in
-    let free : document_at c.args.id (unpacked_all old.terms.terms old.slots (flat old.map)) ≡ None = ap (λ (k : Kept). document_at c.args.id k.documents) c.self.view_is ∙ c.requires.free in
+    let p = c.in_ok-packed.packed in
+    let free : document_at c.args.id (unpacked_all old.terms.terms old.slots old.payloads (flat old.map)) ≡ None = ap (λ (k : Kept). document_at c.args.id k.documents) c.self.view_is ∙ c.requires.free in
     let values : values_at c.args.id c.set_all.new.self ≡ doc.values
-    = c.in_ok-set_all.ensures.values (nowhere_from c.args.id (unpacked_all old.terms.terms old.slots (flat old.map)) old.slots c.self.invariant.0.stand.values free) ∙ c.into_vec.ensures.value in
-    let same : unpacked c.put_all.new.self.terms c.set_all.new.self c.args.id p ≡ doc
-    = λ i. record { terms = (c.in_ok-packed.ensures.named ∙ c.as_slice.ensures.value) i; values = values i; payload = doc.payload } in
-    documents-put old.all c.insert.new.self old.terms c.put_all.new.self old.slots c.set_all.new.self (flat old.map) (flat c.put.new.self) c.args.id doc p c.self.invariant.0
-    c.in_ok-put.ensures.ok c.in_ok-packed.ensures.grows c.in_ok-packed.ensures.known c.in_ok-set_all.ensures.others same free
+    = c.in_ok-set_all.ensures.values (nowhere_from c.args.id (unpacked_all old.terms.terms old.slots old.payloads (flat old.map)) old.slots c.self.invariant.0.stand.values free) ∙ c.into_vec.ensures.value in
+    let same : unpacked c.put_all.new.self.terms c.set_all.new.self c.set.new.self c.args.id p ≡ doc
+    = λ i. record { terms = (c.in_ok-packed.ensures.named ∙ c.as_slice.ensures.value) i; values = values i; payload = c.in_ok-set.ensures.value i } in
+    documents-put old.all c.insert.new.self old.terms c.put_all.new.self old.slots c.set_all.new.self old.payloads c.set.new.self (flat old.map) (flat c.put.new.self) c.args.id doc p c.self.invariant.0
+    c.in_ok-put.ensures.ok c.in_ok-packed.ensures.grows c.in_ok-packed.ensures.known c.in_ok-set_all.ensures.others c.in_ok-set.ensures.others same free
     ∙ ap (λ (k : Kept). put_document c.args.id doc k.documents) c.self.view_is
