@@ -1,4 +1,5 @@
 mod EntryLemmas
 mod GatherLemmas
 mod SlotLemmas
+mod TakenLemmas
 mod Examples

@@ -1,11 +1,10 @@
 //! Gathers the terms of a record, field by field.
-ghost use Rattle.std.specs.Prelude.{◌≡◌, ◌<◌, ◌≤◌, ◌+◌, ◌^◌, true, [], ◌∷◌, length, fold, map, filter, IfOk, OnOk};
+ghost use Rattle.std.specs.Prelude.{◌≡◌, ◌<◌, ◌≤◌, ◌+◌, ◌^◌, true, [], ◌∷◌, length, fold, map, filter, AllPairs, IfOk, OnOk};
 ghost use Rattle.std.specs.Option.{option_copied};
 ghost use Rattle.std.specs.List.{list_all};
 ghost use Rattle.sk_base.specs.Fields.{is_field, is_kind};
 ghost use Rattle.sk_base.specs.Records.{bytes_of_values, most_bytes};
 ghost use Rattle.sk_model.specs.Documents.{
-  value_at,
   occurrences_in,
   occurrences_of,
   text_fields,
@@ -21,6 +20,7 @@ ghost use Rattle.sk_model.specs.Documents.{
 ghost use Rattle.sk_docs.specs.Gathered.{CanGather, after, occurrences_among, bytes_of_given};
 ghost use Rattle.sk_base.specs.Loads.{load_of};
 
+use crate::taking::taken;
 use crate::term_map::TermMap;
 use sk_base::{DocTerms, Entry, Field, FieldKind, FieldValue, Text, into_prefixed, prefixed};
 use sk_text::{Word, words};
@@ -30,6 +30,7 @@ use std::alloc::{AllocError, Global};
 pub fn terms(alloc: Global, fields: &[Field], values: &[Entry]) -> Result<DocTerms, AllocError>
     requires sound { list_all is_field fields.now ≡ true }
     requires few { length fields.now ≤ 64 }
+    requires rising { AllPairs (λ a b. a.field < b.field) values.now }
     requires small { bytes_of_values values.now ≤ most_bytes }
     ensures value { IfOk result (λ terms. terms ≡ terms_of (mentions fields.now values.now)) }
     ensures light { IfOk result (λ terms. load_of terms < 2 ^ 29) }
@@ -38,18 +39,6 @@ pub fn terms(alloc: Global, fields: &[Field], values: &[Entry]) -> Result<DocTer
     note_texts(alloc, &mut gathered, fields, values)?;
     note_filters(alloc, &mut gathered, fields, values)?;
     gathered.into_terms(alloc)
-}
-
-/// The value that is given for the field at this place.
-pub fn value_at(place: usize, values: &[Entry]) -> Option<&FieldValue>
-    ensures { option_copied result ≡ value_at place values.now }
-{
-    'values: for entry in values {
-        if entry.field == place {
-            return Some(&entry.value);
-        }
-    }
-    None
 }
 
 /// Notes the words of all texts, in the order of the schema.
@@ -61,16 +50,20 @@ fn note_texts(
 ) -> Result<(), AllocError>
     requires sound { list_all is_field fields.now ≡ true }
     requires few { length fields.now ≤ 64 }
+    requires rising { AllPairs (λ a b. a.field < b.field) values.now }
     requires room { CanGather gathered.old 0 (bytes_of_values values.now) }
     ensures value { OnOk result (gathered.new ≡ after gathered.old (occurrences_from 0 0 fields.now values.now)) }
     ensures light { OnOk result (load_of gathered.new.terms < 2 ^ 29) }
 {
     let mut before = 0;
+    let mut left = values;
     'fields: for place in 0..fields.len() {
         let kind = &fields[place].kind;
-        note_value(alloc, gathered, kind, before, value_at(place, values))?;
+        let (value, behind) = taken(place, left);
+        note_value(alloc, gathered, kind, before, value)?;
         let own = text_fields(kind);
         before += own;
+        left = behind;
     }
     Ok(())
 }
@@ -162,16 +155,15 @@ fn note_filters(
     fields: &[Field],
     values: &[Entry],
 ) -> Result<(), AllocError>
+    requires rising { AllPairs (λ a b. a.field < b.field) values.now }
     ensures value { OnOk result (gathered.new.terms ≡ fold noted gathered.old.terms (filter_terms_from 0 fields.now values.now)) }
     ensures load { OnOk result (load_of gathered.new.terms ≡ load_of gathered.old.terms) }
 {
+    let mut left = values;
     'fields: for place in 0..fields.len() {
-        note_filter(
-            alloc,
-            gathered,
-            &fields[place].kind,
-            value_at(place, values),
-        )?;
+        let (value, behind) = taken(place, left);
+        note_filter(alloc, gathered, &fields[place].kind, value)?;
+        left = behind;
     }
     Ok(())
 }

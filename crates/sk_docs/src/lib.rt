@@ -5,6 +5,7 @@ mod building;
 mod gathering;
 mod mentioned;
 mod slots;
+mod taking;
 mod term_map;
 
 pub use building::build;

@@ -1,26 +1,25 @@
 //! The values of a record, by slot.
-ghost use Rattle.std.specs.Prelude.{◌≡◌, true, nat_lt, position, fold, IfOk, OnOk};
+ghost use Rattle.std.specs.Prelude.{◌≡◌, ◌<◌, true, nat_lt, position, fold, AllPairs, IfOk, OnOk};
 ghost use Rattle.std.specs.Option.{option_copied};
 ghost use Rattle.sk_base.specs.Fields.{are_apart};
 ghost use Rattle.sk_model.specs.Documents.{given_value, slot_values_of, slot_values_from, with_value, values_of};
 
-use crate::gathering::value_at;
+use crate::taking::taken;
 use sk_base::{Bytes, Entry, Field, FieldKind, FieldValue, SlotValue, SlotValues, number_bytes};
 use std::alloc::{AllocError, Global};
 
 /// The values that the numbers and the words of a record give, by rising slot.
 pub fn values(alloc: Global, fields: &[Field], given: &[Entry]) -> Result<SlotValues, AllocError>
     requires apart { are_apart fields.now ≡ true }
+    requires rising { AllPairs (λ a b. a.field < b.field) given.now }
     ensures { IfOk result (λ values. values ≡ values_of (slot_values_from 0 fields.now given.now)) }
 {
     let mut made = Vec::new(alloc);
+    let mut left = given;
     'fields: for place in 0..fields.len() {
-        put_given(
-            alloc,
-            &mut made,
-            &fields[place].kind,
-            value_at(place, given),
-        )?;
+        let (value, behind) = taken(place, left);
+        put_given(alloc, &mut made, &fields[place].kind, value)?;
+        left = behind;
     }
     Ok(SlotValues::from_vec(made))
 }
