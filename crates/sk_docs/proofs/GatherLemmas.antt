@@ -1,14 +1,12 @@
 -- What is gathered, word by word and field by field.
-use Rattle.std.proofs.Common.{◌≡◌, ◌<◌, ◌≤◌, ◌+◌, ◌*◌, ℕ, suc, Bool, true, false, ◌&&◌, ◌==◌, nat_le, List, [], ◌∷◌, ◌++◌, length, map, filter, fold, cond, refl, sym, ap, subst, ◌∙◌, true≢false, All, arith, drop, drop-cons, get_or}
+use Rattle.std.proofs.Common.{◌≡◌, ◌<◌, ◌≤◌, ◌+◌, ◌*◌, ℕ, suc, Bool, true, false, ◌&&◌, ◌==◌, nat_le, List, [], ◌∷◌, ◌++◌, length, map, filter, cond, refl, sym, ap, subst, ◌∙◌, true≢false, All, arith, drop, drop-cons, get_or, append-nil}
 use Rattle.std.specs.List.{list_all}
 use Rattle.std.proofs.lemmas.Bool.Decides.{nat_tests}
-use Rattle.std.proofs.lemmas.List.Elements.{All-head, All-tail, All-cons, All-append, All-weaker}
-use Rattle.std.proofs.lemmas.List.Sums.{fold-append, AllPass-from_list_all}
+use Rattle.std.proofs.lemmas.List.{append_assoc}
+use Rattle.std.proofs.lemmas.List.Elements.{All-nil, All-head, All-tail, All-cons, All-append, All-push, All-map, All-weaker}
+use Rattle.std.proofs.lemmas.List.Quantifiers.{all_pairs_push}
+use Rattle.std.proofs.lemmas.List.Sums.{AllPass-from_list_all}
 use Rattle.std.specs.Prelude.{Option, Some}
-use Rattle.std.specs.Ordering.{match_ordering, nat_cmp}
-use Rattle.std.specs.Cmp.Lexicographic.{slice_cmp}
-use Rattle.std.specs.declared.cmp.Ordering.{Ordering}
-use Rattle.std.specs.declared.cmp.Ordering.TheVariants.{Less, Equal, Greater}
 use Rattle.sk_text.specs.declared.word.Word.{Word}
 use Rattle.sk_text.specs.Words.{words}
 use Rattle.sk_base.specs.declared.doc_entry.DocTerm.{DocTerm}
@@ -19,54 +17,34 @@ use Rattle.sk_base.specs.declared.schema.FieldKind.{FieldKind}
 use Rattle.sk_base.specs.Fields.{is_kind, is_field}
 use Rattle.sk_base.specs.Names.{is_prefix, is_name}
 use Rattle.sk_base.specs.Records.{bytes_of_value, bytes_of_values, most_bytes}
-use Rattle.sk_model.specs.Documents.{Occurrence, occurrence, is_indexed, placed_at, placed_from, joined, noted, value_at, occurrences_of, occurrences_from, text_fields, filter_term, is_given, filter_terms_of, filter_terms_from}
+use Rattle.sk_model.specs.Documents.{Occurrence, occurrence, is_indexed, placed_at, placed_from, value_at, occurrences_of, occurrences_from, text_fields, filter_term, is_given, filter_terms_of, filter_terms_from}
 use Rattle.sk_docs.specs.Gathered.{Gathered, after, LieBelow, CanGather, occurrences_among, bytes_of_given, bytes_from}
-use Rattle.sk_base.specs.Loads.{load_of}
+use Rattle.sk_docs.specs.Joined.{LieBefore, AreMentions}
+use Rattle.sk_docs.proofs.TermLemmas.{load-append}
 
--- ---- one mention more
+-- ---- places
 
-load_step : (one m : DocTerm) (more put : List DocTerm) (r : Ordering) → load_of put ≡ load_of more + m.wdf
-    → load_of (match_ordering r (m ∷ one ∷ more) (joined one m ∷ more) (one ∷ put)) ≡ load_of (one ∷ more) + m.wdf
-load_step one m more put Less h = omega (arith)
-load_step one m more put Equal h = omega (arith)
-load_step one m more put Greater h = omega (arith, h)
-
--- its wdf is added to the sum
-pub load-noted : (terms : List DocTerm) (m : DocTerm) → load_of (noted terms m) ≡ load_of terms + m.wdf
-load-noted [] m = omega arith
-load-noted (one ∷ more) m = load_step one m more (noted more m) (slice_cmp nat_cmp m.term one.term) (load-noted more m)
-
--- the places of one term lie below
+-- the places of one mention lie below
 abbrev Below : ℕ → DocTerm → Type 0
-Below bound t = All (λ p. p < bound) t.positions
+Below bound m = All (λ p. p < bound) m.positions
 
-below_step : (bound : ℕ) (one m : DocTerm) (more put : List DocTerm) (r : Ordering) → Below bound m → LieBelow bound (one ∷ more) → LieBelow bound put
-    → LieBelow bound (match_ordering r (m ∷ one ∷ more) (joined one m ∷ more) (one ∷ put))
-below_step bound one m more put Less own all h = All-cons (Below bound) m (one ∷ more) own all
-below_step bound one m more put Equal own all h =
-    All-cons (Below bound) (joined one m) more (All-append (λ p. p < bound) one.positions m.positions (All-head (Below bound) one more all) own) (All-tail (Below bound) one more all)
-below_step bound one m more put Greater own all h = All-cons (Below bound) one put (All-head (Below bound) one more all) h
-
--- its places are the only new ones
-below-noted : (bound : ℕ) (terms : List DocTerm) (m : DocTerm) → Below bound m → LieBelow bound terms → LieBelow bound (noted terms m)
-below-noted bound [] m own all = All-cons (Below bound) m [] own all
-below-noted bound (one ∷ more) m own all =
-    below_step bound one m more (noted more m) (slice_cmp nat_cmp m.term one.term) own all (below-noted bound more m own (All-tail (Below bound) one more all))
-
-below_weaker : (a b : ℕ) (terms : List DocTerm) → a ≤ b → LieBelow a terms → LieBelow b terms
-below_weaker a b terms h all = All-weaker (Below a) (Below b) (λ t own. All-weaker (λ p. p < a) (λ p. p < b) (λ p lt. omega arith) t.positions own) terms all
+below_weaker : (a b : ℕ) (ms : List DocTerm) → a ≤ b → LieBelow a ms → LieBelow b ms
+below_weaker a b ms h all = All-weaker (Below a) (Below b) (λ m own. All-weaker (λ p. p < a) (λ p. p < b) (λ p lt. omega arith) m.positions own) ms all
 
 -- ---- occurrences
-
-after_one : (g : Gathered) (o : Occurrence) (os : List Occurrence) → after g (o ∷ os) ≡ after (after g (o ∷ [])) os
-after_one g o os =
-    let next : g.next + suc (length os) ≡ g.next + 1 + length os = omega arith in
-    λ i. record { terms = fold noted (noted g.terms (placed_at g.next o)) (placed_from (g.next + 1) os); next = next i }
 
 pub after_none : (g : Gathered) → after g [] ≡ g
 after_none g =
     let next : g.next + 0 ≡ g.next = omega arith in
-    λ i. record { terms = g.terms; next = next i }
+    let same : g.mentions ++ [] ≡ g.mentions = append-nil g.mentions in
+    λ i. record { mentions = same i; next = next i }
+
+after_one : (g : Gathered) (o : Occurrence) (os : List Occurrence) → after g (o ∷ os) ≡ after (after g (o ∷ [])) os
+after_one g o os =
+    let next : g.next + suc (length os) ≡ g.next + 1 + length os = omega arith in
+    let all : g.mentions ++ placed_at g.next o ∷ placed_from (g.next + 1) os ≡ (g.mentions ++ placed_at g.next o ∷ []) ++ placed_from (g.next + 1) os =
+    sym (append_assoc g.mentions (placed_at g.next o ∷ []) (placed_from (g.next + 1) os)) in
+    λ i. record { mentions = all i; next = next i }
 
 pub after-append : (g : Gathered) (os more : List Occurrence) → after g (os ++ more) ≡ after (after g os) more
 after-append g [] more = ap (λ h. after h more) (sym (after_none g))
@@ -80,17 +58,23 @@ OfField before (o ∷ os) = ((o.step ≤ 256) × (o.before ≡ before)) × OfFie
 
 room_one : (g : Gathered) (before more rest : ℕ) (o : Occurrence) → CanGather g before more → o.step ≤ 256 → o.before ≡ before → g.next + 1 + rest ≤ most_bytes + 1
     → CanGather (after g (o ∷ [])) before rest
-room_one g before more rest o room step same few = record {
-  loads = omega (arith, load-noted g.terms (placed_at g.next o), room.loads);
-  places = below-noted (g.next + 1 + 100 * before) g.terms (placed_at g.next o)
-      (All-cons (λ p. p < g.next + 1 + 100 * before) (g.next + 100 * o.before) [] (omega (arith, same)) (λ k d lt. absurd (omega arith)))
-      (below_weaker (g.next + 100 * before) (g.next + 1 + 100 * before) g.terms (omega arith) room.places);
-  few = few;
-  fields = room.fields;
-}
+room_one g before more rest o room step same few =
+    let m : DocTerm = placed_at g.next o in
+    let place : g.next + 100 * o.before ≡ g.next + 100 * before = ap (λ n. g.next + 100 * n) same in
+    record {
+      loads = omega (arith, load-append g.mentions (m ∷ []), room.loads);
+      rise = all_pairs_push LieBefore g.mentions m room.rise
+          (λ k d lt. All-cons (λ q. All (λ p. p < q) (get_or g.mentions k d).positions) (g.next + 100 * o.before) []
+          (subst (λ q. All (λ p. p < q) (get_or g.mentions k d).positions) (sym place) (room.places k d lt)) (All-nil (λ q. All (λ p. p < q) (get_or g.mentions k d).positions)));
+      places = All-push (Below (g.next + 1 + 100 * before)) g.mentions m
+          (below_weaker (g.next + 100 * before) (g.next + 1 + 100 * before) g.mentions (omega arith) room.places)
+          (All-cons (λ p. p < g.next + 1 + 100 * before) (g.next + 100 * o.before) [] (omega (arith, place)) (All-nil (λ p. p < g.next + 1 + 100 * before)));
+      few = few;
+      fields = room.fields;
+    }
 
 room_less : (g : Gathered) (before more rest : ℕ) → CanGather g before more → g.next + rest ≤ most_bytes + 1 → CanGather g before rest
-room_less g before more rest room few = record { loads = room.loads; places = room.places; few = few; fields = room.fields }
+room_less g before more rest room few = record { loads = room.loads; rise = room.rise; places = room.places; few = few; fields = room.fields }
 
 -- so many words later there is room for the rest
 pub room_after : (g : Gathered) (before more rest : ℕ) (os : List Occurrence) → CanGather g before more → OfField before os → g.next + length os + rest ≤ most_bytes + 1
@@ -242,7 +226,8 @@ room_here values start now place before rest all far =
 room_next : (g : Gathered) (before more fields : ℕ) → CanGather g before more → before + fields ≤ 64 → CanGather g (before + fields) more
 room_next g before more fields room few = record {
   loads = room.loads;
-  places = below_weaker (g.next + 100 * before) (g.next + 100 * (before + fields)) g.terms (omega arith) room.places;
+  rise = room.rise;
+  places = below_weaker (g.next + 100 * before) (g.next + 100 * (before + fields)) g.mentions (omega arith) room.places;
   few = room.few;
   fields = few;
 }
@@ -281,28 +266,47 @@ filters_step prefix text texts true = refl
 filters_step prefix text texts false = refl
 
 -- the texts of a filter, the first noted before the others
-pub filters_go_on : (prefix : List ℕ) (terms new : List DocTerm) (text : List ℕ) (texts : List (List ℕ))
-    → new ≡ fold noted terms (map (filter_term prefix) (filter is_given (text ∷ [])))
-    → fold noted new (map (filter_term prefix) (filter is_given texts)) ≡ fold noted terms (map (filter_term prefix) (filter is_given (text ∷ texts)))
-filters_go_on prefix terms new text texts put =
-    ap (λ ts. fold noted ts (map (filter_term prefix) (filter is_given texts))) put
-    ∙ sym (fold-append noted terms (map (filter_term prefix) (filter is_given (text ∷ []))) (map (filter_term prefix) (filter is_given texts)))
-    ∙ ap (fold noted terms) (sym (filters_step prefix text texts (is_given text)))
+pub filters_go_on : (prefix : List ℕ) (ms new : List DocTerm) (text : List ℕ) (texts : List (List ℕ))
+    → new ≡ ms ++ map (filter_term prefix) (filter is_given (text ∷ []))
+    → new ++ map (filter_term prefix) (filter is_given texts) ≡ ms ++ map (filter_term prefix) (filter is_given (text ∷ texts))
+filters_go_on prefix ms new text texts put =
+    ap (λ ns. ns ++ map (filter_term prefix) (filter is_given texts)) put
+    ∙ append_assoc ms (map (filter_term prefix) (filter is_given (text ∷ []))) (map (filter_term prefix) (filter is_given texts))
+    ∙ ap (λ ns. ms ++ ns) (sym (filters_step prefix text texts (is_given text)))
 
-filter_load_step : (prefix : List ℕ) (terms : List DocTerm) (texts : List (List ℕ)) → load_of (fold noted terms (map (filter_term prefix) texts)) ≡ load_of terms
-filter_load_step prefix terms [] = refl
-filter_load_step prefix terms (text ∷ texts) =
-    let one : load_of (noted terms (filter_term prefix text)) ≡ load_of terms = omega (arith, load-noted terms (filter_term prefix text)) in
-    filter_load_step prefix (noted terms (filter_term prefix text)) texts ∙ one
+-- a mention of a filter has wdf 0 and no place
+abbrev IsOfFilter : DocTerm → Type 0
+IsOfFilter m = (m.wdf ≡ 0) × (m.positions ≡ [])
 
-filter_load_of : (kind : FieldKind) (value : Option FieldValue) (terms : List DocTerm) → load_of (fold noted terms (filter_terms_of kind value)) ≡ load_of terms
-filter_load_of (FieldKind.Filter prefix) (Some (FieldValue.Filter texts)) terms = filter_load_step prefix terms (filter is_given texts)
-filter_load_of _ _ terms = refl
+of_filter : (kind : FieldKind) (value : Option FieldValue) → All IsOfFilter (filter_terms_of kind value)
+of_filter (FieldKind.Filter prefix) (Some (FieldValue.Filter texts)) = All-map IsOfFilter (filter_term prefix) (filter is_given texts) (λ k d lt. (refl, refl))
+of_filter _ _ = All-nil IsOfFilter
 
--- what filters give adds nothing to the wdfs
-pub filter_load : (place : ℕ) (fields : List Field) (values : List Entry) (terms : List DocTerm) → load_of (fold noted terms (filter_terms_from place fields values)) ≡ load_of terms
-filter_load place [] values terms = refl
-filter_load place (field ∷ fields) values terms =
-    let own = filter_terms_of field.kind (value_at place values) in
-    let more = filter_terms_from (place + 1) fields values in
-    ap load_of (fold-append noted terms own more) ∙ filter_load (place + 1) fields values (fold noted terms own) ∙ filter_load_of field.kind (value_at place values) terms
+of_filters : (place : ℕ) (fields : List Field) (values : List Entry) → All IsOfFilter (filter_terms_from place fields values)
+of_filters place [] values = All-nil IsOfFilter
+of_filters place (field ∷ fields) values =
+    All-append IsOfFilter (filter_terms_of field.kind (value_at place values)) (filter_terms_from (place + 1) fields values) (of_filter field.kind (value_at place values))
+    (of_filters (place + 1) fields values)
+
+none_behind : (a m : DocTerm) → m.positions ≡ [] → LieBefore a m
+none_behind a m none = subst (All (λ q. All (λ p. p < q) a.positions)) (sym none) (All-nil (λ q. All (λ p. p < q) a.positions))
+
+with_filters : (ms fs : List DocTerm) → AreMentions ms → All IsOfFilter fs → AreMentions (ms ++ fs)
+with_filters ms [] all none = subst AreMentions (sym (append-nil ms)) all
+with_filters ms (f ∷ fs) all none =
+    let first = All-head IsOfFilter f fs none in
+    subst AreMentions (append_assoc ms (f ∷ []) fs)
+    (with_filters (ms ++ f ∷ []) fs
+    (record {
+      rise = all_pairs_push LieBefore ms f all.rise (λ k d lt. none_behind (get_or ms k d) f first.1);
+      light = omega (arith, load-append ms (f ∷ []), first.0, all.light);
+    })
+    (All-tail IsOfFilter f fs none))
+
+-- the mentions of filters join those of texts
+pub filters_join : (ms : List DocTerm) (fields : List Field) (values : List Entry) → AreMentions ms → AreMentions (ms ++ filter_terms_from 0 fields values)
+filters_join ms fields values all = with_filters ms (filter_terms_from 0 fields values) all (of_filters 0 fields values)
+
+-- what could be gathered can be joined
+pub gathered_all : (g : Gathered) (before more : ℕ) → CanGather g before more → AreMentions g.mentions
+gathered_all g before more room = record { rise = room.rise; light = omega (arith, room.loads, room.few) }

@@ -1,4 +1,6 @@
-mod EntryLemmas
+mod PairLemmas
+mod TermLemmas
+mod JoinLemmas
 mod GatherLemmas
 mod SlotLemmas
 mod TakenLemmas

@@ -1,5 +1,5 @@
 -- What is taken of the values of a record, and what is left of them.
-use Rattle.std.proofs.Common.{◌≡◌, ◌<◌, ◌≤◌, ◌+◌, ◌==◌, ℕ, suc, false, List, [], ◌∷◌, ◌++◌, cond, fold, refl, sym, ap, ◌∙◌, All, AllPairs, arith}
+use Rattle.std.proofs.Common.{◌≡◌, ◌<◌, ◌≤◌, ◌+◌, ◌==◌, ℕ, false, List, [], ◌∷◌, ◌++◌, cond, fold, refl, sym, ap, ◌∙◌, All, AllPairs, arith}
 use Rattle.std.proofs.lemmas.Bool.Decides.{nat_tests}
 use Rattle.std.proofs.lemmas.List.Elements.{All-head, All-tail, All-cons, All-weaker}
 use Rattle.std.proofs.lemmas.List.Sums.{fold-append}
@@ -7,6 +7,7 @@ use Rattle.std.specs.Prelude.{Some, None}
 use Rattle.sk_base.specs.declared.record.Entry.{Entry}
 use Rattle.sk_model.specs.Documents.{value_at}
 use Rattle.sk_docs.specs.Taken.{StandFrom}
+use Rattle.sk_docs.proofs.PairLemmas.{pairs_head, pairs_tail}
 
 other_place : (place field : ℕ) → place < field → (field == place) ≡ false
 other_place place field lt = grind (arith, nat_tests)
@@ -22,17 +23,11 @@ none_given place (entry ∷ entries) behind =
     passed place entry entries (other_place place entry.field (All-head (λ (e : Entry). place < e.field) entry entries behind))
     ∙ none_given place entries (All-tail (λ (e : Entry). place < e.field) entry entries behind)
 
-rest_behind : (entry : Entry) (entries : List Entry) → AllPairs (λ (a b : Entry). a.field < b.field) (entry ∷ entries) → All (λ (e : Entry). entry.field < e.field) entries
-rest_behind entry entries rising k d lt = rising 0 (suc k) d (omega arith) (omega arith)
-
-rest_rises : (entry : Entry) (entries : List Entry) → AllPairs (λ (a b : Entry). a.field < b.field) (entry ∷ entries) → AllPairs (λ (a b : Entry). a.field < b.field) entries
-rest_rises entry entries rising i j d lt within = rising (suc i) (suc j) d (omega arith) (omega arith)
-
 -- the first of them is taken
 pub stand_rest : (place : ℕ) (entry : Entry) (entries : List Entry) → entry.field ≡ place → StandFrom place (entry ∷ entries) → StandFrom (place + 1) entries
 stand_rest place entry entries here stand = record {
-  rising = rest_rises entry entries stand.rising;
-  from = All-weaker (λ (e : Entry). entry.field < e.field) (λ e. place + 1 ≤ e.field) (λ e lt. omega (arith, here)) entries (rest_behind entry entries stand.rising);
+  rising = pairs_tail (λ (a b : Entry). a.field < b.field) entry entries stand.rising;
+  from = All-weaker (λ (e : Entry). entry.field < e.field) (λ e. place + 1 ≤ e.field) (λ e lt. omega (arith, here)) entries (pairs_head (λ (a b : Entry). a.field < b.field) entry entries stand.rising);
 }
 
 -- the first of them stands behind the place
@@ -43,7 +38,7 @@ stand_behind place entry entries other stand =
     record {
       rising = stand.rising;
       from = All-cons (λ (e : Entry). place + 1 ≤ e.field) entry entries first
-          (All-weaker (λ (e : Entry). entry.field < e.field) (λ e. place + 1 ≤ e.field) (λ e lt. omega (arith, first)) entries (rest_behind entry entries stand.rising));
+          (All-weaker (λ (e : Entry). entry.field < e.field) (λ e. place + 1 ≤ e.field) (λ e lt. omega (arith, first)) entries (pairs_head (λ (a b : Entry). a.field < b.field) entry entries stand.rising));
     }
 
 -- where all stand behind the place, nothing is given for its field

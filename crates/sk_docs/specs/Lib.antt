@@ -1,3 +1,3 @@
-pub mod Entries
 pub mod Gathered
+pub mod Joined
 pub mod Taken

@@ -1,5 +1,5 @@
 //! Gathers the terms of a record, field by field.
-ghost use Rattle.std.specs.Prelude.{◌≡◌, ◌<◌, ◌≤◌, ◌+◌, ◌^◌, true, [], ◌∷◌, length, fold, map, filter, AllPairs, IfOk, OnOk};
+ghost use Rattle.std.specs.Prelude.{◌≡◌, ◌<◌, ◌≤◌, ◌+◌, ◌^◌, true, [], ◌∷◌, ◌++◌, length, map, filter, AllPairs, IfOk, OnOk};
 ghost use Rattle.std.specs.Option.{option_copied};
 ghost use Rattle.std.specs.List.{list_all};
 ghost use Rattle.sk_base.specs.Fields.{is_field, is_kind};
@@ -14,14 +14,14 @@ ghost use Rattle.sk_model.specs.Documents.{
   filter_terms_of,
   filter_terms_from,
   mentions,
-  noted,
   terms_of,
 };
 ghost use Rattle.sk_docs.specs.Gathered.{CanGather, after, occurrences_among, bytes_of_given};
+ghost use Rattle.sk_docs.specs.Joined.{AreMentions};
 ghost use Rattle.sk_base.specs.Loads.{load_of};
 
+use crate::mentions::Mentions;
 use crate::taking::taken;
-use crate::term_map::TermMap;
 use sk_base::{DocTerms, Entry, Field, FieldKind, FieldValue, Text, into_prefixed, prefixed};
 use sk_text::{Word, words};
 use std::alloc::{AllocError, Global};
@@ -35,7 +35,7 @@ pub fn terms(alloc: Global, fields: &[Field], values: &[Entry]) -> Result<DocTer
     ensures value { IfOk result (λ terms. terms ≡ terms_of (mentions fields.now values.now)) }
     ensures light { IfOk result (λ terms. load_of terms < 2 ^ 29) }
 {
-    let mut gathered = TermMap::new(alloc);
+    let mut gathered = Mentions::new(alloc);
     note_texts(alloc, &mut gathered, fields, values)?;
     note_filters(alloc, &mut gathered, fields, values)?;
     gathered.into_terms(alloc)
@@ -44,7 +44,7 @@ pub fn terms(alloc: Global, fields: &[Field], values: &[Entry]) -> Result<DocTer
 /// Notes the words of all texts, in the order of the schema.
 fn note_texts(
     alloc: Global,
-    gathered: &mut TermMap,
+    gathered: &mut Mentions,
     fields: &[Field],
     values: &[Entry],
 ) -> Result<(), AllocError>
@@ -53,7 +53,7 @@ fn note_texts(
     requires rising { AllPairs (λ a b. a.field < b.field) values.now }
     requires room { CanGather gathered.old 0 (bytes_of_values values.now) }
     ensures value { OnOk result (gathered.new ≡ after gathered.old (occurrences_from 0 0 fields.now values.now)) }
-    ensures light { OnOk result (load_of gathered.new.terms < 2 ^ 29) }
+    ensures all { OnOk result (AreMentions gathered.new.mentions) }
 {
     let mut before = 0;
     let mut left = values;
@@ -81,7 +81,7 @@ fn text_fields(kind: &FieldKind) -> u32
 /// Notes the words of a value, where it is a text.
 fn note_value(
     alloc: Global,
-    gathered: &mut TermMap,
+    gathered: &mut Mentions,
     kind: &FieldKind,
     before: u32,
     value: Option<&FieldValue>,
@@ -109,7 +109,7 @@ fn note_value(
 /// Notes the words of a text.
 fn note_text(
     alloc: Global,
-    gathered: &mut TermMap,
+    gathered: &mut Mentions,
     prefix: &str,
     step: u32,
     before: u32,
@@ -130,13 +130,12 @@ fn note_text(
 /// Notes a word, if it is indexed.
 fn note_word(
     alloc: Global,
-    gathered: &mut TermMap,
+    gathered: &mut Mentions,
     prefix: &str,
     step: u32,
     before: u32,
     word: Word,
 ) -> Result<(), AllocError>
-    requires step { step ≤ 256 }
     requires room { CanGather gathered.old before 1 }
     ensures { OnOk result (gathered.new ≡ after gathered.old (occurrences_among prefix.now step before (word ∷ []))) }
 {
@@ -145,19 +144,18 @@ fn note_word(
         return Ok(());
     }
     let term = into_prefixed(alloc, prefix, text)?;
-    gathered.note_word(alloc, term, step, before)
+    gathered.note_word(Text::from_string(term), step, before)
 }
 
 /// Notes the texts of all filters, in the order of the schema.
 fn note_filters(
     alloc: Global,
-    gathered: &mut TermMap,
+    gathered: &mut Mentions,
     fields: &[Field],
     values: &[Entry],
 ) -> Result<(), AllocError>
     requires rising { AllPairs (λ a b. a.field < b.field) values.now }
-    ensures value { OnOk result (gathered.new.terms ≡ fold noted gathered.old.terms (filter_terms_from 0 fields.now values.now)) }
-    ensures load { OnOk result (load_of gathered.new.terms ≡ load_of gathered.old.terms) }
+    ensures { OnOk result (gathered.new.mentions ≡ gathered.old.mentions ++ filter_terms_from 0 fields.now values.now) }
 {
     let mut left = values;
     'fields: for place in 0..fields.len() {
@@ -171,11 +169,11 @@ fn note_filters(
 /// Notes the texts of a value, where it is that of a filter.
 fn note_filter(
     alloc: Global,
-    gathered: &mut TermMap,
+    gathered: &mut Mentions,
     kind: &FieldKind,
     value: Option<&FieldValue>,
 ) -> Result<(), AllocError>
-    ensures { OnOk result (gathered.new.terms ≡ fold noted gathered.old.terms (filter_terms_of kind.now (option_copied value.entry))) }
+    ensures { OnOk result (gathered.new.mentions ≡ gathered.old.mentions ++ filter_terms_of kind.now (option_copied value.entry)) }
 {
     match (kind, value) {
         (FieldKind::Filter(prefix), Some(FieldValue::Filter(texts))) => {
@@ -188,11 +186,11 @@ fn note_filter(
 /// Notes those of the texts that are not empty.
 fn note_filter_texts(
     alloc: Global,
-    gathered: &mut TermMap,
+    gathered: &mut Mentions,
     prefix: &str,
     texts: &[Text],
 ) -> Result<(), AllocError>
-    ensures { OnOk result (gathered.new.terms ≡ fold noted gathered.old.terms (map (filter_term prefix.now) (filter is_given texts.now))) }
+    ensures { OnOk result (gathered.new.mentions ≡ gathered.old.mentions ++ map (filter_term prefix.now) (filter is_given texts.now)) }
 {
     'texts: for text in texts {
         note_filter_text(alloc, gathered, prefix, text.as_str())?;
@@ -203,15 +201,15 @@ fn note_filter_texts(
 /// Notes a text of a filter, if it is not empty.
 fn note_filter_text(
     alloc: Global,
-    gathered: &mut TermMap,
+    gathered: &mut Mentions,
     prefix: &str,
     text: &str,
 ) -> Result<(), AllocError>
-    ensures { OnOk result (gathered.new.terms ≡ fold noted gathered.old.terms (map (filter_term prefix.now) (filter is_given (text.now ∷ [])))) }
+    ensures { OnOk result (gathered.new.mentions ≡ gathered.old.mentions ++ map (filter_term prefix.now) (filter is_given (text.now ∷ []))) }
 {
     if text.is_empty() {
         return Ok(());
     }
     let term = prefixed(alloc, prefix, text)?;
-    gathered.note_filter(alloc, term.into_string())
+    gathered.note_filter(term)
 }

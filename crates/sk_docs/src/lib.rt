@@ -3,10 +3,10 @@
 
 mod building;
 mod gathering;
-mod mentioned;
+mod mention;
+mod mentions;
 mod slots;
 mod taking;
-mod term_map;
 
 pub use building::build;
 pub use sk_base::{Doc, DocTerm, DocTerms, Positions, SlotValue, SlotValues};

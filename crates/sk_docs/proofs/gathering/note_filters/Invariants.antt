@@ -1,9 +1,9 @@
-use Rattle.std.proofs.Common.{◌≡◌, drop, fold}
-use Rattle.sk_model.specs.Documents.{filter_terms_from, noted}
+use Rattle.std.proofs.Common.{◌≡◌, ◌++◌, drop}
+use Rattle.sk_model.specs.Documents.{filter_terms_from}
 use Rattle.sk_docs.proofs.TakenLemmas.{Left}
 use Rattle.sk_docs.proofs.gathering.note_filters.Given as goal
 
 abbrev pub invariant-fields : goal.invariant-fields
 invariant-fields l =
     Left l.place l.left l.values
-    × (fold noted l.gathered.terms (filter_terms_from l.place (drop l.place l.fields) l.values) ≡ fold noted l.initial.gathered.terms (filter_terms_from 0 l.fields l.values))
+    × (l.gathered.mentions ++ filter_terms_from l.place (drop l.place l.fields) l.values ≡ l.initial.gathered.mentions ++ filter_terms_from 0 l.fields l.values)
