@@ -76,6 +76,28 @@ impl Cursor {
         if !self.is_below(target) {
             return 0;
         }
+        self.advance(list, target, need_wdf, steps)
+    }
+
+    /// The same from a head that lies below the target, for one who keeps the head.
+    #[inline(always)]
+    pub fn advance<L: Ledger>(
+        &mut self,
+        list: &List,
+        target: u32,
+        need_wdf: u32,
+        steps: &mut Steps<L>,
+    ) -> u32
+        requires on { IsOn self.old list.now }
+        requires below { is_below target (left self.old list.now) ≡ true }
+        ensures on { IsOn self.new list.now }
+        ensures passes { Passes target need_wdf (left self.old list.now) (left self.new list.now) }
+        ensures reads { Reads target result (unread self.old list.now) (unread self.new list.now) }
+        ensures once { result + length (unread self.new list.now) ≤ length (unread self.old list.now) }
+        ensures most { result ≤ 128 }
+        ensures cost { steps.new ≡ steps.old + result }
+        ensures moves { (id : ℕ) → target ≤ id → result + count_below id (left self.new list.now) ≤ count_below id (left self.old list.now) }
+    {
         let here = &list.as_slice()[self.run];
         if stops_in(here, target, need_wdf) {
             return self.read_on(here, target, steps);

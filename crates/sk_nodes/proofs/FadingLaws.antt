@@ -367,6 +367,24 @@ under_same i target need spent s point greatest first h may = (first, (h, le_ref
 pub under_gone : (i : Indexed) (target need spent : ℕ) (s : Shape) → FadesUnder i target need spent spent s ended
 under_gone i target need spent s point greatest first h may = (first, (tt, omega arith))
 
+-- a leaf that was moved on, and not replaced
+pub under_leaf : (i : Indexed) (target need before after : ℕ) (old new : Leaf) (top : Top) (s n : Shape) → s ≡ leaf old → n ≡ leaf new → IsTop i top s → top.head < 2 ^ 32 → need ≤ top.greatest
+    → new.greatest ≡ old.greatest → after + leaf_unread i new ≤ before + leaf_unread i old
+    → ((point : ℕ) → target ≤ point + 1 → after + count_to point (entries_of i new) ≤ before + count_to point (entries_of i old)) → FadesUnder i target need before after s n
+under_leaf i target need before after old new top s n e f is opened enough own paid moves =
+    subst (λ (o : Shape). FadesUnder i target need before after o n) (sym e) (subst (λ (o : Shape). FadesUnder i target need before after (leaf old) o) (sym f) by)
+  where
+    top_is : need ≤ old.greatest
+    top_is = let le = (subst (λ (o : Shape). IsTop i top o) e is).summed opened in omega (arith, le, enough)
+
+    near : (point greatest : ℕ) → old.greatest ≤ greatest → MayLeave point greatest target need → target ≤ point + 1
+    near point greatest le (inl may) = may
+    near point greatest le (inr less) = absurd (omega (arith, le, less, top_is))
+
+    by : FadesUnder i target need before after (leaf old) (leaf new)
+    by point greatest true h may = (true, (tt, paid))
+    by point greatest false h may = (false, (omega (arith, own, h), moves point (near point greatest h may)))
+
 -- it was replaced, and moved on
 pub under_moved : (i : Indexed) (target need before after : ℕ) (top : Top) (s mid new : Shape) → IsTop i top s → Sound i s → top.head < 2 ^ 32 → need ≤ top.greatest → mid ≡ decayed need s → Fades i target before after mid new → FadesUnder i target need before after s new
 under_moved i target need before after top s mid new is sound opened enough e fades point greatest first h may =

@@ -22,6 +22,8 @@ use Rattle.sk_nodes.specs.declared.top.Top.{Top}
 use Rattle.sk_nodes.specs.declared.leaf.Leaf.{Leaf}
 use Rattle.sk_nodes.specs.Leaves.{list_in, entries_of, weighed, leaf_rest, head_of, AreLight, AtMost, IsLeafOn, IsLeafTop}
 use Rattle.sk_nodes.specs.Left.{from_on}
+use Rattle.sk_nodes.specs.Shapes.{leaf}
+use Rattle.sk_nodes.specs.Sound.{IsTop}
 
 -- ---- what is given from an id on
 
@@ -195,6 +197,42 @@ leaf_shown i t l id wdf on here much same weighs greatest = record {
   exact = λ lt. greatest;
   closed = λ end. absurd (omega (arith, end, same, first_small id (entries_of i l) (AreSorted-left l.cursor (runs_in i l.number) on.runs on.on) here));
 }
+
+-- what is written of it where what it can weigh is kept
+pub leaf_pointed : (i : Indexed) (t : Top) (l : Leaf) (id wdf : ℕ) → IsLeafOn i l → Some id ≡ first_id (entries_of i l) → wdf ≡ first_wdf (entries_of i l)
+    → t.head ≡ id → t.weight ≡ weigh_by l.factor l.scheme wdf → AtMost t.greatest (leaf_rest i l) → t.greatest ≤ l.greatest → IsTop i t (leaf l)
+leaf_pointed i t l id wdf on here much same weighs bound le = record {
+  head = same_head id wdf t.head t.weight l.factor l.scheme (leaf_rest i l) same weighs
+      (weighed-head l.factor l.scheme id wdf (entries_of i l) (AreSorted-left l.cursor (runs_in i l.number) on.runs on.on) here much);
+  bound = bound;
+  summed = λ lt. le;
+  closed = λ end. absurd (omega (arith, end, same, first_small id (entries_of i l) (AreSorted-left l.cursor (runs_in i l.number) on.runs on.on) here));
+}
+
+-- the first entry is not behind one that is found
+first_below : (id target wdf : ℕ) (es : Postings) → AreSorted es → found id es ≡ Some wdf → id < target → is_below target es ≡ true
+first_below id target wdf [] sorted e lt = cc
+first_below id target wdf (p ∷ ps) sorted e lt =
+    elim (cases_lt id p.0) as (λ _. nat_lt p.0 target ≡ true) [
+      | inl less ↦ absurd_some (sym (found-below id id (p ∷ ps) (le_refl id) (less, sorted.rise.1)) ∙ e)
+      | inr le ↦ is_less p.0 target (omega (arith, le, lt))
+    ]
+  where
+    absurd_some : None ≡ Some wdf → nat_lt p.0 target ≡ true
+    absurd_some e = cc
+
+    is_less : (a b : ℕ) → a < b → nat_lt a b ≡ true
+    is_less a b lt = grind (arith, nat_tests)
+
+some_found : (factor : ℕ) (scheme : Scheme) (o : Option ℕ) (weight : ℕ) → option_map (weigh_by factor scheme) o ≡ Some weight → (w : ℕ) × (o ≡ Some w)
+some_found factor scheme None weight e = absurd cc
+some_found factor scheme (Some w) weight e = (w, refl)
+
+-- a leaf whose head lies below the target
+pub head_is_below : (i : Indexed) (t : Top) (l : Leaf) (target : ℕ) → IsTop i t (leaf l) → IsLeafOn i l → t.head < target → target < 2 ^ 32 → is_below target (entries_of i l) ≡ true
+head_is_below i t l target top on lt small =
+    let there = some_found l.factor l.scheme (found t.head (entries_of i l)) t.weight (top.head.at (omega (arith, lt, small))) in
+    first_below t.head target there.0 (entries_of i l) (AreSorted-left l.cursor (runs_in i l.number) on.runs on.on) there.1 lt
 
 -- the cursor moved on
 pub sought_covers : (factor : ℕ) (scheme : Scheme) (need_wdf need target : ℕ) (runs : Runs) (old new : Cursor) → AreRuns runs → IsOn old runs → AreLight factor scheme need_wdf need

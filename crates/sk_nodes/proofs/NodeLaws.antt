@@ -17,7 +17,8 @@ use Rattle.sk_nodes.specs.declared.node.Node.{Node, the_lemmas}
 use Rattle.sk_nodes.specs.declared.node.Node.TheVariants as Node
 use Rattle.sk_nodes.specs.Leaves.{AtMost}
 use Rattle.sk_nodes.specs.declared.proximity.Proximity.{Proximity}
-use Rattle.sk_nodes.specs.Shapes.{Shape, ended, pair, odd, tested, shape_of, size_of, sides_on}
+use Rattle.sk_nodes.specs.declared.leaf.Leaf.{Leaf}
+use Rattle.sk_nodes.specs.Shapes.{Shape, ended, leaf, pair, odd, tested, shape_of, size_of, sides_on}
 use Rattle.sk_nodes.specs.Decayed.{changed_pair, decayed}
 use Rattle.sk_nodes.specs.Left.{rest, from_on, unread_of}
 use Rattle.sk_nodes.specs.Sound.{IsTop, IsPair, Sound, Replaces}
@@ -27,6 +28,9 @@ use Rattle.sk_nodes.proofs.LeafLaws.{from_on-at, from_on-below, from_cases, cove
 
 pub shape_of-Nothing : shape_of Node.Nothing ≡ ended
 shape_of-Nothing = search (rules, the_lemmas)
+
+pub shape_of-Leaf : (l : Leaf) → shape_of (Node.Leaf l) ≡ leaf l
+shape_of-Leaf l = search (rules, the_lemmas)
 
 pub shape_of-Pair : (form : Form) (ta tb : Top) (a b : Box Node Global) → shape_of (Node.Pair form ta a tb b) ≡ pair form ta (shape_of a.value) tb (shape_of b.value)
 shape_of-Pair form ta tb a b = search (rules, the_lemmas)
@@ -288,6 +292,10 @@ pair_shape node form ta tb a b x y e f g = ap shape_of e ∙ shape_of-Pair form 
 -- the same by what is read of its parts
 pub parts_shape : (node : Node) (form : Form) (ta tb : Top) (a b : Box Node Global) (f : Form) (va vb : Top) (x y : Node) → node ≡ Node.Pair form ta a tb b → f ≡ form → va ≡ ta → vb ≡ tb → x ≡ a.value → y ≡ b.value → shape_of node ≡ pair f va (shape_of x) vb (shape_of y)
 parts_shape node form ta tb a b f va vb x y e ef ea eb ex ey = pair_shape node form ta tb a b x y e ex ey ∙ (λ i. pair (sym ef i) (sym ea i) (shape_of x) (sym eb i) (shape_of y))
+
+-- a leaf
+pub leaf_shape : (node : Node) (l m : Leaf) → node ≡ Node.Leaf l → m ≡ l → shape_of node ≡ leaf m
+leaf_shape node l m e f = ap shape_of e ∙ shape_of-Leaf l ∙ (λ i. leaf (sym f i))
 
 -- a test of a node
 pub tested_shape : (node : Node) (p : Proximity) (t : Top) (b : Box Node Global) (q : Proximity) (u : Top) (x : Node) → node ≡ Node.Tested p t b → q ≡ p → u ≡ t → x ≡ b.value → shape_of node ≡ tested q u (shape_of x)

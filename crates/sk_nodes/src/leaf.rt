@@ -5,7 +5,8 @@ ghost use Rattle.sk_runs.specs.Runs.{flat};
 ghost use Rattle.sk_lists.specs.Seeks.{count_to};
 ghost use Rattle.sk_model.specs.Covers.{Covers};
 ghost use Rattle.sk_index.specs.Indexed.{Indexed, runs_in};
-ghost use Rattle.sk_nodes.specs.Leaves.{list_in, weighed, leaf_rest, leaf_unread, leaf_greatest, IsThere, entries_of, head_of, IsLeafOn, AreLight, IsLeafTop};
+ghost use Rattle.sk_nodes.specs.Leaves.{list_in, weighed, leaf_rest, leaf_unread, leaf_greatest, IsThere, entries_of, head_of, AtMost, IsLeafOn, AreLight, IsLeafTop};
+ghost use Rattle.sk_nodes.specs.Sound.{IsTop};
 ghost use Rattle.sk_nodes.specs.Left.{from_on};
 ghost use Rattle.sk_nodes.specs.Shapes.{leaf};
 ghost use Rattle.sk_nodes.specs.Led.{Walks};
@@ -78,7 +79,6 @@ impl Leaf {
     }
 
     /// Moves on to the first entry from the target on; it may pass over what weighs less than the need.
-    #[inline(always)]
     pub fn seek<L: Ledger>(
         &mut self,
         top: &mut Top,
@@ -112,6 +112,45 @@ impl Leaf {
         self.show(top);
     }
 
+    /// The same from its head, which is kept beside it and lies below the target; what it can weigh stays as it is kept.
+    #[inline(always)]
+    pub fn advance<L: Ledger>(
+        &mut self,
+        top: &mut Top,
+        index: &Index,
+        target: u64,
+        need: u64,
+        spent: &mut u128,
+        steps: &mut Steps<L>,
+    )
+        requires sound { IsLeafOn index.now self.old }
+        requires top { IsTop index.now top.old (leaf self.old) }
+        requires below { top.old.head < target }
+        requires target { target < 2 ^ 32 }
+        requires room { spent.old + leaf_unread index.now self.old < 2 ^ 128 }
+        ensures sound { IsLeafOn index.now self.new }
+        ensures top { IsTop index.now top.new (leaf self.new) }
+        ensures covers { Covers (from_on target (leaf_rest index.now self.old)) (leaf_rest index.now self.new) need }
+        ensures reached { target ≤ top.new.head }
+        ensures at { top.new.head ≡ head_of (entries_of index.now self.new) }
+        ensures walks { Walks index.now target spent.old spent.new self.old self.new }
+        ensures falls { top.new.greatest ≤ top.old.greatest }
+        ensures own { self.new.greatest ≡ self.old.greatest }
+        ensures moves { (point : ℕ) → target ≤ point + 1 → spent.new + count_to point (entries_of index.now self.new) ≤ spent.old + count_to point (entries_of index.now self.old) }
+        ensures paid { spent.new + leaf_unread index.now self.new ≤ spent.old + leaf_unread index.now self.old }
+        ensures counted { steps.new + spent.old ≡ steps.old + spent.new }
+        ensures later { spent.old ≤ spent.new }
+    {
+        let list = list_of(index, self.number);
+        self.need_wdf = self.wdf_for(need);
+        self.need = need;
+        let read = self
+            .cursor
+            .advance(list, target as u32, self.need_wdf, steps);
+        *spent += u128::from(read);
+        self.point(top);
+    }
+
     // The least wdf that weighs what is needed, worked out anew for a new need.
     fn wdf_for(&self, need: u64) -> u32
         requires factor { self.now.factor ≤ 65536 }
@@ -124,6 +163,25 @@ impl Leaf {
         match need_wdf(self.scheme, self.factor, need) {
             Some(least) => least,
             None => WDFS,
+        }
+    }
+
+    // Writes the head and its weight. What it can weigh is nothing at the end, and stays before that.
+    #[inline(always)]
+    fn point(&self, top: &mut Top)
+        requires { self.now.factor ≤ 65536 }
+        ensures top { (i : Indexed) → IsLeafOn i self.now → AtMost top.old.greatest (leaf_rest i self.now) → top.old.greatest ≤ self.now.greatest
+            → IsTop i top.new (leaf self.now) }
+        ensures at { (i : Indexed) → IsLeafOn i self.now → top.new.head ≡ head_of (entries_of i self.now) }
+        ensures falls { top.new.greatest ≤ top.old.greatest }
+    {
+        let wdf = self.cursor.wdf();
+        match self.cursor.head() {
+            Some(id) => {
+                top.head = u64::from(id);
+                top.weight = weigh_by(self.factor, self.scheme, u64::from(wdf));
+            }
+            None => *top = Top::ended(),
         }
     }
 

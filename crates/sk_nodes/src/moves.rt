@@ -21,7 +21,7 @@ use sk_query::Form;
 use sk_steps::Steps;
 use std::sync::ledger::Ledger;
 
-/// Moves a node on that stands before the target.
+/// Moves a node on that stands before the target. A leaf, as most nodes are, moves on with no call.
 #[cycle(seek)]
 #[inline(always)]
 pub(crate) fn reach<L: Ledger>(
@@ -56,17 +56,65 @@ pub(crate) fn reach<L: Ledger>(
         return;
     }
     if top.greatest < need {
-        *node = Node::Nothing;
-        *top = Top::ended();
+        give_up(top, node);
         return;
     }
+    match node {
+        Node::Leaf(leaf) => leaf.advance(top, index, target, need, spent, steps),
+        _ => reach_inner(top, node, index, target, need, spent, steps),
+    }
+}
+
+// Leaves nothing of a node.
+#[inline(never)]
+fn give_up(top: &mut Top, node: &mut Node)
+    ensures node { node.new ≡ Node.Nothing }
+    ensures top { top.new ≡ record { head = 2 ^ 32; weight = 0; greatest = 0 } }
+{
+    *node = Node::Nothing;
+    *top = Top::ended();
+}
+
+/// The same by a call, of a node that can weigh what is needed.
+#[cycle(seek)]
+#[inline(never)]
+fn reach_inner<L: Ledger>(
+    top: &mut Top,
+    node: &mut Node,
+    index: &Index,
+    target: u64,
+    need: u64,
+    spent: &mut u128,
+    steps: &mut Steps<L>,
+)
+    requires below { top.old.head < target }
+    requires enough { need ≤ top.old.greatest }
+    requires top { IsTop index.now top.old (shape_of node.old) }
+    requires sound { Sound index.now (shape_of node.old) }
+    requires target { target < 2 ^ 32 }
+    requires room { spent.old + unread_of index.now (shape_of node.old) < 2 ^ 128 }
+    ensures top { IsTop index.now top.new (shape_of node.new) }
+    ensures sound { Sound index.now (shape_of node.new) }
+    ensures covers { Covers (from_on target (rest index.now (shape_of node.old))) (rest index.now (shape_of node.new)) need }
+    ensures reached { target ≤ top.new.head }
+    ensures falls { top.new.greatest ≤ top.old.greatest }
+    ensures smaller { size_of (shape_of node.new) ≤ size_of (shape_of node.old) }
+    ensures paid { spent.new + unread_of index.now (shape_of node.new) ≤ spent.old + unread_of index.now (shape_of node.old) }
+    ensures counted { steps.new + spent.old ≡ steps.old + spent.new }
+    ensures later { spent.old ≤ spent.new }
+    ensures stays { Stays index.now target need spent.old spent.new (shape_of node.old) (shape_of node.new) }
+    ensures leads { Leads index.now target need spent.old spent.new (shape_of node.old) (shape_of node.new) }
+    ensures at { IsLed index.now (shape_of node.old) → IsAtLead index.now top.old (shape_of node.old) → IsAtLead index.now top.new (shape_of node.new) }
+    ensures moves { StandsOn index.now top.old (shape_of node.old) → Moves index.now target spent.old spent.new (shape_of node.old) top.new (shape_of node.new) }
+    ensures fades { FadesUnder index.now target need spent.old spent.new (shape_of node.old) (shape_of node.new) }
+{
     let before = top.greatest;
     settle(node, index, need);
     seek(top, node, index, target, need, spent, steps);
     top.greatest = top.greatest.min(before);
 }
 
-/// Moves a node on to its first match from the target on. A leaf, as most nodes are, moves on with no call.
+/// Moves a node on to its first match from the target on.
 #[cycle(seek)]
 #[inline(always)]
 fn seek<L: Ledger>(
@@ -96,44 +144,10 @@ fn seek<L: Ledger>(
     ensures fades { Fades index.now target spent.old spent.new (shape_of node.old) (shape_of node.new) }
 {
     match node {
-        Node::Leaf(leaf) => leaf.seek(top, index, target, need, spent, steps),
-        _ => seek_inner(top, node, index, target, need, spent, steps),
-    }
-}
-
-/// The same by a call.
-#[cycle(seek)]
-fn seek_inner<L: Ledger>(
-    top: &mut Top,
-    node: &mut Node,
-    index: &Index,
-    target: u64,
-    need: u64,
-    spent: &mut u128,
-    steps: &mut Steps<L>,
-)
-    requires sound { Sound index.now (shape_of node.old) }
-    requires target { target < 2 ^ 32 }
-    requires room { spent.old + unread_of index.now (shape_of node.old) < 2 ^ 128 }
-    ensures top { IsTop index.now top.new (shape_of node.new) }
-    ensures sound { Sound index.now (shape_of node.new) }
-    ensures covers { Covers (from_on target (rest index.now (shape_of node.old))) (rest index.now (shape_of node.new)) need }
-    ensures reached { target ≤ top.new.head }
-    ensures smaller { size_of (shape_of node.new) ≤ size_of (shape_of node.old) }
-    ensures paid { spent.new + unread_of index.now (shape_of node.new) ≤ spent.old + unread_of index.now (shape_of node.old) }
-    ensures counted { steps.new + spent.old ≡ steps.old + spent.new }
-    ensures later { spent.old ≤ spent.new }
-    ensures stays { Stays index.now target need spent.old spent.new (shape_of node.old) (shape_of node.new) }
-    ensures leads { Leads index.now target need spent.old spent.new (shape_of node.old) (shape_of node.new) }
-    ensures at { IsLed index.now (shape_of node.old) → IsAtLead index.now top.new (shape_of node.new) }
-    ensures moves { IsLone (shape_of node.old) → Moves index.now target spent.old spent.new (shape_of node.old) top.new (shape_of node.new) }
-    ensures fades { Fades index.now target spent.old spent.new (shape_of node.old) (shape_of node.new) }
-{
-    match node {
         Node::Nothing => *top = Top::ended(),
         Node::Leaf(leaf) => leaf.seek(top, index, target, need, spent, steps),
         Node::Span(span) => span.seek(top, index, target, spent, steps),
-        Node::Pair(form, ta, a, tb, b) => seek_pair(
+        Node::Pair(form, ta, a, tb, b) => seek_sides(
             top, *form, ta, a, tb, b, index, target, need, spent, steps,
         ),
         Node::Odd(tops, nodes) => seek_odd(top, tops, nodes, index, target, need, spent, steps),
@@ -210,6 +224,70 @@ pub(crate) fn seek_pair<L: Ledger>(
             }
             Meeting::Behind(further) => from = further,
         }
+    }
+}
+
+/// The same by the form, so that a copy of the loop is made for each of the commonest.
+#[cycle(seek)]
+#[inline(always)]
+fn seek_sides<L: Ledger>(
+    top: &mut Top,
+    form: Form,
+    ta: &mut Top,
+    a: &mut Node,
+    tb: &mut Top,
+    b: &mut Node,
+    index: &Index,
+    target: u64,
+    need: u64,
+    spent: &mut u128,
+    steps: &mut Steps<L>,
+)
+    requires pair { IsPair index.now ta.old (shape_of a.old) tb.old (shape_of b.old) (Sound index.now (shape_of a.old)) (Sound index.now (shape_of b.old)) }
+    requires target { target < 2 ^ 32 }
+    requires room { spent.old + (unread_of index.now (shape_of a.old) + unread_of index.now (shape_of b.old)) < 2 ^ 128 }
+    ensures top { IsTop index.now top.new (pair form ta.new (shape_of a.new) tb.new (shape_of b.new)) }
+    ensures sound { IsPair index.now ta.new (shape_of a.new) tb.new (shape_of b.new) (Sound index.now (shape_of a.new)) (Sound index.now (shape_of b.new)) }
+    ensures covers { Covers (from_on target (λ id. paired form (rest index.now (shape_of a.old) id) (rest index.now (shape_of b.old) id))) (λ id. paired form (rest index.now (shape_of a.new) id) (rest index.now (shape_of b.new) id)) need }
+    ensures reached { target ≤ top.new.head }
+    ensures falls { top.new.greatest ≤ greatest_under form ta.old.greatest tb.old.greatest }
+    ensures smaller { size_of (shape_of a.new) + size_of (shape_of b.new) ≤ size_of (shape_of a.old) + size_of (shape_of b.old) }
+    ensures paid { spent.new + (unread_of index.now (shape_of a.new) + unread_of index.now (shape_of b.new)) ≤ spent.old + (unread_of index.now (shape_of a.old) + unread_of index.now (shape_of b.old)) }
+    ensures counted { steps.new + spent.old ≡ steps.old + spent.new }
+    ensures later { spent.old ≤ spent.new }
+    ensures stays { Stays index.now target need spent.old spent.new (pair form ta.old (shape_of a.old) tb.old (shape_of b.old)) (pair form ta.new (shape_of a.new) tb.new (shape_of b.new)) }
+    ensures leads { Leads index.now target need spent.old spent.new (pair form ta.old (shape_of a.old) tb.old (shape_of b.old)) (pair form ta.new (shape_of a.new) tb.new (shape_of b.new)) }
+    ensures at { IsLed index.now (pair form ta.old (shape_of a.old) tb.old (shape_of b.old)) → IsAtLead index.now top.new (pair form ta.new (shape_of a.new) tb.new (shape_of b.new)) }
+    ensures fades { Fades index.now target spent.old spent.new (pair form ta.old (shape_of a.old) tb.old (shape_of b.old)) (pair form ta.new (shape_of a.new) tb.new (shape_of b.new)) }
+{
+    match form {
+        Form::Or => seek_pair(
+            top,
+            Form::Or,
+            ta,
+            a,
+            tb,
+            b,
+            index,
+            target,
+            need,
+            spent,
+            steps,
+        ),
+        Form::And => seek_pair(
+            top,
+            Form::And,
+            ta,
+            a,
+            tb,
+            b,
+            index,
+            target,
+            need,
+            spent,
+            steps,
+        ),
+        _ => seek_pair(top, form, ta, a, tb, b, index, target, need, spent, steps),
     }
 }
 

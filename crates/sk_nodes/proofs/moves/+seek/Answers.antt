@@ -9,7 +9,7 @@ use Rattle.sk_nodes.specs.Left.{rest, from_on, greatest_sum, unread_in}
 use Rattle.sk_nodes.specs.Sound.{IsTop, Sound, AreSound}
 use Rattle.sk_nodes.specs.Odd.{AreFrom, AreSought, followed_by}
 use Rattle.sk_nodes.proofs.LeafLaws.{AtMost-covers}
-use Rattle.sk_nodes.proofs.NodeLaws.{covers_more, capped_top, shape_of-Nothing, shape_of-Pair, shape_of-Tested, tested_shape, parts_shape, covers_along, weight_le, target_ended, head_reached, pair_top, pair_top_ended, sides_covers, sides_covers_ended, sides_begun, sides_more, size_along, paid_along}
+use Rattle.sk_nodes.proofs.NodeLaws.{covers_more, capped_top, shape_of-Nothing, shape_of-Leaf, shape_of-Pair, leaf_shape, shape_of-Tested, tested_shape, parts_shape, covers_along, weight_le, target_ended, head_reached, pair_top, pair_top_ended, sides_covers, sides_covers_ended, sides_begun, sides_more, size_along, paid_along}
 use Rattle.sk_nodes.proofs.OddLaws.{weights_fit, odd_covers, odd_more, odd_top, sides_split, sides_append, both_sound, sound_behind, from_behind, sought_behind, greatest_behind, unread_behind, sizes_behind, some_sizes}
 use Rattle.sk_nodes.specs.Proximity.{entries_from}
 use Rattle.sk_nodes.proofs.ProximityLaws.{test_begun, moved_all, moved_covers, passed_top, passed_sound, passed_covers, none_top, failed_ended_covers, failed_more}
@@ -21,44 +21,44 @@ use Rattle.sk_nodes.specs.Led.{IsLed, Leads}
 use Rattle.sk_nodes.proofs.RareLaws.{leads_same, leads_decayed, leads_along, leads_other, leads_begun, leads_then, leads_on, led_round, led_round_ended, decayed_led, at_along, meets_lead}
 use Rattle.sk_nodes.specs.Fading.{Moves}
 use Rattle.sk_nodes.specs.Led.{IsLone}
-use Rattle.sk_nodes.proofs.FadingLaws.{moves_same, moves_decayed, fades_other, fades_along, under_same, under_moved, fades_begun, fades_half, fades_both, fades_on}
+use Rattle.sk_nodes.proofs.FadingLaws.{moves_same, moves_decayed, fades_other, fades_along, under_same, under_leaf, under_moved, fades_begun, fades_half, fades_both, fades_on}
 use Rattle.sk_nodes.proofs.moves.+seek.Goals as goal
 
-pub reach-returns-clause-covers : goal.reach-returns-clause-covers
-reach-returns-clause-covers g t c =
+pub reach_inner-returns-clause-covers : goal.reach_inner-returns-clause-covers
+reach_inner-returns-clause-covers g t c =
     let i = c.args.index.now in
     covers_more c.args.target c.args.need (rest i (shape_of c.args.node.now)) (rest i (shape_of c.settle.new.node)) (rest i (shape_of c.seek.new.node)) c.settle.ensures.decays.covers c.seek.ensures.covers
 
-pub reach-returns-clause-top : goal.reach-returns-clause-top
-reach-returns-clause-top g t c =
+pub reach_inner-returns-clause-top : goal.reach_inner-returns-clause-top
+reach_inner-returns-clause-top g t c =
     let i = c.args.index.now in
     subst (λ n. IsTop i (record c.seek.new.top { greatest = n }) (shape_of c.seek.new.node)) (sym c.min-top.ensures)
     (capped_top i c.seek.new.top (shape_of c.seek.new.node) c.args.top.now.greatest c.seek.ensures.top
-    (AtMost-covers c.args.target c.args.need c.args.top.now.greatest (rest i (shape_of c.args.node.now)) (rest i (shape_of c.seek.new.node)) c.requires.top.bound (reach-returns-clause-covers g t c)))
+    (AtMost-covers c.args.target c.args.need c.args.top.now.greatest (rest i (shape_of c.args.node.now)) (rest i (shape_of c.seek.new.node)) c.requires.top.bound (reach_inner-returns-clause-covers g t c)))
 
-pub seek_inner-returns-in-Pair-clause-top : goal.seek_inner-returns-in-Pair-clause-top
-seek_inner-returns-in-Pair-clause-top g t c = subst (λ (s : Shape). IsTop c.args.index.now c.seek_pair.new.top s) (sym (shape_of-Pair _ _ _ _ _)) c.seek_pair.ensures.top
+pub seek-returns-in-Pair-clause-top : goal.seek-returns-in-Pair-clause-top
+seek-returns-in-Pair-clause-top g t c = subst (λ (s : Shape). IsTop c.args.index.now c.seek_sides.new.top s) (sym (shape_of-Pair _ _ _ _ _)) c.seek_sides.ensures.top
 
-pub seek_inner-returns-in-Pair-clause-sound : goal.seek_inner-returns-in-Pair-clause-sound
-seek_inner-returns-in-Pair-clause-sound g t c = subst (λ (s : Shape). Sound c.args.index.now s) (sym (shape_of-Pair _ _ _ _ _)) c.seek_pair.ensures.sound
+pub seek-returns-in-Pair-clause-sound : goal.seek-returns-in-Pair-clause-sound
+seek-returns-in-Pair-clause-sound g t c = subst (λ (s : Shape). Sound c.args.index.now s) (sym (shape_of-Pair _ _ _ _ _)) c.seek_sides.ensures.sound
 
-pub seek_inner-returns-in-Pair-clause-covers : goal.seek_inner-returns-in-Pair-clause-covers
-seek_inner-returns-in-Pair-clause-covers g t c =
+pub seek-returns-in-Pair-clause-covers : goal.seek-returns-in-Pair-clause-covers
+seek-returns-in-Pair-clause-covers g t c =
     covers_along c.args.index.now c.args.target c.args.need _ _ _ _
     (parts_shape c.args.node.now c.in-Pair.form c.in-Pair.ta c.in-Pair.tb c.in-Pair.a c.in-Pair.b _ _ _ _ _ c.in-Pair.is c.in-Pair.form-is c.in-Pair.ta-is c.in-Pair.tb-is (c.deref_mut.ensures.value ∙ ap (λ (x : Box Node Global). x.value) c.in-Pair.a-is) (c.deref_mut-in-Pair.ensures.value ∙ ap (λ (x : Box Node Global). x.value) c.in-Pair.b-is))
-    (shape_of-Pair _ _ _ _ _) c.seek_pair.ensures.covers
+    (shape_of-Pair _ _ _ _ _) c.seek_sides.ensures.covers
 
-pub seek_inner-returns-in-Pair-clause-smaller : goal.seek_inner-returns-in-Pair-clause-smaller
-seek_inner-returns-in-Pair-clause-smaller g t c =
+pub seek-returns-in-Pair-clause-smaller : goal.seek-returns-in-Pair-clause-smaller
+seek-returns-in-Pair-clause-smaller g t c =
     size_along _ _ _ _
     (parts_shape c.args.node.now c.in-Pair.form c.in-Pair.ta c.in-Pair.tb c.in-Pair.a c.in-Pair.b _ _ _ _ _ c.in-Pair.is c.in-Pair.form-is c.in-Pair.ta-is c.in-Pair.tb-is (c.deref_mut.ensures.value ∙ ap (λ (x : Box Node Global). x.value) c.in-Pair.a-is) (c.deref_mut-in-Pair.ensures.value ∙ ap (λ (x : Box Node Global). x.value) c.in-Pair.b-is))
-    (shape_of-Pair _ _ _ _ _) (omega (arith, c.seek_pair.ensures.smaller))
+    (shape_of-Pair _ _ _ _ _) (omega (arith, c.seek_sides.ensures.smaller))
 
-pub seek_inner-returns-in-Pair-clause-paid : goal.seek_inner-returns-in-Pair-clause-paid
-seek_inner-returns-in-Pair-clause-paid g t c =
-    paid_along c.args.index.now _ _ _ _ c.args.spent.now c.seek_pair.new.spent
+pub seek-returns-in-Pair-clause-paid : goal.seek-returns-in-Pair-clause-paid
+seek-returns-in-Pair-clause-paid g t c =
+    paid_along c.args.index.now _ _ _ _ c.args.spent.now c.seek_sides.new.spent
     (parts_shape c.args.node.now c.in-Pair.form c.in-Pair.ta c.in-Pair.tb c.in-Pair.a c.in-Pair.b _ _ _ _ _ c.in-Pair.is c.in-Pair.form-is c.in-Pair.ta-is c.in-Pair.tb-is (c.deref_mut.ensures.value ∙ ap (λ (x : Box Node Global). x.value) c.in-Pair.a-is) (c.deref_mut-in-Pair.ensures.value ∙ ap (λ (x : Box Node Global). x.value) c.in-Pair.b-is))
-    (shape_of-Pair _ _ _ _ _) c.seek_pair.ensures.paid
+    (shape_of-Pair _ _ _ _ _) c.seek_sides.ensures.paid
 
 pub seek_pair-returns-then-next-ge-END-clause-top : goal.seek_pair-returns-then-next-ge-END-clause-top
 seek_pair-returns-then-next-ge-END-clause-top g t c =
@@ -336,26 +336,26 @@ seek_tested-tests-preserved g t c =
       later = omega (arith, c.reach.ensures.later, c.holds.ensures.later, c.tests.invariant.later);
     }
 
-pub seek_inner-returns-in-Tested-clause-top : goal.seek_inner-returns-in-Tested-clause-top
-seek_inner-returns-in-Tested-clause-top g t c = subst (λ (s : Shape). IsTop c.args.index.now c.seek_tested.new.top s) (sym (shape_of-Tested _ _ _)) c.seek_tested.ensures.top
+pub seek-returns-in-Tested-clause-top : goal.seek-returns-in-Tested-clause-top
+seek-returns-in-Tested-clause-top g t c = subst (λ (s : Shape). IsTop c.args.index.now c.seek_tested.new.top s) (sym (shape_of-Tested _ _ _)) c.seek_tested.ensures.top
 
-pub seek_inner-returns-in-Tested-clause-sound : goal.seek_inner-returns-in-Tested-clause-sound
-seek_inner-returns-in-Tested-clause-sound g t c = subst (λ (s : Shape). Sound c.args.index.now s) (sym (shape_of-Tested _ _ _)) c.seek_tested.ensures.sound
+pub seek-returns-in-Tested-clause-sound : goal.seek-returns-in-Tested-clause-sound
+seek-returns-in-Tested-clause-sound g t c = subst (λ (s : Shape). Sound c.args.index.now s) (sym (shape_of-Tested _ _ _)) c.seek_tested.ensures.sound
 
-pub seek_inner-returns-in-Tested-clause-covers : goal.seek_inner-returns-in-Tested-clause-covers
-seek_inner-returns-in-Tested-clause-covers g t c =
+pub seek-returns-in-Tested-clause-covers : goal.seek-returns-in-Tested-clause-covers
+seek-returns-in-Tested-clause-covers g t c =
     covers_along c.args.index.now c.args.target c.args.need _ _ _ _
     (tested_shape c.args.node.now c.in-Tested.test c.in-Tested.below c.in-Tested.node _ _ _ c.in-Tested.is c.in-Tested.test-is c.in-Tested.below-is (c.deref_mut-in-Tested.ensures.value ∙ ap (λ (x : Box Node Global). x.value) c.in-Tested.node-is))
     (shape_of-Tested _ _ _) c.seek_tested.ensures.covers
 
-pub seek_inner-returns-in-Tested-clause-smaller : goal.seek_inner-returns-in-Tested-clause-smaller
-seek_inner-returns-in-Tested-clause-smaller g t c =
+pub seek-returns-in-Tested-clause-smaller : goal.seek-returns-in-Tested-clause-smaller
+seek-returns-in-Tested-clause-smaller g t c =
     size_along _ _ _ _
     (tested_shape c.args.node.now c.in-Tested.test c.in-Tested.below c.in-Tested.node _ _ _ c.in-Tested.is c.in-Tested.test-is c.in-Tested.below-is (c.deref_mut-in-Tested.ensures.value ∙ ap (λ (x : Box Node Global). x.value) c.in-Tested.node-is))
     (shape_of-Tested _ _ _) (omega (arith, c.seek_tested.ensures.smaller))
 
-pub seek_inner-returns-in-Tested-clause-paid : goal.seek_inner-returns-in-Tested-clause-paid
-seek_inner-returns-in-Tested-clause-paid g t c =
+pub seek-returns-in-Tested-clause-paid : goal.seek-returns-in-Tested-clause-paid
+seek-returns-in-Tested-clause-paid g t c =
     paid_along c.args.index.now _ _ _ _ c.args.spent.now c.seek_tested.new.spent
     (tested_shape c.args.node.now c.in-Tested.test c.in-Tested.below c.in-Tested.node _ _ _ c.in-Tested.is c.in-Tested.test-is c.in-Tested.below-is (c.deref_mut-in-Tested.ensures.value ∙ ap (λ (x : Box Node Global). x.value) c.in-Tested.node-is))
     (shape_of-Tested _ _ _) c.seek_tested.ensures.paid
@@ -363,45 +363,45 @@ seek_inner-returns-in-Tested-clause-paid g t c =
 pub reach-returns-then-target-top-clause-stays : goal.reach-returns-then-target-top-clause-stays
 reach-returns-then-target-top-clause-stays g t c = stays_same c.args.index.now c.args.target c.args.need c.args.spent.now (shape_of c.args.node.now)
 
-pub reach-returns-clause-stays : goal.reach-returns-clause-stays
-reach-returns-clause-stays g t c =
+pub reach_inner-returns-clause-stays : goal.reach_inner-returns-clause-stays
+reach_inner-returns-clause-stays g t c =
     let i = c.args.index.now in
     stays_decayed i c.args.target c.args.need c.args.spent.now c.seek.new.spent (shape_of c.args.node.now) (shape_of c.seek.new.node)
     (subst (λ (s : Shape). Covers (rest i (shape_of c.args.node.now)) (rest i s) c.args.need) c.settle.ensures.stands c.settle.ensures.decays.covers)
     (subst (λ (s : Shape). Stays i c.args.target c.args.need c.args.spent.now c.seek.new.spent s (shape_of c.seek.new.node)) c.settle.ensures.stands c.seek.ensures.stays)
 
-pub seek_inner-returns-in-Pair-clause-stays : goal.seek_inner-returns-in-Pair-clause-stays
-seek_inner-returns-in-Pair-clause-stays g t c =
-    stays_along c.args.index.now c.args.target c.args.need c.args.spent.now c.seek_pair.new.spent _ _ _ _
+pub seek-returns-in-Pair-clause-stays : goal.seek-returns-in-Pair-clause-stays
+seek-returns-in-Pair-clause-stays g t c =
+    stays_along c.args.index.now c.args.target c.args.need c.args.spent.now c.seek_sides.new.spent _ _ _ _
     (parts_shape c.args.node.now c.in-Pair.form c.in-Pair.ta c.in-Pair.tb c.in-Pair.a c.in-Pair.b _ _ _ _ _ c.in-Pair.is c.in-Pair.form-is c.in-Pair.ta-is c.in-Pair.tb-is (c.deref_mut.ensures.value ∙ ap (λ (x : Box Node Global). x.value) c.in-Pair.a-is) (c.deref_mut-in-Pair.ensures.value ∙ ap (λ (x : Box Node Global). x.value) c.in-Pair.b-is))
-    (shape_of-Pair _ _ _ _ _) c.seek_pair.ensures.stays
+    (shape_of-Pair _ _ _ _ _) c.seek_sides.ensures.stays
 
-pub seek_inner-returns-in-Odd-clause-top : goal.seek_inner-returns-in-Odd-clause-top
-seek_inner-returns-in-Odd-clause-top g t c = subst (λ (s : Shape). IsTop c.args.index.now c.seek_odd.new.top s) (sym (odd_written _ _ c.seek_odd.new.tops c.seek_odd.new.nodes (search (rules, places)) (search (rules, places)))) c.seek_odd.ensures.top
+pub seek-returns-in-Odd-clause-top : goal.seek-returns-in-Odd-clause-top
+seek-returns-in-Odd-clause-top g t c = subst (λ (s : Shape). IsTop c.args.index.now c.seek_odd.new.top s) (sym (odd_written _ _ c.seek_odd.new.tops c.seek_odd.new.nodes (search (rules, places)) (search (rules, places)))) c.seek_odd.ensures.top
 
-pub seek_inner-returns-in-Odd-clause-sound : goal.seek_inner-returns-in-Odd-clause-sound
-seek_inner-returns-in-Odd-clause-sound g t c = subst (λ (s : Shape). Sound c.args.index.now s) (sym (odd_written _ _ c.seek_odd.new.tops c.seek_odd.new.nodes (search (rules, places)) (search (rules, places)))) c.seek_odd.ensures.sound
+pub seek-returns-in-Odd-clause-sound : goal.seek-returns-in-Odd-clause-sound
+seek-returns-in-Odd-clause-sound g t c = subst (λ (s : Shape). Sound c.args.index.now s) (sym (odd_written _ _ c.seek_odd.new.tops c.seek_odd.new.nodes (search (rules, places)) (search (rules, places)))) c.seek_odd.ensures.sound
 
-pub seek_inner-returns-in-Odd-clause-covers : goal.seek_inner-returns-in-Odd-clause-covers
-seek_inner-returns-in-Odd-clause-covers g t c =
+pub seek-returns-in-Odd-clause-covers : goal.seek-returns-in-Odd-clause-covers
+seek-returns-in-Odd-clause-covers g t c =
     covers_along c.args.index.now c.args.target c.args.need _ _ _ _
     (odd_shape c.args.node.now c.in-Odd.tops c.in-Odd.nodes _ _ c.in-Odd.is (c.deref_mut-in-Odd.ensures.value ∙ ap (λ (v : Vec Top Global). v.items) c.in-Odd.tops-is) (c.deref_mut-in-Odd-2.ensures.value ∙ ap (λ (v : Vec Node Global). v.items) c.in-Odd.nodes-is))
     (odd_written _ _ c.seek_odd.new.tops c.seek_odd.new.nodes (search (rules, places)) (search (rules, places))) c.seek_odd.ensures.covers
 
-pub seek_inner-returns-in-Odd-clause-smaller : goal.seek_inner-returns-in-Odd-clause-smaller
-seek_inner-returns-in-Odd-clause-smaller g t c =
+pub seek-returns-in-Odd-clause-smaller : goal.seek-returns-in-Odd-clause-smaller
+seek-returns-in-Odd-clause-smaller g t c =
     size_along _ _ _ _
     (odd_shape c.args.node.now c.in-Odd.tops c.in-Odd.nodes _ _ c.in-Odd.is (c.deref_mut-in-Odd.ensures.value ∙ ap (λ (v : Vec Top Global). v.items) c.in-Odd.tops-is) (c.deref_mut-in-Odd-2.ensures.value ∙ ap (λ (v : Vec Node Global). v.items) c.in-Odd.nodes-is))
     (odd_written _ _ c.seek_odd.new.tops c.seek_odd.new.nodes (search (rules, places)) (search (rules, places))) (omega (arith, c.seek_odd.ensures.smaller))
 
-pub seek_inner-returns-in-Odd-clause-paid : goal.seek_inner-returns-in-Odd-clause-paid
-seek_inner-returns-in-Odd-clause-paid g t c =
+pub seek-returns-in-Odd-clause-paid : goal.seek-returns-in-Odd-clause-paid
+seek-returns-in-Odd-clause-paid g t c =
     paid_along c.args.index.now _ _ _ _ c.args.spent.now c.seek_odd.new.spent
     (odd_shape c.args.node.now c.in-Odd.tops c.in-Odd.nodes _ _ c.in-Odd.is (c.deref_mut-in-Odd.ensures.value ∙ ap (λ (v : Vec Top Global). v.items) c.in-Odd.tops-is) (c.deref_mut-in-Odd-2.ensures.value ∙ ap (λ (v : Vec Node Global). v.items) c.in-Odd.nodes-is))
     (odd_written _ _ c.seek_odd.new.tops c.seek_odd.new.nodes (search (rules, places)) (search (rules, places))) c.seek_odd.ensures.paid
 
-pub seek_inner-returns-in-Odd-clause-stays : goal.seek_inner-returns-in-Odd-clause-stays
-seek_inner-returns-in-Odd-clause-stays g t c =
+pub seek-returns-in-Odd-clause-stays : goal.seek-returns-in-Odd-clause-stays
+seek-returns-in-Odd-clause-stays g t c =
     stays_along c.args.index.now c.args.target c.args.need c.args.spent.now c.seek_odd.new.spent _ _ _ _
     (odd_shape c.args.node.now c.in-Odd.tops c.in-Odd.nodes _ _ c.in-Odd.is (c.deref_mut-in-Odd.ensures.value ∙ ap (λ (v : Vec Top Global). v.items) c.in-Odd.tops-is) (c.deref_mut-in-Odd-2.ensures.value ∙ ap (λ (v : Vec Node Global). v.items) c.in-Odd.nodes-is))
     (odd_written _ _ c.seek_odd.new.tops c.seek_odd.new.nodes (search (rules, places)) (search (rules, places))) (stays_other c.args.index.now c.args.target c.args.need c.args.spent.now c.seek_odd.new.spent (odd _) (odd _) (λ last h. h) (λ h. h))
@@ -435,38 +435,38 @@ seek_pair-returns-then-next-ge-END-clause-stays g t c =
 pub reach-returns-then-target-top-clause-leads : goal.reach-returns-then-target-top-clause-leads
 reach-returns-then-target-top-clause-leads g t c = leads_same c.args.index.now c.args.target c.args.need c.args.spent.now (shape_of c.args.node.now)
 
-pub reach-returns-clause-leads : goal.reach-returns-clause-leads
-reach-returns-clause-leads g t c =
+pub reach_inner-returns-clause-leads : goal.reach_inner-returns-clause-leads
+reach_inner-returns-clause-leads g t c =
     let i = c.args.index.now in
     leads_decayed i c.args.target c.args.need c.args.spent.now c.seek.new.spent (shape_of c.args.node.now) (shape_of c.seek.new.node)
     (subst (λ (s : Shape). Leads i c.args.target c.args.need c.args.spent.now c.seek.new.spent s (shape_of c.seek.new.node)) c.settle.ensures.stands c.seek.ensures.leads)
 
-pub reach-returns-clause-at : goal.reach-returns-clause-at
-reach-returns-clause-at g t c led at =
+pub reach_inner-returns-clause-at : goal.reach_inner-returns-clause-at
+reach_inner-returns-clause-at g t c led at =
     let i = c.args.index.now in
     c.seek.ensures.at (subst (λ (s : Shape). IsLed i s) (sym c.settle.ensures.stands) (decayed_led i (shape_of c.args.node.now) c.args.need led))
 
-pub seek_inner-returns-in-Pair-clause-leads : goal.seek_inner-returns-in-Pair-clause-leads
-seek_inner-returns-in-Pair-clause-leads g t c =
-    leads_along c.args.index.now c.args.target c.args.need c.args.spent.now c.seek_pair.new.spent _ _ _ _
+pub seek-returns-in-Pair-clause-leads : goal.seek-returns-in-Pair-clause-leads
+seek-returns-in-Pair-clause-leads g t c =
+    leads_along c.args.index.now c.args.target c.args.need c.args.spent.now c.seek_sides.new.spent _ _ _ _
     (parts_shape c.args.node.now c.in-Pair.form c.in-Pair.ta c.in-Pair.tb c.in-Pair.a c.in-Pair.b _ _ _ _ _ c.in-Pair.is c.in-Pair.form-is c.in-Pair.ta-is c.in-Pair.tb-is (c.deref_mut.ensures.value ∙ ap (λ (x : Box Node Global). x.value) c.in-Pair.a-is) (c.deref_mut-in-Pair.ensures.value ∙ ap (λ (x : Box Node Global). x.value) c.in-Pair.b-is))
-    (shape_of-Pair _ _ _ _ _) c.seek_pair.ensures.leads
+    (shape_of-Pair _ _ _ _ _) c.seek_sides.ensures.leads
 
-pub seek_inner-returns-in-Pair-clause-at : goal.seek_inner-returns-in-Pair-clause-at
-seek_inner-returns-in-Pair-clause-at g t c led =
-    at_along c.args.index.now c.seek_pair.new.top _ _ _ _
+pub seek-returns-in-Pair-clause-at : goal.seek-returns-in-Pair-clause-at
+seek-returns-in-Pair-clause-at g t c led =
+    at_along c.args.index.now c.seek_sides.new.top _ _ _ _
     (parts_shape c.args.node.now c.in-Pair.form c.in-Pair.ta c.in-Pair.tb c.in-Pair.a c.in-Pair.b _ _ _ _ _ c.in-Pair.is c.in-Pair.form-is c.in-Pair.ta-is c.in-Pair.tb-is (c.deref_mut.ensures.value ∙ ap (λ (x : Box Node Global). x.value) c.in-Pair.a-is) (c.deref_mut-in-Pair.ensures.value ∙ ap (λ (x : Box Node Global). x.value) c.in-Pair.b-is))
-    (shape_of-Pair _ _ _ _ _) c.seek_pair.ensures.at led
+    (shape_of-Pair _ _ _ _ _) c.seek_sides.ensures.at led
 
-pub seek_inner-returns-in-Odd-clause-leads : goal.seek_inner-returns-in-Odd-clause-leads
-seek_inner-returns-in-Odd-clause-leads g t c =
+pub seek-returns-in-Odd-clause-leads : goal.seek-returns-in-Odd-clause-leads
+seek-returns-in-Odd-clause-leads g t c =
     leads_along c.args.index.now c.args.target c.args.need c.args.spent.now c.seek_odd.new.spent _ _ _ _
     (odd_shape c.args.node.now c.in-Odd.tops c.in-Odd.nodes _ _ c.in-Odd.is (c.deref_mut-in-Odd.ensures.value ∙ ap (λ (v : Vec Top Global). v.items) c.in-Odd.tops-is) (c.deref_mut-in-Odd-2.ensures.value ∙ ap (λ (v : Vec Node Global). v.items) c.in-Odd.nodes-is))
     (odd_written _ _ c.seek_odd.new.tops c.seek_odd.new.nodes (search (rules, places)) (search (rules, places)))
     (leads_other c.args.index.now c.args.target c.args.need c.args.spent.now c.seek_odd.new.spent (odd _) (odd _) (λ h. h) (λ h. h) (λ h. h))
 
-pub seek_inner-returns-in-Odd-clause-at : goal.seek_inner-returns-in-Odd-clause-at
-seek_inner-returns-in-Odd-clause-at g t c led =
+pub seek-returns-in-Odd-clause-at : goal.seek-returns-in-Odd-clause-at
+seek-returns-in-Odd-clause-at g t c led =
     absurd (subst (λ (s : Shape). IsLed c.args.index.now s)
     (odd_shape c.args.node.now c.in-Odd.tops c.in-Odd.nodes _ _ c.in-Odd.is (c.deref_mut-in-Odd.ensures.value ∙ ap (λ (v : Vec Top Global). v.items) c.in-Odd.tops-is) (c.deref_mut-in-Odd-2.ensures.value ∙ ap (λ (v : Vec Node Global). v.items) c.in-Odd.nodes-is)) led)
 
@@ -507,36 +507,41 @@ reach-returns-then-target-top-clause-moves g t c stands = moves_same c.args.inde
 pub reach-returns-then-target-top-clause-fades : goal.reach-returns-then-target-top-clause-fades
 reach-returns-then-target-top-clause-fades g t c = under_same c.args.index.now c.args.target c.args.need c.args.spent.now (shape_of c.args.node.now)
 
-pub reach-returns-clause-moves : goal.reach-returns-clause-moves
-reach-returns-clause-moves g t c stands =
+pub reach-returns-in-Leaf-clause-fades : goal.reach-returns-in-Leaf-clause-fades
+reach-returns-in-Leaf-clause-fades g t c =
+    under_leaf c.args.index.now c.args.target c.args.need c.args.spent.now c.advance.new.spent _ c.advance.new.self c.args.top.now _ _ (leaf_shape c.args.node.now c.in-Leaf.leaf _ c.in-Leaf.is c.in-Leaf.leaf-is) (search (rules, shape_of-Leaf))
+    c.requires.top (omega (arith, c.if-target-top.false, c.requires.target)) c.if-top-need.false c.advance.ensures.own c.advance.ensures.paid c.advance.ensures.moves
+
+pub reach_inner-returns-clause-moves : goal.reach_inner-returns-clause-moves
+reach_inner-returns-clause-moves g t c stands =
     moves_decayed c.args.index.now c.args.target c.args.need c.args.spent.now c.seek.new.spent (shape_of c.args.node.now) c.seek.new.top _ (shape_of c.seek.new.node) stands.lone refl
     (subst (λ (s : Shape). IsLone s → Moves c.args.index.now c.args.target c.args.spent.now c.seek.new.spent s c.seek.new.top (shape_of c.seek.new.node)) c.settle.ensures.stands c.seek.ensures.moves)
 
-pub reach-returns-clause-fades : goal.reach-returns-clause-fades
-reach-returns-clause-fades g t c =
+pub reach_inner-returns-clause-fades : goal.reach_inner-returns-clause-fades
+reach_inner-returns-clause-fades g t c =
     under_moved c.args.index.now c.args.target c.args.need c.args.spent.now c.seek.new.spent c.args.top.now (shape_of c.args.node.now) (shape_of c.settle.new.node) (shape_of c.seek.new.node) c.requires.top c.requires.sound
-    (omega (arith, c.if-target-top.false, c.requires.target)) c.if-top-need.false c.settle.ensures.stands c.seek.ensures.fades
+    (omega (arith, c.requires.below, c.requires.target)) c.requires.enough c.settle.ensures.stands c.seek.ensures.fades
 
-pub seek_inner-returns-in-Pair-clause-fades : goal.seek_inner-returns-in-Pair-clause-fades
-seek_inner-returns-in-Pair-clause-fades g t c =
-    fades_along c.args.index.now c.args.target c.args.spent.now c.seek_pair.new.spent _ _ _ _
+pub seek-returns-in-Pair-clause-fades : goal.seek-returns-in-Pair-clause-fades
+seek-returns-in-Pair-clause-fades g t c =
+    fades_along c.args.index.now c.args.target c.args.spent.now c.seek_sides.new.spent _ _ _ _
     (parts_shape c.args.node.now c.in-Pair.form c.in-Pair.ta c.in-Pair.tb c.in-Pair.a c.in-Pair.b _ _ _ _ _ c.in-Pair.is c.in-Pair.form-is c.in-Pair.ta-is c.in-Pair.tb-is (c.deref_mut.ensures.value ∙ ap (λ (x : Box Node Global). x.value) c.in-Pair.a-is) (c.deref_mut-in-Pair.ensures.value ∙ ap (λ (x : Box Node Global). x.value) c.in-Pair.b-is))
-    (shape_of-Pair _ _ _ _ _) c.seek_pair.ensures.fades
+    (shape_of-Pair _ _ _ _ _) c.seek_sides.ensures.fades
 
-pub seek_inner-returns-in-Pair-clause-moves : goal.seek_inner-returns-in-Pair-clause-moves
-seek_inner-returns-in-Pair-clause-moves g t c lone =
+pub seek-returns-in-Pair-clause-moves : goal.seek-returns-in-Pair-clause-moves
+seek-returns-in-Pair-clause-moves g t c lone =
     absurd (subst (λ (s : Shape). IsLone s)
     (parts_shape c.args.node.now c.in-Pair.form c.in-Pair.ta c.in-Pair.tb c.in-Pair.a c.in-Pair.b _ _ _ _ _ c.in-Pair.is c.in-Pair.form-is c.in-Pair.ta-is c.in-Pair.tb-is (c.deref_mut.ensures.value ∙ ap (λ (x : Box Node Global). x.value) c.in-Pair.a-is) (c.deref_mut-in-Pair.ensures.value ∙ ap (λ (x : Box Node Global). x.value) c.in-Pair.b-is)) lone)
 
-pub seek_inner-returns-in-Odd-clause-fades : goal.seek_inner-returns-in-Odd-clause-fades
-seek_inner-returns-in-Odd-clause-fades g t c =
+pub seek-returns-in-Odd-clause-fades : goal.seek-returns-in-Odd-clause-fades
+seek-returns-in-Odd-clause-fades g t c =
     fades_along c.args.index.now c.args.target c.args.spent.now c.seek_odd.new.spent _ _ _ _
     (odd_shape c.args.node.now c.in-Odd.tops c.in-Odd.nodes _ _ c.in-Odd.is (c.deref_mut-in-Odd.ensures.value ∙ ap (λ (v : Vec Top Global). v.items) c.in-Odd.tops-is) (c.deref_mut-in-Odd-2.ensures.value ∙ ap (λ (v : Vec Node Global). v.items) c.in-Odd.nodes-is))
     (odd_written _ _ c.seek_odd.new.tops c.seek_odd.new.nodes (search (rules, places)) (search (rules, places)))
     (fades_other c.args.index.now c.args.target c.args.spent.now c.seek_odd.new.spent (odd _) (odd _) (λ greatest first h. h))
 
-pub seek_inner-returns-in-Odd-clause-moves : goal.seek_inner-returns-in-Odd-clause-moves
-seek_inner-returns-in-Odd-clause-moves g t c lone =
+pub seek-returns-in-Odd-clause-moves : goal.seek-returns-in-Odd-clause-moves
+seek-returns-in-Odd-clause-moves g t c lone =
     absurd (subst (λ (s : Shape). IsLone s)
     (odd_shape c.args.node.now c.in-Odd.tops c.in-Odd.nodes _ _ c.in-Odd.is (c.deref_mut-in-Odd.ensures.value ∙ ap (λ (v : Vec Top Global). v.items) c.in-Odd.tops-is) (c.deref_mut-in-Odd-2.ensures.value ∙ ap (λ (v : Vec Node Global). v.items) c.in-Odd.nodes-is)) lone)
 

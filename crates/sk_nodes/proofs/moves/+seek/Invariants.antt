@@ -12,16 +12,19 @@ use Rattle.sk_nodes.proofs.ProximityLaws.{TestSoFar}
 use Rattle.sk_nodes.proofs.moves.+seek.Given as goal
 
 abbrev pub decreases-reach : goal.decreases-reach
-decreases-reach g l = 4 * size_of (shape_of l.node.now) + 3
+decreases-reach g l = 5 * size_of (shape_of l.node.now) + 3
+
+abbrev pub decreases-reach_inner : goal.decreases-reach_inner
+decreases-reach_inner g l = 5 * size_of (shape_of l.node.now) + 2
 
 abbrev pub decreases-seek : goal.decreases-seek
-decreases-seek g l = 4 * size_of (shape_of l.node.now) + 2
+decreases-seek g l = 5 * size_of (shape_of l.node.now) + 1
 
-abbrev pub decreases-seek_inner : goal.decreases-seek_inner
-decreases-seek_inner g l = 4 * size_of (shape_of l.node.now) + 1
+abbrev pub decreases-seek_sides : goal.decreases-seek_sides
+decreases-seek_sides g l = 5 * (size_of (shape_of l.a.now) + size_of (shape_of l.b.now)) + 5
 
 abbrev pub decreases-seek_pair : goal.decreases-seek_pair
-decreases-seek_pair g l = 4 * (size_of (shape_of l.a.now) + size_of (shape_of l.b.now)) + 4
+decreases-seek_pair g l = 5 * (size_of (shape_of l.a.now) + size_of (shape_of l.b.now)) + 4
 
 abbrev pub invariant-seek_pair-sides : goal.invariant-seek_pair-sides
 invariant-seek_pair-sides g l = record {
@@ -38,13 +41,13 @@ abbrev pub decreases-seek_pair-sides : goal.decreases-seek_pair-sides
 decreases-seek_pair-sides g l = 2 ^ 32 - l.from
 
 abbrev pub decreases-seek_odd : goal.decreases-seek_odd
-decreases-seek_odd g l = 4 * sizes_in (sides_on l.tops.now l.nodes.now) + 4
+decreases-seek_odd g l = 5 * sizes_in (sides_on l.tops.now l.nodes.now) + 4
 
 abbrev pub decreases-reach_all : goal.decreases-reach_all
-decreases-reach_all g l = 4 * sizes_in (sides_on l.tops.now l.nodes.now) + 3
+decreases-reach_all g l = 5 * sizes_in (sides_on l.tops.now l.nodes.now) + 3
 
 abbrev pub decreases-reach_few : goal.decreases-reach_few
-decreases-reach_few g l = 4 * sizes_in (sides_on l.tops.now l.nodes.now) + 2
+decreases-reach_few g l = 5 * sizes_in (sides_on l.tops.now l.nodes.now) + 2
 
 abbrev pub invariant-seek_odd-all : goal.invariant-seek_odd-all
 invariant-seek_odd-all g l = record {
@@ -58,7 +61,7 @@ abbrev pub decreases-seek_odd-all : goal.decreases-seek_odd-all
 decreases-seek_odd-all g l = 2 ^ 32 - l.from
 
 abbrev pub decreases-seek_tested : goal.decreases-seek_tested
-decreases-seek_tested g l = 4 * size_of (shape_of l.node.now) + 4
+decreases-seek_tested g l = 5 * size_of (shape_of l.node.now) + 4
 
 abbrev pub invariant-seek_tested-tests : goal.invariant-seek_tested-tests
 invariant-seek_tested-tests g l = record {
