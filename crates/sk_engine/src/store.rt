@@ -15,6 +15,7 @@ use sk_base::{Command, Edit, Find, Schema};
 use sk_run::{FindAnswer, Response, Store, response_to, shown};
 use sk_steps::Steps;
 use std::alloc::{AllocError, Global};
+use std::mem;
 use std::sync::ledger::Ledger;
 
 impl Store for Session {
@@ -65,7 +66,9 @@ impl Store for Session {
         }
     }
 
+    // Nothing is taken apart: a run is the last thing that the process does, and the memory goes with that.
     fn close(self, _alloc: Global) -> Result<Response<FindAnswer>, AllocError> {
+        mem::forget(self);
         Ok(Response::Skipped)
     }
 }
