@@ -3,6 +3,7 @@
 
 Wants the built program: (cd crates/sk_tool && rt run). Run it at the top of the repository:
 python3 bench/finds.py [DOCUMENTS] [VALUES]. Words follow Zipf's law; the seed is fixed."""
+import itertools
 import json
 import os
 import random
@@ -30,9 +31,9 @@ def texts(documents, length, seed=1):
     """Lines of documents of so many words of a vocabulary of 20,000, the word of rank r with the weight 1 / r."""
     picks = random.Random(seed)
     words = [word(rank) for rank in range(20_000)]
-    weights = [1 / (rank + 1) for rank in range(20_000)]
+    weights = list(itertools.accumulate(1 / (rank + 1) for rank in range(20_000)))
     for _ in range(documents):
-        yield {"add": {"body": " ".join(picks.choices(words, weights, k=length))}}
+        yield {"add": {"body": " ".join(picks.choices(words, cum_weights=weights, k=length))}}
 
 
 def values(count, seed=2):
