@@ -257,8 +257,7 @@ static void phrase(const List &a, const List &b, Page &page)
         both(b, a, page, [&follows](size_t j, size_t i) { return follows(i, j); });
 }
 
-// Or of lists, by windows of ids
-
+// A list, and how far it was gone through.
 struct Side {
     const List *list;
     size_t at = 0, block = 0;
@@ -282,60 +281,18 @@ struct Side {
             most = std::max(most, list->heads[more].most);
         return most;
     }
+
+    // Adds its weights up to an id to sums that begin with another.
+    void add_to(uint32_t *sums, Id from, Id to)
+    {
+        const Posting *begin = list->postings.data(), *here = begin + at, *end = begin + list->size();
+        while (here < end && here->id < from)
+            ++here;
+        for (; here < end && here->id <= to; ++here)
+            sums[here->id - from] += here->wdf;
+        at = here - begin;
+    }
 };
-
-static const Id WIDTH = 1024, BESIDE = 16;
-static uint32_t sums[WIDTH + BESIDE];
-
-// Offers so many documents by these weights, of which 0 is none. Few can enter, so sixteen are tried at once.
-template <class Any> static void offer_sums(const uint32_t *weights, Id from, Id count, Any &page)
-{
-    for (Id first = 0; first < count; first += BESIDE) {
-        const uint32_t least = std::max<Weight>(page.need, 1);
-        uint32_t any = 0;
-        for (Id i = first; i < first + BESIDE; ++i)
-            any |= weights[i] >= least;
-        for (Id i = first; any && i < first + BESIDE; ++i)
-            if (weights[i] > 0)
-                page.offer(from + i, weights[i]);
-    }
-}
-
-// Where what the blocks of a window can weigh is enough, all weights in it are added up. A window of one or two lists is one
-// in which no block ends.
-template <class Any> static void in_windows(vector<Side> sides, Any &page, const Weight &need)
-{
-    for (Id from = 1;;) {
-        auto ends = [from](Side &side) { return !side.reaches(from); };
-        sides.erase(std::remove_if(sides.begin(), sides.end(), ends), sides.end());
-        Id next = END, first_last = END;
-        Weight most = 0, most_here = 0;
-        for (const Side &side : sides) {
-            next = std::min(next, side.list->postings[side.at].id);
-            first_last = std::min(first_last, side.list->heads[side.block].last);
-            most += side.list->most;
-        }
-        if (sides.empty() || most < need)
-            return;
-        from = std::max(from, next);
-        const Id end = std::min(from + WIDTH - 1, sides.size() > 2 ? END : first_last);
-        for (const Side &side : sides)
-            most_here += side.most_up_to(end);
-        if (most_here >= need) {
-            for (Side &side : sides) {
-                const Posting *begin = side.list->postings.data(), *at = begin + side.at, *stop = begin + side.list->size();
-                while (at < stop && at->id < from)
-                    ++at;
-                for (; at < stop && at->id <= end; ++at)
-                    sums[at->id - from] += at->wdf;
-                side.at = at - begin;
-            }
-            offer_sums(sums, from, end - from + 1, page);
-            memset(sums, 0, (end - from + 1) * sizeof(sums[0]));
-        }
-        from = end + 1;
-    }
-}
 
 static vector<Side> sides_of(const vector<string_view> &words)
 {
@@ -344,6 +301,21 @@ static vector<Side> sides_of(const vector<string_view> &words)
         if (list_of(word).size() > 0)
             sides.push_back({&list_of(word)});
     return sides;
+}
+
+// The first of so many sums that is no less than another, from a place on; the number of sums where there is none. Eight are
+// tried at once, so eight more may be read.
+static const Id BESIDE = 8;
+
+static Id place_of(const uint32_t *sums, Id place, Id count, uint32_t least)
+{
+    for (; place < count && sums[place] < least; ++place) {
+        uint32_t any = 0;
+        for (Id i = 0; i < BESIDE; ++i)
+            any |= sums[place + i] >= least;
+        place += any ? 0 : BESIDE - 1;
+    }
+    return std::min(place, count);
 }
 
 // A sum for each document of all terms that begin so.
@@ -360,7 +332,9 @@ static void wildcard(string_view prefix, Page &page)
     for (; at != terms.end() && at->substr(0, prefix.size()) == prefix; ++at)
         for (Posting posting : list_of(*at).postings)
             weights[posting.id] += posting.wdf;
-    offer_sums(&weights[1], 1, years.size() - 1, page);
+    auto next = [&page](Id id) { return place_of(weights.data(), id, years.size(), std::max<Weight>(page.need, 1)); };
+    for (Id id = next(1); id < years.size(); id = next(id + 1))
+        page.offer(id, weights[id]);
 }
 
 // Years
@@ -386,7 +360,7 @@ static void by_year(uint64_t lo, uint64_t hi, bool reversed, Page &page)
         hit.weight = 0;
 }
 
-// An or as a tree of nodes, and as one node
+// An or as a tree of nodes, as one node, and as one node by windows
 
 struct Node {
     Id head = END;
@@ -627,7 +601,71 @@ struct Many : Node {
     }
 };
 
-static void walk(std::unique_ptr<Node> node, Page &page, const Weight &need)
+// All sides in one node, which adds up all weights in a window of ids where what the blocks there can weigh is enough. A window
+// of one or two lists is one in which no block ends.
+struct Windows : Node {
+    static const Id WIDTH = 1024;
+
+    vector<Side> sides;
+    uint32_t sums[WIDTH + BESIDE] = {};
+    Id from = 1, next = 1; // the window, and the id behind it
+
+    explicit Windows(vector<Side> some) : sides(std::move(some))
+    {
+        head = 0;
+        for (const Side &side : sides)
+            greatest += side.list->most;
+        seek(1, 0);
+    }
+
+    // Goes to the first window from the target on whose blocks can weigh what is needed; not where there is none.
+    bool open(Id target, Weight need)
+    {
+        memset(sums, 0, (next - from) * sizeof(sums[0]));
+        for (next = target;;) {
+            auto ends = [this](Side &side) { return !side.reaches(next); };
+            sides.erase(std::remove_if(sides.begin(), sides.end(), ends), sides.end());
+            Id first = END, first_last = END;
+            greatest = 0;
+            for (const Side &side : sides) {
+                first = std::min(first, side.list->postings[side.at].id);
+                first_last = std::min(first_last, side.list->heads[side.block].last);
+                greatest += side.list->most;
+            }
+            from = next;
+            if (sides.empty() || greatest < need)
+                return false;
+            from = std::max(from, first);
+            const Id last = std::min(from + WIDTH - 1, sides.size() > 2 ? END : first_last);
+            next = last + 1;
+            Weight most = 0;
+            for (const Side &side : sides)
+                most += side.most_up_to(last);
+            if (most < need)
+                continue;
+            for (Side &side : sides)
+                side.add_to(sums, from, last);
+            return true;
+        }
+    }
+
+    Node *seek(Id target, Weight need) override
+    {
+        const uint32_t least = std::max<Weight>(need, 1);
+        while (target < next || open(target, need)) {
+            const Id count = next - from, place = place_of(sums, std::max(target, from) - from, count, least);
+            if (place < count) {
+                head = from + place;
+                weight = sums[place];
+                return this;
+            }
+            target = next;
+        }
+        return end();
+    }
+};
+
+template <class Any> static void walk(std::unique_ptr<Node> node, Any &page, const Weight &need)
 {
     while (node->head != END) {
         page.offer(node->head, node->weight);
@@ -707,12 +745,10 @@ static void find(string_view form, Words words)
     auto open = [&words] { return sides_of(words.rest()); };
     if (form == "term")
         one(list_of(words.next()), plain, always);
-    else if (form == "or")
-        in_windows(open(), plain, plain.need);
-    else if (form == "or_all")
-        in_windows(open(), plain, nothing);
+    else if (form == "or" || form == "or_all")
+        walk(std::make_unique<Windows>(open()), plain, form == "or" ? plain.need : nothing);
     else if (form == "or_collapsed")
-        in_windows(open(), page, page.need);
+        walk(std::make_unique<Windows>(open()), page, page.need);
     else if (form == "nested" || form == "nested_all") {
         const vector<Side> sides = open();
         walk(nest(sides, 0, sides.size()), plain, form == "nested" ? plain.need : nothing);
