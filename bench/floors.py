@@ -5,7 +5,6 @@ C++ for that class alone. The answers are compared: the same documents, weights 
 Wants g++ and the built program: (cd crates/sk_tool && rt run). Run it at the top of the repository:
 python3 bench/floors.py [PROGRAM]. With --ors it prints, of C++ alone, what an or of many parts costs as a nest of nodes of two
 sides, as one node, and as one node by windows; this wants no built program."""
-import itertools
 import json
 import os
 import random
