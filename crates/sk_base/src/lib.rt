@@ -41,6 +41,3 @@ pub type DocId = u32;
 
 /// What a document scores for a query.
 pub type Weight = u64;
-
-#[cfg(test)]
-mod tests;

@@ -4,8 +4,6 @@
 mod chunk;
 mod entry;
 mod place;
-#[cfg(test)]
-mod tests;
 
 pub use chunk::{Chunk, ChunkHead};
 pub use entry::entry_bytes;

@@ -3,8 +3,6 @@
 
 mod collapser;
 mod group;
-#[cfg(test)]
-mod tests;
 mod verdict;
 
 pub use collapser::Collapser;

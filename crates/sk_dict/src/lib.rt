@@ -10,6 +10,3 @@ mod terms;
 
 pub use dict::Dict;
 pub use room::make_room;
-
-#[cfg(test)]
-mod tests;

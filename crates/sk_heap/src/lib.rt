@@ -5,8 +5,6 @@ mod heap;
 mod hit;
 mod laws;
 mod sift;
-#[cfg(test)]
-mod tests;
 
 pub use heap::ResultHeap;
 pub use hit::Hit;

@@ -23,6 +23,3 @@ pub use put::put_all;
 pub use sink::Sink;
 pub use source::Source;
 pub use standard::{StdSink, StdSource};
-
-#[cfg(test)]
-mod tests;

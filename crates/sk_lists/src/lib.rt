@@ -4,8 +4,6 @@
 mod cursor;
 mod directory;
 mod list;
-#[cfg(test)]
-mod tests;
 
 pub use cursor::Cursor;
 pub use list::List;

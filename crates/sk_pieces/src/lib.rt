@@ -4,8 +4,6 @@
 mod piece;
 mod pieces;
 mod place;
-#[cfg(test)]
-mod tests;
 
 pub use piece::Piece;
 pub use pieces::Pieces;

@@ -6,6 +6,3 @@ mod value;
 
 pub use compact::text;
 pub use value::to_json;
-
-#[cfg(test)]
-mod tests;

@@ -3,8 +3,6 @@
 
 mod place;
 mod sorted;
-#[cfg(test)]
-mod tests;
 
 pub use place::place_of;
 pub use sorted::Sorted;

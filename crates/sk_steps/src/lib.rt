@@ -2,7 +2,5 @@
 #![tactic(auto)]
 
 mod steps;
-#[cfg(test)]
-mod tests;
 
 pub use steps::Steps;

@@ -11,6 +11,3 @@ pub use characters::is_word;
 pub use cutting::words;
 pub use folding::{Folded, fold};
 pub use word::{Word, Words};
-
-#[cfg(test)]
-mod tests;

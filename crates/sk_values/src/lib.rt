@@ -4,8 +4,6 @@
 mod range;
 mod range_cursor;
 mod slot_list;
-#[cfg(test)]
-mod tests;
 
 pub use range_cursor::RangeCursor;
 pub use slot_list::SlotList;

@@ -1,0 +1,83 @@
+//! What no clause says: that each call succeeds with memory, and what `Debug` tells. Each generic call is made once.
+ghost use Rattle.std.specs.Prelude.{◌≡◌};
+
+use sk_base::{Bytes, DocId};
+use sk_steps::Steps;
+use sk_values::{RangeCursor, SlotList};
+use std::marker::Brand;
+use std::sync::ledger::{Blank, Ledger};
+use std::test::Fail;
+
+// The document's value, read once.
+fn read_one<L: Ledger>(blank: Blank, list: &SlotList, id: DocId) -> &[u8]
+    requires name { blank.name ≡ L.name }
+    requires parts { blank.parts ≡ L.parts }
+    requires one { blank.parts ≡ 1 }
+{
+    let mut steps = Steps::<L>::open(blank);
+    list.get(id, &mut steps)
+}
+
+// The first id whose value is at least `lo`, and the first from the target on; and how many entries were come past.
+fn two_ids<L: Ledger>(
+    blank: Blank,
+    list: &SlotList,
+    lo: Option<Bytes>,
+    target: DocId,
+) -> (Option<DocId>, Option<DocId>, u32)
+    requires name { blank.name ≡ L.name }
+    requires parts { blank.parts ≡ L.parts }
+    requires one { blank.parts ≡ 1 }
+{
+    let mut steps = Steps::<L>::open(blank);
+    let mut cursor = RangeCursor::open(list, lo, None, &mut steps);
+    let first = cursor.head();
+    cursor.seek(list, target, &mut steps);
+    (first, cursor.head(), cursor.passed())
+}
+
+#[test]
+fn each_call_succeeds_with_memory(rt: HostRuntime) -> Result<(), Fail> {
+    let mut list = SlotList::new(rt.alloc());
+    for (id, value) in [(4294967295, "z"), (1, "a"), (1, "b")] {
+        let value = Bytes::new(rt.alloc(), value.as_bytes())?;
+        assert!(rt; !value.as_slice().is_empty());
+        list.set(id, value)?;
+    }
+    assert_eq!(rt; read_one::<Brand>(Blank::new(1), &list, 1), b"b".as_slice());
+    let lo = Bytes::new(rt.alloc(), b"b")?;
+    let ids = two_ids::<Brand>(Blank::new(1), &list, Some(lo), 2);
+    assert_eq!(rt; ids, (Some(1), Some(4294967295), 2));
+    assert!(rt; list.clear(1));
+    let text = format!(in rt.alloc(); "{list:?}")?;
+    assert_eq!(rt; text.as_str(), "SlotList of 1");
+    Ok(())
+}
+
+// Odd ids, and then one between two of them.
+#[test]
+fn a_list_of_many_pieces(rt: HostRuntime) -> Result<(), Fail> {
+    let mut list = SlotList::new(rt.alloc());
+    for i in 0..300u32 {
+        let value = Bytes::new(rt.alloc(), b"v")?;
+        assert!(rt; !value.as_slice().is_empty());
+        list.set(2 * i + 1, value)?;
+    }
+    assert_eq!(rt; list.pieces().len(), 3);
+    let value = Bytes::new(rt.alloc(), b"w")?;
+    assert!(rt; !value.as_slice().is_empty());
+    list.set(100, value)?;
+    assert_eq!(rt; list.pieces().len(), 4);
+    assert_eq!(rt;
+        read_one::<Brand>(Blank::new(1), &list, 100),
+        b"w".as_slice()
+    );
+    let ids = two_ids::<Brand>(Blank::new(1), &list, None, 500);
+    assert_eq!(rt; ids, (Some(1), Some(501), 252));
+    for i in 0..300u32 {
+        assert!(rt; list.clear(2 * i + 1));
+    }
+    assert_eq!(rt; list.pieces().len(), 1);
+    assert_eq!(rt; list.length(), 1);
+    Ok(())
+}
