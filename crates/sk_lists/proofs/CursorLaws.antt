@@ -12,7 +12,7 @@ use Rattle.sk_lists.specs.Seeks.{count_below, count_to, HasReadTo}
 use Rattle.sk_lists.specs.Cursor.{rest_from, headed, left, IsReadLast, IsHeadAt, IsOn}
 
 -- a head at its place, and then the unread, are an end of what stands from its run on
-headed_is : (p : ℕ × ℕ) (run read : ℕ) (runs : Runs) → IsReadLast p run read runs → drop (read - 1) (flat (drop run runs)) ≡ p ∷ rest_from run read runs
+pub headed_is : (p : ℕ × ℕ) (run read : ℕ) (runs : Runs) → IsReadLast p run read runs → drop (read - 1) (flat (drop run runs)) ≡ p ∷ rest_from run read runs
 headed_is p run read runs on =
     let within : read ≤ length (get_or runs run []) = on.within in
     let begun : 0 < read = on.begun in

@@ -38,3 +38,8 @@ HasReadTo id read left list = read + count_to id left ≤ 1 + count_to id list
 -- A seek may pass over the whole run: it ends below the target, or no entry of it weighs what is needed.
 abbrev pub IsSkipped : ℕ → ℕ → Postings → Type 0
 IsSkipped target need_wdf run = (top_id 0 run < target) ⊎ (greatest_wdf run < need_wdf)
+
+-- Each entry lies below the target or behind the last id, or is no heavier than the greatest.
+abbrev pub AreWithin : ℕ → ℕ → ℕ → Postings → Type 0
+AreWithin target last greatest [] = Unit {0}
+AreWithin target last greatest (p ∷ ps) = ((p.0 < target) ⊎ ((last < p.0) ⊎ (p.1 ≤ greatest))) × AreWithin target last greatest ps

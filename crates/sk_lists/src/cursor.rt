@@ -4,10 +4,10 @@ ghost use Rattle.sk_sorted.specs.Entries.{first_id, top_id};
 ghost use Rattle.sk_runs.specs.Runs.{flat};
 ghost use Rattle.sk_chunks.specs.Postings.{first_wdf, is_below};
 ghost use Rattle.sk_lists.specs.Lists.{Runs};
-ghost use Rattle.sk_lists.specs.Seeks.{Passes, Reads, count_below, IsSkipped};
+ghost use Rattle.sk_lists.specs.Seeks.{Passes, Reads, count_below, IsSkipped, AreWithin};
 ghost use Rattle.sk_lists.specs.Cursor.{unread, left, IsOn, IsReadTo};
 
-use crate::List;
+use crate::{BlockMax, List};
 use sk_chunks::Chunk;
 use sk_steps::Steps;
 use std::sync::ledger::Ledger;
@@ -137,6 +137,28 @@ impl Cursor {
             Some(head) => head.0 < target,
             None => false,
         }
+    }
+
+    /// How heavy the entries from the target on can be, as far as the heads of chunks tell: up to the end of the chunk that
+    /// the target falls into. It reads none.
+    #[inline(always)]
+    pub fn block_max(&self, list: &List, target: u32) -> BlockMax
+        requires on { IsOn self.now list.now }
+        ensures reached { target ≤ result.last }
+        ensures within { AreWithin target result.last result.greatest (left self.now list.now) }
+    {
+        if self.head.is_none() {
+            return BlockMax::ended();
+        }
+        let here = &list.as_slice()[self.run];
+        if target <= here.last() {
+            return BlockMax::of(here);
+        }
+        let at = first_reaching(list, self.run + 1, target);
+        if at == list.chunks() {
+            return BlockMax::ended();
+        }
+        BlockMax::of(list.chunk(at))
     }
 
     // Reads on in the chunk, up to the first entry at the target or behind it.

@@ -1,9 +1,11 @@
 //! The posting list of a term, and a cursor over it whose readings are counted.
 #![tactic(auto)]
 
+mod block_max;
 mod cursor;
 mod directory;
 mod list;
 
+pub use block_max::BlockMax;
 pub use cursor::Cursor;
 pub use list::List;

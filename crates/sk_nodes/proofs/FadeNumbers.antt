@@ -128,9 +128,13 @@ followed_gone point h u h2 u2 most2 k below s0 s1 most end paid = let none = fol
 
 -- ---- the fading list leads
 
--- before a round: as the two stand, or the fading list stands before the other's head, from which it is sought
+-- before a round: as the two stand, or the fading list stands before the other's head, and is sought from there or from behind it
 abbrev pub Sought : ℕ → ℕ → ℕ → ℕ → ℕ → ℕ → Type 0
-Sought point from h k room left = (left ≡ leading_room point h k room) ⊎ ((from ≡ h) × ((k < h) × (((point < h) × (left ≡ room)) ⊎ ((h ≤ point) × (left ≡ room + 255)))))
+Sought point from h k room left = (left ≡ leading_room point h k room) ⊎ ((h ≤ from) × ((k < h) × (((point < h) × (left ≡ room)) ⊎ ((h ≤ point) × (left ≡ room + 255)))))
+
+pub sought_further : (point from to h k room left : ℕ) → from ≤ to → Sought point from h k room left → Sought point to h k room left
+sought_further point from to h k room left le (inl e) = inl e
+sought_further point from to h k room left le (inr (at, rest)) = inr (omega (arith, at, le), rest)
 
 -- neither has ended
 abbrev pub AreOpen : ℕ → ℕ → Type 0
@@ -233,8 +237,8 @@ module _ (point from h u most h2 u2 most2 k below k2 below2 left value s0 s1 s2 
             | inr under ↦ let was = leading_near point h k (below + 256 * most) opened.0 opened.1 under in spare_paid past (omega (arith, e, was))
           ]
 
-  -- the other's head is the target, and the list stands before it
-  from_head : from ≡ h → point < h → left ≡ below + 256 * most → Paid
+  -- the target is the other's head or lies behind it, and the list stands before it
+  from_head : h ≤ from → point < h → left ≡ below + 256 * most → Paid
   from_head is over e =
       elim (cases_lt h k2) as (λ _. Paid) [
         | inl lt ↦ let past : point < h2 = omega (arith, lt, over, other.reached) in gone_paid past over lt (omega (arith, e))
@@ -273,6 +277,6 @@ leaves_met point h k room is = record {
 pub leaves_on : (point h k room : ℕ) → k < h → (left : ℕ) × (Sought point h h k room left × Leaves point h k room left)
 leaves_on point h k room before =
     elim (cases_lt point h) as (λ _. (left : ℕ) × (Sought point h h k room left × Leaves point h k room left)) [
-      | inl past ↦ (room, (inr (refl, (before, inl (past, refl))), record { low = λ near. absurd (omega (arith, past, near)); high = λ _. le_refl room; met = λ _ same. absurd (omega (arith, before, same)) }))
-      | inr near ↦ (room + 255, (inr (refl, (before, inr (near, refl))), record { low = λ _. le_refl (room + 255); high = λ past. absurd (omega (arith, past, near)); met = λ past same. absurd (omega (arith, before, same)) }))
+      | inl past ↦ (room, (inr (le_refl h, (before, inl (past, refl))), record { low = λ near. absurd (omega (arith, past, near)); high = λ _. le_refl room; met = λ _ same. absurd (omega (arith, before, same)) }))
+      | inr near ↦ (room + 255, (inr (le_refl h, (before, inr (near, refl))), record { low = λ _. le_refl (room + 255); high = λ past. absurd (omega (arith, past, near)); met = λ past same. absurd (omega (arith, before, same)) }))
     ]

@@ -3,6 +3,7 @@ pub mod NodeLaws
 pub mod TreeLaws
 pub mod CountLaws
 pub mod ListLaws
+pub mod BlockLaws
 pub mod SpanLaws
 pub mod OpenLaws
 pub mod SynonymLaws
@@ -18,3 +19,4 @@ pub mod LedLaws
 pub mod FadeNumbers
 pub mod OpenedFadingLaws
 pub mod FadingLaws
+pub mod SkipLaws

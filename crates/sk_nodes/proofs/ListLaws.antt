@@ -97,7 +97,7 @@ list-live i (Some n) id sorted none = found-postings (term_at i.terms n) 0 id i.
 pub greatest-term : (factor : ℕ) (scheme : Scheme) (t : List ℕ) (docs : Docs) → leaf_greatest factor scheme (postings t docs) ≡ term_ceil scheme factor t docs
 greatest-term factor scheme t docs = λ i. if nat_lt 0 (length-postings t docs i) then weigh_by factor scheme (greatest-postings t docs i) else 0
 
-weigh_more : (factor : ℕ) (scheme : Scheme) (v w : ℕ) → v ≤ w → weigh_by factor scheme v ≤ weigh_by factor scheme w
+pub weigh_more : (factor : ℕ) (scheme : Scheme) (v w : ℕ) → v ≤ w → weigh_by factor scheme v ≤ weigh_by factor scheme w
 weigh_more factor Scheme.Bool v w le = le_refl (0 * factor)
 weigh_more factor Scheme.Coord v w le = le_refl (1 * factor)
 weigh_more factor Scheme.Nnn v w le = mul-le-mul_right factor le

@@ -1,5 +1,5 @@
 //! The entries of one list, with what they weigh.
-ghost use Rattle.std.specs.Prelude.{◌≡◌, ◌≤◌, ◌<◌, ◌+◌, ◌^◌, ℕ, min, length};
+ghost use Rattle.std.specs.Prelude.{◌≡◌, ◌≤◌, ◌<◌, ◌+◌, ◌^◌, ℕ, min, length, unwrap_or};
 ghost use Rattle.sk_sorted.specs.Entries.{AreSorted};
 ghost use Rattle.sk_runs.specs.Runs.{flat};
 ghost use Rattle.sk_lists.specs.Seeks.{count_to};
@@ -34,6 +34,13 @@ pub(crate) struct Leaf {
     need_wdf: u32,
     greatest: u64,
     cursor: Cursor,
+}
+
+/// None of a leaf's entries weighs more, from some target on up to the last id.
+#[derive(Clone, Copy, Debug)]
+pub(crate) struct Block {
+    pub last: u64,
+    pub greatest: u64,
 }
 
 impl Leaf {
@@ -149,6 +156,25 @@ impl Leaf {
             .advance(list, target as u32, self.need_wdf, steps);
         *spent += u128::from(read);
         self.point(top);
+    }
+
+    /// How much its entries from the target on can weigh, up to the end of the chunk that the target falls into. It reads
+    /// nothing.
+    #[inline(always)]
+    pub fn block_max(&self, index: &Index, target: u64) -> Block
+        requires sound { IsLeafOn index.now self.now }
+        requires target { target < 2 ^ 32 }
+        ensures reached { target ≤ result.last }
+        ensures small { result.last < 2 ^ 32 }
+        ensures bound { (id : ℕ) → target ≤ id → id ≤ result.last → unwrap_or (leaf_rest index.now self.now id) 0 ≤ result.greatest }
+        ensures fits { result.greatest < 2 ^ 62 }
+    {
+        let list = list_of(index, self.number);
+        let block = self.cursor.block_max(list, target as u32);
+        Block {
+            last: u64::from(block.last),
+            greatest: weigh_by(self.factor, self.scheme, u64::from(block.greatest)),
+        }
     }
 
     // The least wdf that weighs what is needed, worked out anew for a new need.

@@ -8,6 +8,7 @@ mod odd;
 mod opening;
 mod proximity;
 mod ranges;
+mod skip;
 mod span;
 mod synonym;
 mod top;

@@ -14,6 +14,7 @@ ghost use Rattle.sk_nodes.specs.Proximity.{entries_from};
 use crate::node::{Node, settle};
 use crate::odd::{FEW, odd_greatest, odd_meeting};
 use crate::proximity::Proximity;
+use crate::skip::skip;
 use crate::top::{END, Top};
 use sk_decay::{Meeting, first_need, greatest_under, meeting_of, second_need, second_target};
 use sk_index::Index;
@@ -190,7 +191,7 @@ pub(crate) fn seek_pair<L: Ledger>(
     ensures at { IsLed index.now (pair form ta.old (shape_of a.old) tb.old (shape_of b.old)) → IsAtLead index.now top.new (pair form ta.new (shape_of a.new) tb.new (shape_of b.new)) }
     ensures fades { Fades index.now target spent.old spent.new (pair form ta.old (shape_of a.old) tb.old (shape_of b.old)) (pair form ta.new (shape_of a.new) tb.new (shape_of b.new)) }
 {
-    let mut from = target;
+    let mut from = skip(form, a, b, index, target, need);
     'sides: loop {
         reach(
             ta,
@@ -222,7 +223,7 @@ pub(crate) fn seek_pair<L: Ledger>(
                 top.greatest = greatest_at(form, head, ta.greatest, tb.greatest);
                 return;
             }
-            Meeting::Behind(further) => from = further,
+            Meeting::Behind(further) => from = skip(form, a, b, index, further, need),
         }
     }
 }

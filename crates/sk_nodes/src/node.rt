@@ -1,5 +1,7 @@
 //! The nodes of a tree, and what may stand for one under a need.
-ghost use Rattle.std.specs.Prelude.{◌≡◌, true};
+ghost use Rattle.std.specs.Prelude.{◌≡◌, true, false};
+ghost use Rattle.sk_decay.specs.declared.change.Change.TheVariants as Change;
+ghost use Rattle.sk_decay.specs.Changes.{change_of};
 ghost use Rattle.sk_nodes.specs.Shapes.{shape_of};
 ghost use Rattle.sk_nodes.specs.Decayed.{decayed};
 ghost use Rattle.sk_nodes.specs.Sound.{Sound, Replaces};
@@ -38,7 +40,7 @@ pub(crate) fn settle(node: &mut Node, index: &Index, need: u64)
     decay(node, index, need);
 }
 
-// Neither side has ended, or weighs too little by itself.
+// Neither side has ended, or weighs too little for the form.
 #[inline(always)]
 fn is_settled(node: &Node, need: u64) -> bool
     ensures { result ≡ true → decayed need (shape_of node.now) ≡ shape_of node.now }
@@ -47,11 +49,25 @@ fn is_settled(node: &Node, need: u64) -> bool
         Node::Nothing => true,
         Node::Leaf(_) => true,
         Node::Span(_) => true,
-        Node::Pair(_, ta, _, tb, _) => {
-            ta.head < END && tb.head < END && need <= ta.greatest && need <= tb.greatest
+        Node::Pair(form, ta, _, tb, _) => {
+            ta.head < END && tb.head < END && stands(*form, ta.greatest, tb.greatest, need)
         }
         Node::Odd(_, _) => true,
         Node::Tested(_, _, _) => true,
+    }
+}
+
+// Whether two sides stay under their form, of which neither has ended, and that can weigh so much.
+#[inline(always)]
+fn stands(form: Form, a: u64, b: u64, need: u64) -> bool
+    ensures { result ≡ true → change_of form a b false false need ≡ Change.Keep }
+{
+    match form {
+        Form::And => need.saturating_sub(a) <= b,
+        Form::AndMaybe => need <= a,
+        Form::AndNot => need <= a,
+        Form::Filter => need <= a,
+        _ => need <= a && need <= b,
     }
 }
 

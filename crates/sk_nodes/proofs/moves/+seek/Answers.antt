@@ -22,6 +22,7 @@ use Rattle.sk_nodes.proofs.RareLaws.{leads_same, leads_decayed, leads_along, lea
 use Rattle.sk_nodes.specs.Fading.{Moves}
 use Rattle.sk_nodes.specs.Led.{IsLone}
 use Rattle.sk_nodes.proofs.FadingLaws.{moves_same, moves_decayed, fades_other, fades_along, under_same, under_leaf, under_moved, fades_begun, fades_half, fades_both, fades_on}
+use Rattle.sk_nodes.proofs.SkipLaws.{sides_skipped, stays_skipped, leads_skipped, fades_skipped}
 use Rattle.sk_nodes.proofs.moves.+seek.Goals as goal
 
 pub reach_inner-returns-clause-covers : goal.reach_inner-returns-clause-covers
@@ -114,7 +115,7 @@ pub seek_pair-sides-smaller : goal.seek_pair-sides-smaller
 seek_pair-sides-smaller g t c =
     let i = c.args.index.now in
     let on = c.in-Behind.ensures.meets (rest i (shape_of c.reach.new.node)) (rest i (shape_of c.reach-in-sides.new.node)) c.reach.ensures.top.head c.reach-in-sides.ensures.top.head in
-    omega (arith, on.further, on.within, c.reach.ensures.reached)
+    omega (arith, on.further, on.within, c.reach.ensures.reached, c.skip-from-in-Behind.ensures.later, c.skip-from-in-Behind.ensures.within)
 
 pub seek_pair-sides-preserved : goal.seek_pair-sides-preserved
 seek_pair-sides-preserved g t c =
@@ -122,7 +123,8 @@ seek_pair-sides-preserved g t c =
     let on = c.in-Behind.ensures.meets (rest i (shape_of c.reach.new.node)) (rest i (shape_of c.reach-in-sides.new.node)) c.reach.ensures.top.head c.reach-in-sides.ensures.top.head in
     let far = c.sides.invariant.far in
     record {
-      far = sides_more i c.args.form c.args.target c.args.need c.sides.from c.in-Behind.further c.args.ta.now (shape_of c.args.a.now) c.args.tb.now (shape_of c.args.b.now)
+      far = sides_skipped i c.args.form c.args.target c.args.need c.in-Behind.further c.skip-from-in-Behind.result c.args.ta.now (shape_of c.args.a.now) c.args.tb.now (shape_of c.args.b.now) c.reach.new.top (shape_of c.reach.new.node) c.reach-in-sides.new.top (shape_of c.reach-in-sides.new.node) c.skip-from-in-Behind.ensures
+          (sides_more i c.args.form c.args.target c.args.need c.sides.from c.in-Behind.further c.args.ta.now (shape_of c.args.a.now) c.args.tb.now (shape_of c.args.b.now)
           c.sides.ta (shape_of c.sides.a) c.sides.tb (shape_of c.sides.b) c.reach.new.top (shape_of c.reach.new.node) c.reach-in-sides.new.top (shape_of c.reach-in-sides.new.node)
           far c.reach.ensures.top c.reach-in-sides.ensures.top c.reach.ensures.sound c.reach-in-sides.ensures.sound
           c.reach.ensures.falls c.reach-in-sides.ensures.falls c.reach.ensures.smaller c.reach-in-sides.ensures.smaller
@@ -131,8 +133,9 @@ seek_pair-sides-preserved g t c =
           (subst (λ n. Covers (from_on c.sides.from (rest i (shape_of c.sides.a))) (rest i (shape_of c.reach.new.node)) n) c.first_need.ensures c.reach.ensures.covers)
           (subst (λ n. Covers (from_on c.second_target-next.result (rest i (shape_of c.sides.b))) (rest i (shape_of c.reach-in-sides.new.node)) n) c.second_need.ensures c.reach-in-sides.ensures.covers)
           c.second_target-next.ensures)
-          on.within on.below;
-      stays = stays_on i c.args.form c.args.target c.args.need c.sides.from c.in-Behind.further c.args.spent.now c.sides.spent c.reach-in-sides.new.spent c.args.ta.now (shape_of c.args.a.now) c.args.tb.now (shape_of c.args.b.now)
+          on.within on.below);
+      stays = stays_skipped i c.args.form c.args.target c.args.need c.in-Behind.further c.skip-from-in-Behind.result c.args.ta.now (shape_of c.args.a.now) c.args.tb.now (shape_of c.args.b.now) c.reach.new.top (shape_of c.reach.new.node) c.reach-in-sides.new.top (shape_of c.reach-in-sides.new.node) c.skip-from-in-Behind.ensures c.args.spent.now c.reach-in-sides.new.spent
+          (stays_on i c.args.form c.args.target c.args.need c.sides.from c.in-Behind.further c.args.spent.now c.sides.spent c.reach-in-sides.new.spent c.args.ta.now (shape_of c.args.a.now) c.args.tb.now (shape_of c.args.b.now)
           c.sides.ta (shape_of c.sides.a) c.sides.tb (shape_of c.sides.b) c.reach.new.top (shape_of c.reach.new.node) c.reach-in-sides.new.top (shape_of c.reach-in-sides.new.node)
           c.sides.invariant.stays
           (round_stays i c.args.form c.sides.from c.args.need c.sides.spent c.reach.new.spent c.reach-in-sides.new.spent c.sides.ta (shape_of c.sides.a) c.sides.tb (shape_of c.sides.b) c.reach.new.top (shape_of c.reach.new.node) c.reach-in-sides.new.top (shape_of c.reach-in-sides.new.node)
@@ -146,19 +149,21 @@ seek_pair-sides-preserved g t c =
           (subst (λ n. Covers (from_on c.sides.from (rest i (shape_of c.sides.a))) (rest i (shape_of c.reach.new.node)) n) c.first_need.ensures c.reach.ensures.covers)
           (subst (λ n. Covers (from_on c.second_target-next.result (rest i (shape_of c.sides.b))) (rest i (shape_of c.reach-in-sides.new.node)) n) c.second_need.ensures c.reach-in-sides.ensures.covers)
           c.second_target-next.ensures)
-          c.in-Behind.ensures.on on.below;
-      leads = leads_on i c.args.form c.args.target c.args.need c.sides.from c.in-Behind.further c.args.spent.now c.sides.spent c.reach-in-sides.new.spent c.args.ta.now (shape_of c.args.a.now) c.args.tb.now (shape_of c.args.b.now)
+          c.in-Behind.ensures.on on.below);
+      leads = leads_skipped i c.args.form c.args.target c.args.need c.in-Behind.further c.skip-from-in-Behind.result c.args.ta.now (shape_of c.args.a.now) c.args.tb.now (shape_of c.args.b.now) c.reach.new.top (shape_of c.reach.new.node) c.reach-in-sides.new.top (shape_of c.reach-in-sides.new.node) c.skip-from-in-Behind.ensures c.args.spent.now c.reach-in-sides.new.spent
+          (leads_on i c.args.form c.args.target c.args.need c.sides.from c.in-Behind.further c.args.spent.now c.sides.spent c.reach-in-sides.new.spent c.args.ta.now (shape_of c.args.a.now) c.args.tb.now (shape_of c.args.b.now)
           c.sides.ta (shape_of c.sides.a) c.sides.tb (shape_of c.sides.b) c.reach.new.top (shape_of c.reach.new.node) c.reach-in-sides.new.top (shape_of c.reach-in-sides.new.node)
           c.sides.invariant.leads
           (led_round i c.args.form c.sides.from c.args.need c.sides.spent c.reach.new.spent c.reach-in-sides.new.spent c.sides.ta (shape_of c.sides.a) c.sides.tb (shape_of c.sides.b) c.reach.new.top (shape_of c.reach.new.node) c.reach-in-sides.new.top (shape_of c.reach-in-sides.new.node)
           (subst (λ n. Leads i c.sides.from n c.sides.spent c.reach.new.spent (shape_of c.sides.a) (shape_of c.reach.new.node)) c.first_need.ensures c.reach.ensures.leads) c.reach.ensures.at
           c.second_target-next.result c.second_target-next.ensures c.if-next-ge-END.false
           (subst (λ n. Leads i c.second_target-next.result n c.reach.new.spent c.reach-in-sides.new.spent (shape_of c.sides.b) (shape_of c.reach-in-sides.new.node)) c.second_need.ensures c.reach-in-sides.ensures.leads))
-          c.in-Behind.ensures.on;
-      fades = fades_on i c.args.form c.args.target c.sides.from c.args.spent.now c.sides.spent c.reach.new.spent c.args.ta.now (shape_of c.args.a.now) c.args.tb.now (shape_of c.args.b.now)
+          c.in-Behind.ensures.on);
+      fades = fades_skipped i c.args.form c.args.target c.args.need c.in-Behind.further c.skip-from-in-Behind.result c.args.ta.now (shape_of c.args.a.now) c.args.tb.now (shape_of c.args.b.now) c.reach.new.top (shape_of c.reach.new.node) c.reach-in-sides.new.top (shape_of c.reach-in-sides.new.node) c.skip-from-in-Behind.ensures c.args.spent.now c.reach-in-sides.new.spent
+          (fades_on i c.args.form c.args.target c.sides.from c.args.spent.now c.sides.spent c.reach.new.spent c.args.ta.now (shape_of c.args.a.now) c.args.tb.now (shape_of c.args.b.now)
           c.sides.ta (shape_of c.sides.a) c.sides.tb (shape_of c.sides.b) c.reach.new.top (shape_of c.reach.new.node) c.sides.invariant.fades c.reach.ensures.moves
           c.reach-in-sides.new.spent c.second_target-next.result c.if-next-ge-END.false c.reach-in-sides.new.top (shape_of c.reach-in-sides.new.node) c.second_target-next.ensures c.reach-in-sides.ensures.moves
-          c.in-Behind.further c.in-Behind.ensures.on c.in-Behind.ensures.both;
+          c.in-Behind.further c.in-Behind.ensures.on c.in-Behind.ensures.both);
       paid = omega (arith, c.reach.ensures.paid, c.reach-in-sides.ensures.paid, c.sides.invariant.paid);
       counted = omega (arith, c.reach.ensures.counted, c.reach-in-sides.ensures.counted, c.sides.invariant.counted);
       later = omega (arith, c.reach.ensures.later, c.reach-in-sides.ensures.later, c.sides.invariant.later);
@@ -206,11 +211,17 @@ seek_odd-all-preserved g t c =
 pub seek_pair-sides-init : goal.seek_pair-sides-init
 seek_pair-sides-init g t c =
     let i = c.args.index.now in
+    let ta = c.args.ta.now in
+    let a = shape_of c.args.a.now in
+    let tb = c.args.tb.now in
+    let b = shape_of c.args.b.now in
+    let spent = c.args.spent.now in
+    let skips = c.skip-from.ensures in
     record {
-      far = sides_begun i c.args.form c.args.target c.args.need c.args.ta.now (shape_of c.args.a.now) c.args.tb.now (shape_of c.args.b.now) c.requires.pair c.requires.target;
-      leads = leads_begun i c.args.form c.args.target c.args.spent.now c.args.ta.now (shape_of c.args.a.now) c.args.tb.now (shape_of c.args.b.now);
-      stays = stays_begun i c.args.form c.args.target c.args.need c.args.spent.now c.args.ta.now (shape_of c.args.a.now) c.args.tb.now (shape_of c.args.b.now);
-      fades = fades_begun i c.args.form c.args.target c.args.spent.now c.args.ta.now (shape_of c.args.a.now) c.args.tb.now (shape_of c.args.b.now);
+      far = sides_skipped i c.args.form c.args.target c.args.need c.args.target c.skip-from.result ta a tb b ta a tb b skips (sides_begun i c.args.form c.args.target c.args.need ta a tb b c.requires.pair c.requires.target);
+      leads = leads_skipped i c.args.form c.args.target c.args.need c.args.target c.skip-from.result ta a tb b ta a tb b skips spent spent (leads_begun i c.args.form c.args.target spent ta a tb b);
+      stays = stays_skipped i c.args.form c.args.target c.args.need c.args.target c.skip-from.result ta a tb b ta a tb b skips spent spent (stays_begun i c.args.form c.args.target c.args.need spent ta a tb b);
+      fades = fades_skipped i c.args.form c.args.target c.args.need c.args.target c.skip-from.result ta a tb b ta a tb b skips spent spent (fades_begun i c.args.form c.args.target spent ta a tb b);
       paid = omega arith;
       counted = omega arith;
       later = omega arith;
