@@ -1,17 +1,22 @@
 -- Where a search by halves among the terms of a document has come, and what is found there.
-use Rattle.std.proofs.Common.{◌≡◌, ℕ, zero, suc, ◌+◌, ◌<◌, ◌≤◌, Bool, true, false, if◌then◌else◌, List, [], ◌∷◌, length, get_or, bytes_eq, inl, inr, refl, sym, ap, subst, ◌∙◌, arith}
+use Rattle.std.proofs.Common.{◌≡◌, ◌≢◌, ℕ, zero, suc, ◌+◌, ◌<◌, ◌≤◌, Bool, true, false, if◌then◌else◌, List, [], ◌∷◌, ◌++◌, length, map, take, get_or, bytes_eq, inl, inr, refl, sym, ap, subst, ◌∙◌, arith}
+use Rattle.std.proofs.Math.ListN.{set}
 use mathlib.Core.Bool.{true≢false}
+use Rattle.std.specs.List.{AllPairs}
 use Rattle.std.specs.Ordering.{is_lt}
 use Rattle.std.specs.Cmp.Lexicographic.{nat_list_cmp_total}
-use Rattle.std.proofs.lemmas.Bool.{cases_lt}
-use Rattle.std.proofs.lemmas.List.{get_or_default}
+use Rattle.std.proofs.lemmas.Bool.{cases_lt, cases_order}
+use Rattle.std.proofs.lemmas.List.{get_or_default, get_or_past, length-map, map-append, take_more, take_more_set}
 use Rattle.std.proofs.lemmas.Slice.Eq.{bytes_eq-Decides}
 use Rattle.sk_base.specs.declared.doc_entry.DocTerm.{DocTerm}
 use Rattle.sk_base.specs.Order.{Precedes}
 use Rattle.sk_base.specs.Documents.{AreTerms, positions_of}
-use Rattle.sk_dict.specs.Terms.{term_cmp}
+use Rattle.sk_dict.specs.Terms.{term_at, term_cmp}
+use Rattle.sk_index.specs.Packed.{NumberedTerm, no_term, numbered_at, positions_at, AreKnown}
 use Rattle.sk_index.specs.Placed.{IsBetween}
+use Rattle.sk_index.specs.Unpacked.{named, named_all}
 use Rattle.sk_index.proofs.ListedLemmas.{Precedes-irrefl}
+use Rattle.sk_index.proofs.UnpackedLemmas.{known_at, named_at}
 use Rattle.sk_index.proofs.WildLemmas.{less_is}
 
 module _ (t : List ℕ) (terms : List DocTerm) (rising : AreTerms terms) where
@@ -93,3 +98,54 @@ positions_found t terms n e is rising h lt =
 -- nothing stands there
 pub positions_past : (t : List ℕ) (terms : List DocTerm) (n : ℕ) → IsBetween t terms n n → length terms ≤ n → positions_of t terms ≡ []
 positions_past t terms n h le = positions-none t terms (λ k d lt. before_apart (get_or terms k d).term t (h.before k d (omega arith)))
+
+-- the term stands at this place
+positions_there : (t : List ℕ) (terms : List DocTerm) (n : ℕ) (e : DocTerm) → e ≡ get_or terms n e → AreTerms terms → n < length terms → e.term ≡ t → positions_of t terms ≡ e.positions
+positions_there t terms n e is rising lt same =
+    positions-at t terms n e (λ k d below. before_apart (get_or terms k d).term t (subst (Precedes (get_or terms k d).term) (here d) (rising k n d below lt)))
+    (λ k d above within other. before_apart (get_or terms n d).term t (subst (Precedes (get_or terms n d).term) other (rising n k d above within)) (here d)) lt
+    ∙ ap (λ (one : DocTerm). if bytes_eq one.term t then one.positions else []) (sym is)
+    ∙ ap (λ b. if b then e.positions else []) ((bytes_eq-Decides e.term t).1 same)
+  where
+    here : (d : DocTerm) → (get_or terms n d).term ≡ t
+    here d = ap (λ (one : DocTerm). one.term) (sym (is ∙ get_or_default terms n e d lt)) ∙ same
+
+-- nothing stands behind all terms
+pub positions-past : (packed : List NumberedTerm) (place : ℕ) → length packed ≤ place → positions_at packed place ≡ []
+positions-past packed place le = ap (λ (one : NumberedTerm). one.positions) (get_or_past packed place no_term le)
+
+-- different numbers have different terms
+number-same : (dict : List (List ℕ)) (m n : ℕ) → AllPairs (λ s t. s ≢ t) dict → m < length dict → n < length dict → term_at dict m ≡ term_at dict n → m ≡ n
+number-same dict m n different low high same = elim (cases_order m n) as (λ _. m ≡ n) [
+  | inl is ↦ is
+  | inr apart ↦ elim apart as (λ _. m ≡ n) [
+    | inl before ↦ absurd (different m n [] before high same)
+    | inr behind ↦ absurd (different n m [] behind low (sym same))
+  ]
+]
+
+-- the place that the number has, or one behind all terms
+pub positions_numbered : (dict : List (List ℕ)) (packed : List NumberedTerm) (n place : ℕ) → AllPairs (λ s t. s ≢ t) dict → AreKnown (length dict) packed → AreTerms (named_all dict packed) → n < length dict
+    → ((k : ℕ) → k < place → (numbered_at packed k).number ≢ n) → (place < length packed → (numbered_at packed place).number ≡ n)
+    → positions_at packed place ≡ positions_of (term_at dict n) (named_all dict packed)
+positions_numbered dict packed n place different known rising there before found =
+    elim (cases_lt place (length packed)) as (λ _. positions_at packed place ≡ positions_of (term_at dict n) (named_all dict packed)) [
+      | inl lt ↦
+          let e : DocTerm = named dict (numbered_at packed place) in
+          sym (positions_there (term_at dict n) (named_all dict packed) place e (named_at dict packed place e lt) rising (omega (arith, lt, size)) (ap (term_at dict) (found lt)))
+      | inr le ↦ positions-past packed place le ∙ sym (positions-none (term_at dict n) (named_all dict packed) (λ k d lt. other k d (omega (arith, lt, size)) (omega (arith, lt, size, le))))
+    ]
+  where
+    size : length (named_all dict packed) ≡ length packed
+    size = length-map packed (named dict)
+
+    other : (k : ℕ) (d : DocTerm) → k < length packed → k < place → (get_or (named_all dict packed) k d).term ≡ term_at dict n → ⊥
+    other k d lt below same =
+        before k below (number-same dict (numbered_at packed k).number n different (known_at (length dict) packed k known lt) there (ap (λ (one : DocTerm). one.term) (named_at dict packed k d lt) ∙ same))
+
+-- one number more was looked up
+pub looked_up : (f g : ℕ → List ℕ) (places numbers : List ℕ) (i place d : ℕ) → i < length places → i < length numbers → f place ≡ g (get_or numbers i d) → map f (take i places) ≡ map g (take i numbers)
+    → map f (take (i + 1) (set places i place)) ≡ map g (take (i + 1) numbers)
+looked_up f g places numbers i place d room there same before =
+    ap (map f) (take_more_set places i place room) ∙ map-append f (take i places) (place ∷ []) ∙ (λ k. before k ++ same k ∷ []) ∙ sym (map-append g (take i numbers) (get_or numbers i d ∷ []))
+    ∙ sym (ap (map g) (take_more numbers i d there))

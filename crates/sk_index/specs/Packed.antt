@@ -18,6 +18,10 @@ no_term = record { number = 0; wdf = 0; positions = [] }
 abbrev pub numbered_at : List NumberedTerm → ℕ → NumberedTerm
 numbered_at terms i = slice_index_or terms i no_term
 
+-- The positions of the term at this place, none behind the last.
+abbrev pub positions_at : List NumberedTerm → ℕ → List ℕ
+positions_at terms place = (numbered_at terms place).positions
+
 -- The terms whose positions stand in one list: those of the first begin at the place `from`, of each other one where those of the one before end.
 abbrev pub cut : ℕ → List PackedTerm → List ℕ → List NumberedTerm
 cut from [] positions = []

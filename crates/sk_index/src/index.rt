@@ -1,5 +1,5 @@
 //! The index: the live documents, with a list for each term and each slot.
-ghost use Rattle.std.specs.Prelude.{◌≡◌, ◌<◌, ◌+◌, [], length, map, true, false, All, IfOk, MatchOption, IsSome, Some, None};
+ghost use Rattle.std.specs.Prelude.{◌≡◌, ◌<◌, ◌≤◌, ◌+◌, [], length, map, true, false, All, IfOk, MatchOption, IsSome, Some, None};
 ghost use Rattle.std.specs.List.{AllByRecursion};
 ghost use Rattle.std.specs.Option.{option_map};
 ghost use Rattle.sk_sorted.specs.Entries.{RiseAbove};
@@ -176,26 +176,22 @@ impl Index {
         positions_in(self.terms_of(places.id), lists, lists.term(places.number))
     }
 
-    /// The places of the terms with these numbers in the document. It is one reading for each.
+    /// The places of the terms with these numbers in the document, in memory that the caller lends. It is one reading
+    /// for each.
     pub fn all_places<'a, L: Ledger>(
         &'a self,
-        numbers: &'a [usize],
+        numbers: &[usize],
         id: DocId,
+        places: &'a mut [u32],
         steps: &mut Steps<L>,
     ) -> AllPlaces<'a>
         requires there { All (λ n. n < length self.now.terms) numbers.now }
+        requires room { length numbers.now ≤ length places.old }
         ensures value { result
             ≡ map (λ n. term_positions (term_at self.now.terms n) (document_at id self.now.live.documents)) numbers.now }
         ensures cost { steps.new ≡ steps.old + length numbers.now }
     {
-        'readings: for _ in numbers {
-            steps.tick();
-        }
-        AllPlaces {
-            lists: self.term_lists(),
-            numbers,
-            packed: self.terms_of(id),
-        }
+        AllPlaces::read(self.term_lists(), self.terms_of(id), numbers, places, steps)
     }
 
     // The terms of the document, none where it is not live.

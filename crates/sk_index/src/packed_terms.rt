@@ -1,7 +1,7 @@
 //! The terms of a document as numbers.
 ghost use Rattle.std.specs.Prelude.{◌≡◌, ◌<◌, ◌≤◌, ◌+◌, ◌*◌, ◌^◌, [], ◌∷◌, ◌++◌, length, drop, slice_index, IfOk, OnOk, OnErr};
 ghost use Rattle.sk_base.specs.Order.{ArePositions};
-ghost use Rattle.sk_index.specs.Packed.{numbered_at, words_of, heads_of, wdfs_of, are_plain, count_in, begin_in, behind};
+ghost use Rattle.sk_index.specs.Packed.{numbered_at, positions_at, words_of, heads_of, wdfs_of, are_plain, count_in, begin_in, behind};
 
 use std::alloc::{AllocError, Global};
 use std::marker::Model;
@@ -101,7 +101,8 @@ impl PackedTerms {
     }
 
     pub fn len(&self) -> usize
-        ensures { result ≡ length self.now }
+        ensures value { result ≡ length self.now }
+        ensures small { result < 2 ^ 32 }
     {
         count(self.words.as_slice())
     }
@@ -126,11 +127,24 @@ impl PackedTerms {
         let seen = behind(words);
         &seen[from..to]
     }
+
+    /// The positions of the term at this place, none behind the last.
+    pub fn positions_at(&self, place: usize) -> &[u32]
+        ensures value { result.now ≡ positions_at self.now place }
+        ensures rising { ArePositions result.now }
+    {
+        if place < self.len() {
+            self.positions(place)
+        } else {
+            &[]
+        }
+    }
 }
 
 // How many terms the words have.
 fn count(words: &[u32]) -> usize
-    ensures { result ≡ count_in words.now }
+    ensures value { result ≡ count_in words.now }
+    ensures small { result < 2 ^ 32 }
 {
     if words.is_empty() {
         0

@@ -1,10 +1,10 @@
 //! Where a term stands in a document.
-ghost use Rattle.std.specs.Prelude.{◌≡◌, ◌<◌, ◌+◌, [], length, bytes_eq, if◌then◌else◌};
+ghost use Rattle.std.specs.Prelude.{◌≡◌, ◌≢◌, ◌<◌, ◌≤◌, ◌+◌, ℕ, [], length, bytes_eq, if◌then◌else◌};
 ghost use Rattle.std.specs.Ordering.{is_lt};
 ghost use Rattle.sk_base.specs.Order.{ArePositions};
 ghost use Rattle.sk_base.specs.Documents.{AreTerms, positions_of};
 ghost use Rattle.sk_dict.specs.Terms.{term_at, term_cmp};
-ghost use Rattle.sk_index.specs.Packed.{AreKnown, numbered_at};
+ghost use Rattle.sk_index.specs.Packed.{AreKnown, numbered_at, positions_at};
 ghost use Rattle.sk_index.specs.Placed.{IsBetween};
 ghost use Rattle.sk_index.specs.Unpacked.{named_all};
 
@@ -15,6 +15,9 @@ use sk_steps::Steps;
 use std::cmp::Ordering;
 use std::marker::Model;
 use std::sync::ledger::Ledger;
+
+// Among so many terms one is found sooner by its number than by halves.
+const FEW: usize = 128;
 
 /// The places of a term in a document. Contracts see the term's number and the document's id; only `Index::places`
 /// makes one.
@@ -52,30 +55,66 @@ pub(crate) fn positions_in<'a>(packed: &'a PackedTerms, lists: &TermLists, term:
     ensures value { result.now ≡ positions_of term.now (named_all lists.now.terms packed.now) }
     ensures rising { ArePositions result.now }
 {
-    let place = place_of(packed, lists, term);
-    if place < packed.len() {
-        positions_if(packed, place, lists, term)
+    packed.positions_at(place_by_text(packed, lists, term))
+}
+
+/// Where the term with this number stands among the terms of a document; a place behind them all where it is none of
+/// them. Among few terms its number is compared with theirs one by one, among many its text by halves.
+pub(crate) fn place_in(packed: &PackedTerms, lists: &TermLists, number: usize) -> u32
+    requires there { number < length lists.now.terms }
+    requires known { AreKnown (length lists.now.terms) packed.now }
+    requires rising { AreTerms (named_all lists.now.terms packed.now) }
+    ensures { positions_at packed.now result ≡ positions_of (term_at lists.now.terms number) (named_all lists.now.terms packed.now) }
+{
+    let term = lists.term(number);
+    if packed.len() <= FEW {
+        place_by_number(packed, number) as u32
     } else {
-        &[]
+        place_by_text(packed, lists, term) as u32
     }
 }
 
-// The positions of the term at this place, if it is the term.
-fn positions_if<'a>(
-    packed: &'a PackedTerms,
-    place: usize,
-    lists: &TermLists,
-    term: &[u8],
-) -> &'a [u32]
+// The first place of the number, or the number of terms.
+fn place_by_number(packed: &PackedTerms, number: usize) -> usize
+    ensures within { result ≤ length packed.now }
+    ensures before { (k : ℕ) → k < result → (numbered_at packed.now k).number ≢ number }
+    ensures found { result < length packed.now → (numbered_at packed.now result).number ≡ number }
+{
+    let count = packed.len();
+    'terms: for place in 0..count {
+        if packed.number(place) == number {
+            return place;
+        }
+    }
+    count
+}
+
+// The place of the term, or the number of terms.
+fn place_by_text(packed: &PackedTerms, lists: &TermLists, term: &[u8]) -> usize
+    requires known { AreKnown (length lists.now.terms) packed.now }
+    requires rising { AreTerms (named_all lists.now.terms packed.now) }
+    ensures within { result ≤ length packed.now }
+    ensures value { positions_at packed.now result ≡ positions_of term.now (named_all lists.now.terms packed.now) }
+{
+    let place = place_of(packed, lists, term);
+    if place < packed.len() {
+        place_if(packed, place, lists, term)
+    } else {
+        place
+    }
+}
+
+// The place, if the term stands there, or the number of terms.
+fn place_if(packed: &PackedTerms, place: usize, lists: &TermLists, term: &[u8]) -> usize
     requires there { place < length packed.now }
     requires known { AreKnown (length lists.now.terms) packed.now }
-    ensures value { result.now ≡ (if bytes_eq (term_at lists.now.terms (numbered_at packed.now place).number) term.now then (numbered_at packed.now place).positions else []) }
-    ensures rising { ArePositions result.now }
+    ensures within { result ≤ length packed.now }
+    ensures value { positions_at packed.now result ≡ (if bytes_eq (term_at lists.now.terms (numbered_at packed.now place).number) term.now then positions_at packed.now place else []) }
 {
     if lists.term(packed.number(place)) == term {
-        packed.positions(place)
+        place
     } else {
-        &[]
+        packed.len()
     }
 }
 

@@ -61,10 +61,11 @@ impl TermLists {
         self.dict.find(term)
     }
 
-    /// The term with this number.
+    /// The term with this number, which no other number has.
     pub fn term(&self, number: usize) -> &[u8]
         requires there { number < length self.now.terms }
-        ensures { result.now ≡ term_at self.now.terms number }
+        ensures value { result.now ≡ term_at self.now.terms number }
+        ensures sound { IsListed self.now }
     {
         self.dict.term(number)
     }

@@ -16,7 +16,7 @@ halves-preserved-then-is_before c =
     let packed = c.args.packed.now in
     let middle = c.halves.low + (c.halves.high - c.halves.low) / 2 in
     let e : DocTerm = named dict (numbered_at packed middle) in
-    let text : c.term.result.now ≡ e.term = c.term.ensures ∙ ap (term_at dict) c.number.ensures in
+    let text : c.term.result.now ≡ e.term = c.term.ensures.value ∙ ap (term_at dict) c.number.ensures in
     let size : length (named_all dict packed) ≡ length packed = length-map packed (named dict) in
     halved_low c.args.term.now (named_all dict packed) c.requires.rising c.halves.low middle c.halves.high e (named_at dict packed middle e (omega (arith, c.halves.invariant.within, size))) c.halves.invariant (omega arith)
     (ap (λ w. is_lt (term_cmp w c.args.term.now)) (sym text) ∙ sym c.is_before.ensures ∙ c.if-is_before.true)
@@ -27,7 +27,7 @@ halves-preserved c =
     let packed = c.args.packed.now in
     let middle = c.halves.low + (c.halves.high - c.halves.low) / 2 in
     let e : DocTerm = named dict (numbered_at packed middle) in
-    let text : c.term.result.now ≡ e.term = c.term.ensures ∙ ap (term_at dict) c.number.ensures in
+    let text : c.term.result.now ≡ e.term = c.term.ensures.value ∙ ap (term_at dict) c.number.ensures in
     let size : length (named_all dict packed) ≡ length packed = length-map packed (named dict) in
     halved_high c.args.term.now (named_all dict packed) c.requires.rising c.halves.low middle c.halves.high e (named_at dict packed middle e (omega (arith, c.halves.invariant.within, size))) c.halves.invariant (omega arith) (omega arith)
     (ap (λ w. is_lt (term_cmp w c.args.term.now)) (sym text) ∙ sym c.is_before.ensures ∙ c.if-is_before.false)

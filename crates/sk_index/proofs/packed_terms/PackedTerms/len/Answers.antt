@@ -4,5 +4,5 @@ use Rattle.sk_index.specs.Packed.{count_in}
 use Rattle.sk_index.proofs.FrozenLemmas.{length-frozen}
 use Rattle.sk_index.proofs.packed_terms.PackedTerms.len.Goals as goal
 
-pub returns : goal.returns
-returns c = c.count.ensures ∙ ap count_in c.as_slice.ensures.value ∙ sym (length-frozen c.self.inside.words.items) ∙ ap length c.self.view_is
+pub returns-clause-value : goal.returns-clause-value
+returns-clause-value c = c.count.ensures.value ∙ ap count_in c.as_slice.ensures.value ∙ sym (length-frozen c.self.inside.words.items) ∙ ap length c.self.view_is
