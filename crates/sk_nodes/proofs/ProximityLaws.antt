@@ -54,16 +54,17 @@ same_rest : (i : Indexed) (p q : Proximity) (t : Top) (s : Shape) (id : ℕ) →
 same_rest i p q t s id same = ap (λ b. where_so b (rest i s id)) (same_holds i p q id same)
 
 pub same_again : (p q r : Proximity) → IsSameTest p q → IsSameTest q r → IsSameTest p r
-same_again p q r a b = record { standing = b.standing ∙ a.standing; window = b.window ∙ a.window; numbers = b.numbers ∙ a.numbers; marks = b.marks ∙ a.marks }
+same_again p q r a b = record { standing = b.standing ∙ a.standing; window = b.window ∙ a.window; numbers = b.numbers ∙ a.numbers; marks = b.marks ∙ a.marks; places = b.places ∙ a.places }
 
 pub same_itself : (p : Proximity) → IsSameTest p p
-same_itself p = record { standing = refl; window = refl; numbers = refl; marks = refl }
+same_itself p = record { standing = refl; window = refl; numbers = refl; marks = refl; places = refl }
 
 pub same_can : (i : Indexed) (p q : Proximity) → IsSameTest p q → CanTest i p → CanTest i q
 same_can i p q same can = record {
   some = omega (arith, can.some, ap length same.numbers);
   wide = omega (arith, can.wide, same.window);
   marks = omega (arith, can.marks, ap length same.numbers, same.marks);
+  places = omega (arith, can.places, ap length same.numbers, same.places);
   there = subst (λ (ns : List ℕ). AreThere i ns) (sym same.numbers) can.there;
   sorted = subst (λ (ns : List ℕ). AreInOrder i ns) (sym same.numbers) can.sorted;
 }

@@ -285,13 +285,14 @@ entries_all i (n ∷ ns) =
 
 -- a test before its first document
 pub test_opened : (i : Indexed) (p : Proximity) (t : Top) (s : Shape) (ts : List (List ℕ)) (scheme : Scheme) (factor most : ℕ) → (is_window p.window && are_given ts) ≡ true → map (term_at i.terms) p.numbers.items ≡ ts
-    → length p.numbers.items ≤ length p.marks.items → AreThere i p.numbers.items → AreInOrder i p.numbers.items → p.next ≡ 0 → AreSorted i.live.documents
+    → length p.numbers.items ≤ length p.marks.items → length p.numbers.items ≤ length p.places.items → AreThere i p.numbers.items → AreInOrder i p.numbers.items → p.next ≡ 0 → AreSorted i.live.documents
     → Opens i t s (joint_score_of Form.And (term_trees ts) scheme factor) most → IsTested i p t s (Sound i s)
-test_opened i p t s ts scheme factor most given named marks there sorted next documents opens = record {
+test_opened i p t s ts scheme factor most given named marks places there sorted next documents opens = record {
   test = record {
     some = omega (arith, terms_some p.window ts given, ap length named, named_length (term_at i.terms) p.numbers.items);
     wide = terms_wide p.window ts given;
     marks = marks;
+    places = places;
     there = there;
     sorted = sorted;
   };

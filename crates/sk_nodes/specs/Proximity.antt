@@ -53,6 +53,7 @@ pub record CanTest (i : Indexed) (p : Proximity) : Type 0 where
   pub some : 1 ≤ length p.numbers.items
   pub wide : 1 ≤ p.window
   pub marks : length p.numbers.items ≤ length p.marks.items
+  pub places : length p.numbers.items ≤ length p.places.items
   pub there : AreThere i p.numbers.items
   pub sorted : AreInOrder i p.numbers.items
 
@@ -62,6 +63,7 @@ pub record IsSameTest (old new : Proximity) : Type 0 where
   pub window : new.window ≡ old.window
   pub numbers : new.numbers.items ≡ old.numbers.items
   pub marks : length new.marks.items ≡ length old.marks.items
+  pub places : length new.places.items ≡ length old.places.items
 
 -- Those of these terms that have a number.
 abbrev pub numbered : Indexed → List (List ℕ) → List (List ℕ)

@@ -207,11 +207,13 @@ fn open_standing<L: Ledger>(
     )?;
     add_lengths(index, numbers.as_slice(), most)?;
     let marks = Vec::from_elem(alloc, 0, numbers.len())?;
+    let places = Vec::from_elem(alloc, 0, numbers.len())?;
     let test = Proximity {
         standing,
         window,
         numbers,
         marks,
+        places,
         next: 0,
     };
     let (top, node) = tested_of(alloc, index, test, below, node, spent, steps)?;

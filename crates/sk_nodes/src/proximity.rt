@@ -16,13 +16,15 @@ pub(crate) enum Standing {
 }
 
 /// A test of documents that have all of some terms, by their numbers: whether these stand so. All documents before `next`
-/// were tested. The marks are memory for a place of each term.
+/// were tested. The marks are memory for a place of each term among its positions, the places for one among the terms of
+/// a document.
 #[derive(Drop)]
 pub(crate) struct Proximity {
     pub standing: Standing,
     pub window: u32,
     pub numbers: Vec<usize>,
     pub marks: Vec<u32>,
+    pub places: Vec<u32>,
     pub next: u64,
 }
 
@@ -58,6 +60,7 @@ impl Proximity {
             self.window,
             self.numbers.as_slice(),
             self.marks.as_mut_slice(),
+            self.places.as_mut_slice(),
             index,
             head as DocId,
             steps,
@@ -71,6 +74,7 @@ fn stand_so<L: Ledger>(
     window: u32,
     numbers: &[usize],
     marks: &mut [u32],
+    places: &mut [u32],
     index: &Index,
     id: DocId,
     steps: &mut Steps<L>,
@@ -78,11 +82,12 @@ fn stand_so<L: Ledger>(
     requires some { 1 ≤ length numbers.now }
     requires wide { 1 ≤ window }
     requires marks { length numbers.now ≤ length marks.old }
+    requires places { length numbers.now ≤ length places.old }
     requires there { AreThere index.now numbers.now }
     ensures value { result ≡ stand standing window (positions_at index.now numbers.now id) }
     ensures cost { steps.new ≡ steps.old + length numbers.now }
 {
-    let places = index.all_places(numbers, id, steps);
+    let places = index.all_places(numbers, id, places, steps);
     match standing {
         Standing::Near => near(&places, window, marks),
         Standing::Phrase => phrase(&places, window, marks),

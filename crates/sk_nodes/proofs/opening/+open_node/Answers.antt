@@ -58,7 +58,7 @@ open_standing-returns-clause-opens g t c =
     let i = c.args.index.now in
     let view = ap queries_view c.as_slice.ensures.value ∙ c.in_ok-terms.ensures in
     let named = all_numbered i c.in_ok-numbers.numbers.items c.args.words.now c.in_ok-numbers.ensures.terms (omega (arith, c.if-len-words.false, c.len.ensures)) in
-    standing_opened i (record { standing = c.args.standing; window = c.args.window; numbers = c.in_ok-numbers.numbers; marks = c.in_ok-marks.marks; next = 0 }) c.in_ok-below.below c.in_ok-top.top (shape_of c.in_ok-below.node) (shape_of c.in_ok-top.node) c.args.words.now c.args.scheme c.args.factor _ named
+    standing_opened i (record { standing = c.args.standing; window = c.args.window; numbers = c.in_ok-numbers.numbers; marks = c.in_ok-marks.marks; places = c.in_ok-places.places; next = 0 }) c.in_ok-below.below c.in_ok-top.top (shape_of c.in_ok-below.node) (shape_of c.in_ok-top.node) c.args.words.now c.args.scheme c.args.factor _ named
     (subst (λ ts. Opens i c.in_ok-below.below (shape_of c.in_ok-below.node) (joint_score_of Form.And ts c.args.scheme c.args.factor) (ceil_of Form.And (ceils ts c.args.scheme c.args.factor i.live.documents))) view c.in_ok-below.ensures.opens)
     (terms_ceils c.args.words.now c.args.scheme c.args.factor i.live.documents)
     c.in_ok-top.ensures.top c.in_ok-top.ensures.sound c.in_ok-top.ensures.gives c.in_ok-top.ensures.ceiling
@@ -77,8 +77,8 @@ open_standing-tested_of-requires-clause-tested g t c =
     let i = c.args.index.now in
     let view = ap queries_view c.as_slice.ensures.value ∙ c.in_ok-terms.ensures in
     let named = all_numbered i c.in_ok-numbers.numbers.items c.args.words.now c.in_ok-numbers.ensures.terms (omega (arith, c.if-len-words.false, c.len.ensures)) in
-    test_opened i (record { standing = c.args.standing; window = c.args.window; numbers = c.in_ok-numbers.numbers; marks = c.in_ok-marks.marks; next = 0 }) c.in_ok-below.below (shape_of c.in_ok-below.node) c.args.words.now c.args.scheme c.args.factor _ c.requires.sound named
-    (omega (arith, c.in_ok-marks.ensures.len, c.len-2.ensures)) c.in_ok-numbers.ensures.there (subst (λ (ns : List ℕ). AreInOrder i ns) c.as_slice-2.ensures.value c.in_ok-add_lengths.ensures.sorted) refl c.requires.documents
+    test_opened i (record { standing = c.args.standing; window = c.args.window; numbers = c.in_ok-numbers.numbers; marks = c.in_ok-marks.marks; places = c.in_ok-places.places; next = 0 }) c.in_ok-below.below (shape_of c.in_ok-below.node) c.args.words.now c.args.scheme c.args.factor _ c.requires.sound named
+    (omega (arith, c.in_ok-marks.ensures.len, c.len-2.ensures)) (omega (arith, c.in_ok-places.ensures.len, c.len-3.ensures)) c.in_ok-numbers.ensures.there (subst (λ (ns : List ℕ). AreInOrder i ns) c.as_slice-2.ensures.value c.in_ok-add_lengths.ensures.sorted) refl c.requires.documents
     (subst (λ ts. Opens i c.in_ok-below.below (shape_of c.in_ok-below.node) (joint_score_of Form.And ts c.args.scheme c.args.factor) (ceil_of Form.And (ceils ts c.args.scheme c.args.factor i.live.documents))) view c.in_ok-below.ensures.opens)
 
 pub open_node-returns-in-Some-clause-flat : goal.open_node-returns-in-Some-clause-flat
