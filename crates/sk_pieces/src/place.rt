@@ -1,34 +1,45 @@
 //! The first entry from an id on.
-ghost use Rattle.std.specs.Prelude.{◌≡◌, ◌≤◌, ◌<◌, length, drop};
+ghost use Rattle.std.specs.Prelude.{◌≡◌, ◌≤◌, ◌<◌, ℕ, length, drop};
 ghost use Rattle.sk_sorted.specs.Entries.{RiseAbove, from};
 ghost use Rattle.sk_sorted.specs.Places.{id_at};
 
-use sk_sorted::place_of;
-
-// How many entries from the front on are enough to search for the id: found in steps that double.
-fn front_of<T>(entries: &[(u32, T)], id: u32) -> usize
-    ensures within { result ≤ length entries.now }
-    ensures beyond { result < length entries.now → id ≤ id_at entries.now result }
-{
-    let mut end = 1usize;
-    'steps: while end < entries.len() {
-        if entries[end].0 >= id {
-            return end;
-        }
-        end = end.saturating_mul(2);
-    }
-    entries.len()
-}
-
-/// The place of the first entry whose id is at least `id`. It is found in a few steps where it is near to the front.
+/// The place of the first entry whose id is at least `id`. It looks at the first entry, then about twice as far each time,
+/// and then halves what is left.
 pub(crate) fn place_from<T>(entries: &[(u32, T)], id: u32) -> usize
     requires { RiseAbove 0 entries.now }
     ensures left { drop result entries.now ≡ from id entries.now }
     ensures within { result ≤ length entries.now }
 {
-    let front = &entries[..front_of(entries, id)];
-    match place_of(front, id) {
-        Ok(at) => at,
-        Err(at) => at,
+    let mut low = 0usize;
+    'gallop: while low < entries.len() - low {
+        let at = low + low;
+        if id <= entries[at].0 {
+            return first_between(entries, low, at, id);
+        }
+        low = at + 1;
     }
+    first_between(entries, low, entries.len(), id)
+}
+
+// The same between two places: the ids before the first are below `id`, and the one at the second is not.
+fn first_between<T>(entries: &[(u32, T)], start: usize, end: usize, id: u32) -> usize
+    requires rise { RiseAbove 0 entries.now }
+    requires order { start ≤ end }
+    requires within { end ≤ length entries.now }
+    requires before { (k : ℕ) → k < start → id_at entries.now k < id }
+    requires reaches { end < length entries.now → id ≤ id_at entries.now end }
+    ensures left { drop result entries.now ≡ from id entries.now }
+    ensures within { result ≤ length entries.now }
+{
+    let mut low = start;
+    let mut high = end;
+    'halve: while low < high {
+        let middle = low + (high - low) / 2;
+        if entries[middle].0 < id {
+            low = middle + 1;
+        } else {
+            high = middle;
+        }
+    }
+    low
 }

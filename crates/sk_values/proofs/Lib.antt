@@ -1,4 +1,5 @@
 pub mod ValueLaws
 pub mod RangeLaws
+mod ByteLaws
 mod CursorLemmas
 mod Examples

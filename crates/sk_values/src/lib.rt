@@ -3,6 +3,7 @@
 
 mod range;
 mod range_cursor;
+mod reach;
 mod slot_list;
 
 pub use range_cursor::RangeCursor;

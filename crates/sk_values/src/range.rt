@@ -1,5 +1,7 @@
 //! Which values lie in a range.
 ghost use Rattle.std.specs.Prelude.{◌≡◌};
+ghost use Rattle.std.specs.Ordering.{nat_cmp, is_le};
+ghost use Rattle.std.specs.Cmp.Lexicographic.{slice_cmp};
 ghost use Rattle.sk_model.specs.Ranges.{is_from, is_to, is_within};
 
 use sk_base::Bytes;
@@ -16,7 +18,7 @@ fn is_from(lo: &Option<Bytes>, value: &[u8]) -> bool
 {
     match lo {
         None => true,
-        Some(lo) => lo.as_slice().cmp(value).is_le(),
+        Some(lo) => is_at_most(lo.as_slice(), value),
     }
 }
 
@@ -25,6 +27,21 @@ fn is_to(hi: &Option<Bytes>, value: &[u8]) -> bool
 {
     match hi {
         None => true,
-        Some(hi) => value.cmp(hi.as_slice()).is_le(),
+        Some(hi) => is_at_most(value, hi.as_slice()),
     }
+}
+
+// Whether the first does not come behind the second. It is a plain loop: most values are short, and differ soon.
+fn is_at_most(a: &[u8], b: &[u8]) -> bool
+    ensures { result ≡ is_le (slice_cmp nat_cmp a.now b.now) }
+{
+    let both = a.len().min(b.len());
+    let mut i = 0usize;
+    'bytes: while i < both {
+        if a[i] != b[i] {
+            return a[i] < b[i];
+        }
+        i += 1;
+    }
+    a.len() <= b.len()
 }

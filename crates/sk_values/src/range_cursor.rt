@@ -8,6 +8,7 @@ ghost use Rattle.sk_values.specs.RangeCursor.{in_range, unread, ahead, left, IsH
 
 use crate::SlotList;
 use crate::range::is_within;
+use crate::reach::first_reaching;
 use sk_base::{Bytes, DocId};
 use sk_pieces::Piece;
 use sk_steps::Steps;
@@ -113,8 +114,8 @@ impl RangeCursor {
     }
 }
 
-// The place of the first entry from a place on whose id is at least the target. It passes over each piece that ends below
-// the target by its last id.
+// The place of the first entry from a place on whose id is at least the target. It finds the piece by last ids, and of
+// those before it asks alone how many entries they have.
 fn place_from(list: &SlotList, start: Place, target: DocId) -> Place
     requires { IsPlaceIn start list.now }
     ensures at { IsPlaceIn result list.now }
@@ -123,18 +124,17 @@ fn place_from(list: &SlotList, start: Place, target: DocId) -> Place
 {
     let _sound = list.length();
     let pieces = list.pieces();
+    let at = first_reaching(pieces, start.piece, target);
     let mut place = start;
-    'pieces: while place.piece < pieces.len() {
-        let piece = &pieces[place.piece];
-        if target <= piece.last() {
-            let read = piece.place_from(place.read, target);
-            place.passed += read - place.read;
-            place.read = read;
-            return place;
-        }
-        place.passed += piece.count() - place.read;
+    'pieces: while place.piece < at {
+        place.passed += pieces[place.piece].count() - place.read;
         place.piece += 1;
         place.read = 0;
+    }
+    if at < pieces.len() {
+        let read = pieces[at].place_from(place.read, target);
+        place.passed += read - place.read;
+        place.read = read;
     }
     place
 }

@@ -1,11 +1,19 @@
-use Rattle.sk_pieces.proofs.PlaceLemmas.{RiseAbove-take, from_found, from_gap}
+-- Where an id is below the one that is sought, so are those before it.
+use Rattle.std.proofs.Common.{ℕ, ◌<◌, ◌+◌, length, arith}
+use Rattle.sk_sorted.specs.Places.{id_at}
+use Rattle.sk_sorted.proofs.PlaceLaws.{id_at-get_or}
+use Rattle.sk_pieces.proofs.PlaceLemmas.{below_up_to}
 use Rattle.sk_pieces.proofs.place.place_from.Goals as goal
 
-pub place_of-requires : goal.place_of-requires
-place_of-requires g c = RiseAbove-take 0 c.front_of.result c.args.entries.now c.requires
+pub first_between-requires-clause-reaches : goal.first_between-requires-clause-reaches
+first_between-requires-clause-reaches g c lt = omega (arith, id_at-get_or c.args.entries.now (c.gallop.low + c.gallop.low) c.index-entries-at.result lt, c.if-id-entries.true)
 
-pub returns-in-Ok-clause-left : goal.returns-in-Ok-clause-left
-returns-in-Ok-clause-left g c = from_found c.args.id c.front_of.result c.in-Ok.at c.args.entries.now c.requires c.front_of.ensures.within c.in-Ok.ensures.found
-
-pub returns-in-Err-clause-left : goal.returns-in-Err-clause-left
-returns-in-Err-clause-left g c = from_gap c.args.id c.front_of.result c.in-Err.at c.args.entries.now c.front_of.ensures.within c.front_of.ensures.beyond c.in-Err.ensures.absent
+pub gallop-preserved : goal.gallop-preserved
+gallop-preserved g c =
+    let at : ℕ = c.gallop.low + c.gallop.low in
+    let inside : at < length c.args.entries.now = omega (arith, c.gallop-test.true) in
+    let below : id_at c.args.entries.now at < c.args.id = omega (arith, id_at-get_or c.args.entries.now at c.index-entries-at.result inside, c.if-id-entries.false) in
+    record {
+      within = omega (arith, inside);
+      before = λ k lt. below_up_to c.args.id at k c.args.entries.now c.requires inside below (omega (arith, lt));
+    }
