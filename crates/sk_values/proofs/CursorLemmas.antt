@@ -1,10 +1,10 @@
 -- What a cursor's steps from piece to piece are to the whole list.
-use Rattle.std.proofs.Common.{◌≡◌, ℕ, ◌+◌, ◌-◌, ◌<◌, ◌≤◌, List, [], ◌++◌, length, drop, get_or, true, false, is_some, Option, Some, None, sym, ap, subst, ◌∙◌, arith, refl, true≢false}
+use Rattle.std.proofs.Common.{◌≡◌, ℕ, ◌+◌, ◌-◌, ◌<◌, ◌≤◌, List, [], ◌∷◌, ◌++◌, length, drop, get_or, true, false, is_some, Option, Some, None, sym, ap, subst, ◌∙◌, arith, refl, true≢false}
 use Rattle.std.proofs.lemmas.List.{drop_all, length-append, length-drop}
 use Rattle.std.proofs.lemmas.List.Elements.{filter-append}
 use Rattle.sk_sorted.specs.Entries.{LieBelow, from, top_id}
 use Rattle.sk_sorted.specs.Places.{id_at}
-use Rattle.sk_sorted.proofs.EntryLaws.{LieBelow-drop, from-append, from-front_append}
+use Rattle.sk_sorted.proofs.EntryLaws.{LieBelow-drop, from-at, from-append, from-front_append}
 use Rattle.sk_runs.specs.Runs.{flat, AreRuns, IsPlace}
 use Rattle.sk_runs.proofs.RunLaws.{below-top, run_rises, tops_rise}
 use Rattle.sk_runs.proofs.EditLaws.{run_read}
@@ -122,6 +122,16 @@ module _ (lo hi : Option (List ℕ)) (runs : SlotRuns) (i read passed : ℕ) (lt
 -- where a piece ends below the target, so does each before it
 pub ends_below : (target m k : ℕ) (runs : SlotRuns) → AreRuns runs → m < length runs → top_id 0 (get_or runs m []) < target → k ≤ m → top_id 0 (get_or runs k []) < target
 ends_below target m k runs are lt below le = omega (arith, tops_rise 0 runs k m [] are.rise le lt, below)
+
+-- where the next entry of the piece is not below the target, nothing is passed over
+pub next_reaches : (runs : SlotRuns) (i read passed target : ℕ) → i < length runs → IsPlace runs i read passed → read < length (get_or runs i []) → target ≤ id_at (get_or runs i []) read
+    → drop passed (flat runs) ≡ from target (drop passed (flat runs))
+next_reaches runs i read passed target lt at less le =
+    let run : SlotValues = get_or runs i [] in
+    let rest : SlotValues = drop (read + 1) run ++ flat (drop (i + 1) runs) in
+    let split : drop passed (flat runs) ≡ (id_at run read, value_at run read) ∷ rest
+    = place_drop runs i read passed lt at ∙ ap (λ (es : SlotValues). es ++ flat (drop (i + 1) runs)) (drop-entry run read less) in
+    split ∙ sym (from-at target (id_at run read, value_at run read) rest le) ∙ ap (from target) (sym split)
 
 -- the last id of a piece that is read at its place
 pub last_is : (runs : SlotRuns) (i : ℕ) (run : SlotValues) → i < length runs → run ≡ get_or runs i run → top_id 0 run ≡ top_id 0 (get_or runs i [])

@@ -1,7 +1,8 @@
 //! Which values lie in a range.
-ghost use Rattle.std.specs.Prelude.{◌≡◌};
+ghost use Rattle.std.specs.Prelude.{◌≡◌, length};
 ghost use Rattle.std.specs.Ordering.{nat_cmp, is_le};
 ghost use Rattle.std.specs.Cmp.Lexicographic.{slice_cmp};
+ghost use Rattle.std.specs.Slice.Scan.{big_endian};
 ghost use Rattle.sk_model.specs.Ranges.{is_from, is_to, is_within};
 
 use sk_base::Bytes;
@@ -31,10 +32,14 @@ fn is_to(hi: &Option<Bytes>, value: &[u8]) -> bool
     }
 }
 
-// Whether the first does not come behind the second. It is a plain loop: most values are short, and differ soon.
+// Whether the first does not come behind the second. Numbers, which are eight bytes, are compared in one step, and others
+// byte by byte: most values are short, and differ soon.
 fn is_at_most(a: &[u8], b: &[u8]) -> bool
     ensures { result ≡ is_le (slice_cmp nat_cmp a.now b.now) }
 {
+    if a.len() == 8 && b.len() == 8 {
+        return number(a) <= number(b);
+    }
     let both = a.len().min(b.len());
     let mut i = 0usize;
     'bytes: while i < both {
@@ -44,4 +49,14 @@ fn is_at_most(a: &[u8], b: &[u8]) -> bool
         i += 1;
     }
     a.len() <= b.len()
+}
+
+// The number of eight bytes, the highest of them first.
+fn number(bytes: &[u8]) -> u64
+    requires { length bytes.now ≡ 8 }
+    ensures { result ≡ big_endian 0 bytes.now }
+{
+    u64::from_be_bytes([
+        bytes[0], bytes[1], bytes[2], bytes[3], bytes[4], bytes[5], bytes[6], bytes[7],
+    ])
 }

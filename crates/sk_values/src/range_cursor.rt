@@ -1,5 +1,5 @@
 //! A place in a slot's list, which only moves on, and stops only at values in a range.
-ghost use Rattle.std.specs.Prelude.{◌≡◌, ◌+◌, ◌≤◌, ◌<◌, length, drop, IfSome};
+ghost use Rattle.std.specs.Prelude.{◌≡◌, ◌+◌, ◌≤◌, ◌<◌, true, length, drop, IfSome};
 ghost use Rattle.sk_sorted.specs.Entries.{from, first_id};
 ghost use Rattle.sk_sorted.specs.Places.{id_at};
 ghost use Rattle.sk_runs.specs.Runs.{flat};
@@ -114,8 +114,8 @@ impl RangeCursor {
     }
 }
 
-// The place of the first entry from a place on whose id is at least the target. It finds the piece by last ids, and of
-// those before it asks alone how many entries they have.
+// The place of the first entry from a place on whose id is at least the target. Mostly it is the place itself. Else it
+// finds the piece by last ids, and of those before it asks alone how many entries they have.
 fn place_from(list: &SlotList, start: Place, target: DocId) -> Place
     requires { IsPlaceIn start list.now }
     ensures at { IsPlaceIn result list.now }
@@ -124,6 +124,9 @@ fn place_from(list: &SlotList, start: Place, target: DocId) -> Place
 {
     let _sound = list.length();
     let pieces = list.pieces();
+    if stands_at(pieces, start, target) {
+        return start;
+    }
     let at = first_reaching(pieces, start.piece, target);
     let mut place = start;
     'pieces: while place.piece < at {
@@ -137,6 +140,19 @@ fn place_from(list: &SlotList, start: Place, target: DocId) -> Place
         place.read = read;
     }
     place
+}
+
+// Whether the next entry of the piece has an id that is at least the target. It looks at the id alone.
+fn stands_at(pieces: &[Piece<Bytes>], place: Place, target: DocId) -> bool
+    requires { IsPlaceIn place pieces.now }
+    ensures { result ≡ true → drop place.passed (flat pieces.now) ≡ from target (drop place.passed (flat pieces.now)) }
+{
+    if place.piece == pieces.len() {
+        return false;
+    }
+    let entries = pieces[place.piece].as_slice();
+    let next = place.read as usize;
+    next < entries.len() && target <= entries[next].0
 }
 
 // Reads on from a place to the first value between the ends, and gives the place behind it with its id, or the end.
