@@ -3,8 +3,8 @@ ghost use Rattle.std.specs.Prelude.{◌≡◌, ◌≤◌, ◌<◌, ℕ, length, 
 ghost use Rattle.sk_sorted.specs.Entries.{RiseAbove, from};
 ghost use Rattle.sk_sorted.specs.Places.{id_at};
 
-/// The place of the first entry whose id is at least `id`. It looks at the first entry, then about twice as far each time,
-/// and then halves what is left.
+/// The place of the first entry whose id is at least `id`. It looks at the first entry, then about twice as far each
+/// time, and then halves what is left.
 pub(crate) fn place_from<T>(entries: &[(u32, T)], id: u32) -> usize
     requires { RiseAbove 0 entries.now }
     ensures left { drop result entries.now ≡ from id entries.now }

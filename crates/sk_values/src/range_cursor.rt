@@ -114,8 +114,8 @@ impl RangeCursor {
     }
 }
 
-// The place of the first entry from a place on whose id is at least the target. Mostly that is the place itself. Else its
-// piece is found by last ids, and the pieces before that are only asked how many entries they have.
+// The place of the first entry from a place on whose id is at least the target. Mostly that is the place itself. Else
+// its piece is found by last ids, and the pieces before that are only asked how many entries they have.
 fn place_from(list: &SlotList, start: Place, target: DocId) -> Place
     requires { IsPlaceIn start list.now }
     ensures at { IsPlaceIn result list.now }

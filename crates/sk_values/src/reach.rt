@@ -6,8 +6,9 @@ ghost use Rattle.sk_runs.specs.Runs.{AreRuns};
 use sk_base::{Bytes, DocId};
 use sk_pieces::Piece;
 
-/// The first piece from this one on that ends at the target or behind it; their number where there is none. It looks about
-/// twice as far each time and then halves what is left, so it looks at some two last ids for each bit of the distance.
+/// The first piece from this one on that ends at the target or behind it; their number where there is none. It looks
+/// about twice as far each time and then halves what is left, so it looks at some two last ids for each bit of the
+/// distance.
 pub(crate) fn first_reaching(pieces: &[Piece<Bytes>], start: usize, target: DocId) -> usize
     requires sound { AreRuns pieces.now }
     requires there { start ≤ length pieces.now }
