@@ -2,7 +2,7 @@ mod LineLemmas
 mod SchemaLemmas
 mod Choices
 mod ByteLemmas
-mod MemberLemmas
+mod TakenLemmas
 mod EntryLemmas
 mod ShapeLemmas
 mod CommandLemmas

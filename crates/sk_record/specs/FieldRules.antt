@@ -1,5 +1,5 @@
 -- What a shape says under a schema, and none where a rule on fields is broken.
-use Rattle.std.specs.Prelude.{ℕ, suc, ◌+◌, Bool, false, List, [], ◌∷◌, bytes_eq, find, Option, Some, None, is_some, if◌then◌else◌, option_map}
+use Rattle.std.specs.Prelude.{ℕ, suc, Bool, false, List, [], ◌∷◌, bytes_eq, find, Option, Some, None, is_some, if◌then◌else◌, option_map}
 use Rattle.std.specs.Option.{option_and_then}
 use Rattle.serde_json.specs.Data.{Data, null, boolean, number, string, array, object}
 use Rattle.serde_json.specs.Find.{get, as_str}
@@ -59,11 +59,6 @@ abbrev pub entries_from : ℕ → List Field → Data → Option (List Entry)
 entries_from place [] values = Some []
 entries_from place (field ∷ more) values =
     option_and_then (λ value. option_map (with_entry place value) (entries_from (suc place) more values)) (member_value field.kind (get field.name values))
-
--- How many of the fields have a member.
-abbrev pub members_found : List Field → Data → ℕ
-members_found [] values = 0
-members_found (field ∷ more) values = (if is_some (get field.name values) then 1 else 0) + members_found more values
 
 -- The value is an object, and each of its members names a field.
 abbrev pub names_fields : List Field → Data → Bool

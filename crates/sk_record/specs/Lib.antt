@@ -4,6 +4,7 @@ pub mod SchemaFields
 pub mod Options
 pub mod Rows
 pub mod Shown
+pub mod Taken
 pub mod Told
 pub mod FieldRules
 pub mod Outcome

@@ -16,7 +16,7 @@ pair_shown row = (row.field.now, row.text.now)
 
 -- A values object and a payload.
 abbrev pub given_shown : RecordRow → Given
-given_shown row = record { values = view row.values.now; payload = row.payload.now }
+given_shown row = record { values = view row.values; payload = row.payload }
 
 -- A query.
 abbrev pub asked_shown : AskRow → Asked

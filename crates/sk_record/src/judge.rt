@@ -1,19 +1,19 @@
 //! What a row says under the fields of a schema, none where a rule on fields is broken.
-ghost use Rattle.std.specs.Prelude.{◌≡◌, [], ◌++◌, IfOk, IfSome, OnOk, option_map};
-ghost use Rattle.serde_json.specs.View.{view, items_view};
-ghost use Rattle.serde_json.specs.Find.{as_str};
+ghost use Rattle.std.specs.Prelude.{◌≡◌, [], ◌++◌, IfOk, OnOk, option_map};
+ghost use Rattle.serde_json.specs.View.{view};
 ghost use Rattle.sk_base.specs.Fields.{IsSchema};
 ghost use Rattle.sk_record.specs.Shown.{pair_shown, given_shown, asked_shown, sorted_shown, collapsed_shown, wanted_shown, shape_shown};
 ghost use Rattle.sk_record.specs.Told.{asked_by, sought_by, told_by};
-ghost use Rattle.sk_record.specs.FieldRules.{field_named, filter_texts, value_of, member_value, with_entry, members_found, entries_from, entries_of, record_of, prefix_named, filter_prefix, term_of, slot_named, keyed, order_of, collapse_of, sought_of, replaced_by, command_of};
+ghost use Rattle.sk_record.specs.FieldRules.{field_named, filter_texts, value_of, member_value, with_entry, entries_of, record_of, prefix_named, filter_prefix, term_of, slot_named, keyed, order_of, collapse_of, sought_of, replaced_by, command_of};
 
 use crate::row::{AskRow, CollapseRow, FindRow, OrderRow, RecordRow, Row, Sort, TextRow};
+use crate::taken::{take_member, text_of, texts_of};
 use serde_json::Value;
 use sk_base::{
     Ask, Collapse, Command, Edit, Entries, Entry, Field, FieldKind, FieldValue, Find, Items, Order,
     OrderBy, Record, SortKey, Term, Text, Texts, prefixed,
 };
-use sk_json::{texts_of, whole_number};
+use sk_json::{has_only, whole_number};
 use std::alloc::{AllocError, Global};
 
 /// The command of a row.
@@ -58,10 +58,10 @@ fn replaced_by(
     alloc: Global,
     fields: &[Field],
     pair: TextRow<'_>,
-    given: RecordRow<'_>,
+    given: RecordRow,
 ) -> Result<Option<Edit>, AllocError>
     requires { IsSchema fields.now }
-    ensures { IfOk result (λ e. e ≡ replaced_by fields.now (pair_shown pair.entry) (given_shown given.entry)) }
+    ensures { IfOk result (λ e. e ≡ replaced_by fields.now (pair_shown pair.entry) (given_shown given)) }
 {
     let Some(term) = term_of(alloc, fields, pair)? else {
         return Ok(None);
@@ -188,63 +188,42 @@ fn collapse_of(fields: &[Field], collapse: Option<CollapseRow<'_>>) -> Option<Op
 fn record_of(
     alloc: Global,
     fields: &[Field],
-    given: RecordRow<'_>,
+    given: RecordRow,
 ) -> Result<Option<Record>, AllocError>
     requires { IsSchema fields.now }
-    ensures { IfOk result (λ r. r ≡ record_of fields.now (given_shown given.entry)) }
+    ensures { IfOk result (λ r. r ≡ record_of fields.now (given_shown given)) }
 {
-    let Some(values) = entries_of(alloc, fields, given.values)? else {
+    let RecordRow { values, payload } = given;
+    let Some(values) = entries_of(alloc, fields, values)? else {
         return Ok(None);
     };
-    let payload = Text::new(alloc, given.payload)?;
     Ok(Some(Record { values, payload }))
 }
 
-/// The entries of a values object, none where one of its members names no field.
+/// The entries of a values object, in the order of the fields, whatever the order of the members. None where a member
+/// names no field.
 fn entries_of(
     alloc: Global,
     fields: &[Field],
-    values: &Value,
+    mut values: Value,
 ) -> Result<Option<Entries>, AllocError>
     requires { IsSchema fields.now }
-    ensures { IfOk result (λ e. e ≡ entries_of fields.now (view values.now)) }
-{
-    let Some(members) = values.as_object() else {
-        return Ok(None);
-    };
-    let Some((entries, found)) = entries_from(alloc, fields, values)? else {
-        return Ok(None);
-    };
-    // No two fields have the same name, and no two members.
-    if found < members.len() {
-        return Ok(None);
-    }
-    Ok(Some(entries))
-}
-
-/// The entries of the fields in their order, whatever the order of the members, and how many fields have a member.
-fn entries_from(
-    alloc: Global,
-    fields: &[Field],
-    values: &Value,
-) -> Result<Option<(Entries, usize)>, AllocError>
-    ensures value { IfOk result (λ r. option_map (λ p. p.0) r ≡ entries_from 0 fields.now (view values.now)) }
-    ensures found { IfOk result (λ r. IfSome r (λ p. p.1 ≡ members_found fields.now (view values.now))) }
+    ensures { IfOk result (λ e. e ≡ entries_of fields.now (view values)) }
 {
     let mut entries = Items::new(alloc);
-    let mut found = 0;
     'fields: for place in 0..fields.len() {
         let field = &fields[place];
-        let member = values.get(field.name.as_str());
-        if member.is_some() {
-            found += 1;
-        }
+        let member = take_member(&mut values, field.name.as_str());
         let Some(value) = member_value(alloc, &field.kind, member)? else {
             return Ok(None);
         };
         push_entry(&mut entries, place, value)?;
     }
-    Ok(Some((entries, found)))
+    // Each field's member was taken, so a member that is left names no field.
+    if !has_only(&values, &[]) {
+        return Ok(None);
+    }
+    Ok(Some(entries))
 }
 
 fn push_entry(
@@ -267,9 +246,9 @@ fn push_entry(
 fn member_value(
     alloc: Global,
     kind: &FieldKind,
-    member: Option<&Value>,
+    member: Option<Value>,
 ) -> Result<Option<Option<FieldValue>>, AllocError>
-    ensures { IfOk result (λ v. v ≡ member_value kind.now (option_map (λ m. view m.now) member.entry)) }
+    ensures { IfOk result (λ v. v ≡ member_value kind.now (option_map view member)) }
 {
     let Some(value) = member else {
         return Ok(Some(None));
@@ -283,15 +262,11 @@ fn member_value(
     }
 }
 
-fn value_of(
-    alloc: Global,
-    kind: &FieldKind,
-    value: &Value,
-) -> Result<Option<FieldValue>, AllocError>
-    ensures { IfOk result (λ v. v ≡ value_of kind.now (view value.now)) }
+fn value_of(alloc: Global, kind: &FieldKind, value: Value) -> Result<Option<FieldValue>, AllocError>
+    ensures { IfOk result (λ v. v ≡ value_of kind.now (view value)) }
 {
     match kind {
-        FieldKind::Text(_, _) => match text_of(alloc, value)? {
+        FieldKind::Text(_, _) => match text_of(value) {
             Some(text) => Ok(Some(FieldValue::Text(text))),
             None => Ok(None),
         },
@@ -299,38 +274,25 @@ fn value_of(
             Some(texts) => Ok(Some(FieldValue::Filter(texts))),
             None => Ok(None),
         },
-        FieldKind::Number(_) => match whole_number(value) {
+        FieldKind::Number(_) => match whole_number(&value) {
             Some(n) => Ok(Some(FieldValue::Number(n))),
             None => Ok(None),
         },
-        FieldKind::Word(_) => match text_of(alloc, value)? {
+        FieldKind::Word(_) => match text_of(value) {
             Some(text) => Ok(Some(FieldValue::Word(text))),
             None => Ok(None),
         },
     }
 }
 
-fn text_of(alloc: Global, value: &Value) -> Result<Option<Text>, AllocError>
-    ensures { IfOk result (λ t. t ≡ as_str (view value.now)) }
-{
-    match value.as_str() {
-        Some(text) => {
-            let text = Text::new(alloc, text)?;
-            Ok(Some(text))
-        }
-        None => Ok(None),
-    }
-}
-
 /// One string, or an array of strings.
-fn filter_texts(alloc: Global, value: &Value) -> Result<Option<Texts>, AllocError>
-    ensures { IfOk result (λ t. t ≡ filter_texts (view value.now)) }
+fn filter_texts(alloc: Global, value: Value) -> Result<Option<Texts>, AllocError>
+    ensures { IfOk result (λ t. t ≡ filter_texts (view value)) }
 {
     match value {
-        Value::String(text) => {
-            let text = Text::new(alloc, text.as_str())?;
+        Value::String(string) => {
             let mut texts = Items::new(alloc);
-            texts.push(text)?;
+            texts.push(Text::from_string(string))?;
             Ok(Some(texts))
         }
         Value::Array(items) => texts_of(alloc, items),

@@ -9,6 +9,7 @@ mod reader;
 mod row;
 mod rows;
 mod schema;
+mod taken;
 
 pub use fault::LineFault;
 pub use reader::command;

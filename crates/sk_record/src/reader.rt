@@ -25,7 +25,7 @@ pub fn command(alloc: Global, line: &[u8], schema: Option<&Schema>) -> Result<Co
     let value = line_value(alloc, line)?;
     match schema {
         None => first_command(alloc, &value),
-        Some(schema) => later_command(alloc, schema, &value),
+        Some(schema) => later_command(alloc, schema, value),
     }
 }
 
@@ -46,14 +46,14 @@ fn first_command(alloc: Global, value: &Value) -> Result<Command, LineFault>
     }
 }
 
-fn later_command(alloc: Global, schema: &Schema, value: &Value) -> Result<Command, LineFault>
-    ensures reads { ReadsAs (value_outcome (Some schema.now) (view value.now)) result }
+fn later_command(alloc: Global, schema: &Schema, mut value: Value) -> Result<Command, LineFault>
+    ensures reads { ReadsAs (value_outcome (Some schema.now) (view value)) result }
     ensures comes { IfOk result (MayCome (Some schema.now)) }
 {
-    if has(value, "schema") {
+    if has(&value, "schema") {
         return Err(LineFault::SchemaAgain);
     }
-    let Some(row) = later_row(value) else {
+    let Some(row) = later_row(alloc, &mut value) else {
         return Err(LineFault::BadShape);
     };
     match command_of(alloc, schema.fields(), row)? {

@@ -1,6 +1,6 @@
 //! The rows that a line can fit, with what it gives for them.
 use serde_json::Value;
-use sk_base::{Join, Options};
+use sk_base::{Join, Options, Text};
 
 /// A field's name and a text of it.
 #[derive(Clone, Copy)]
@@ -9,11 +9,11 @@ pub struct TextRow<'a> {
     pub text: &'a str,
 }
 
-/// A values object and a payload.
-#[derive(Clone, Copy)]
-pub struct RecordRow<'a> {
-    pub values: &'a Value,
-    pub payload: &'a str,
+/// A values object and a payload, taken out of the line.
+#[derive(Drop)]
+pub struct RecordRow {
+    pub values: Value,
+    pub payload: Text,
 }
 
 /// The query of a find.
@@ -57,11 +57,11 @@ pub struct FindRow<'a> {
 }
 
 /// A line after the schema, by its row.
-#[derive(Clone, Copy)]
+#[derive(Drop)]
 pub enum Row<'a> {
-    Add(RecordRow<'a>),
-    Replace(u32, RecordRow<'a>),
-    ReplaceBy(TextRow<'a>, RecordRow<'a>),
+    Add(RecordRow),
+    Replace(u32, RecordRow),
+    ReplaceBy(TextRow<'a>, RecordRow),
     Delete(u32),
     DeleteBy(TextRow<'a>),
     Find(FindRow<'a>),

@@ -1,25 +1,29 @@
 //! Which row a line fits.
-ghost use Rattle.std.specs.Prelude.{◌≡◌, option_map, codes};
+ghost use Rattle.std.specs.Prelude.{◌≡◌, OnSome, option_map, codes};
 ghost use Rattle.serde_json.specs.View.{view};
+ghost use Rattle.sk_json.specs.Values.{optional_text};
 ghost use Rattle.sk_record.specs.Rows.{values_of, given_at, id_at, pair_at, add_row, replace_row, replace_by_row, delete_row, delete_by_row, show_row, later_shape};
 ghost use Rattle.sk_record.specs.Shown.{pair_shown, given_shown, shape_shown};
+ghost use Rattle.sk_record.specs.Taken.{without};
 
 use crate::options::{find_row, join_at, query_at, tree_row};
 use crate::row::{RecordRow, Row, TextRow};
+use crate::taken::{take_member, text_of};
 use serde_json::Value;
-use sk_base::MOST_TEXT;
-use sk_json::{between, has, has_only, is_within, optional_text, two_texts, whole_number};
+use sk_base::{MOST_TEXT, Text};
+use sk_json::{between, has, has_only, is_within, two_texts, whole_number};
+use std::alloc::Global;
 
-/// The row of a line that is no schema, by its first member.
-pub fn later_row(line: &Value) -> Option<Row<'_>>
-    ensures { option_map shape_shown result ≡ later_shape (view line.entry.now) }
+/// The row of a line that is no schema, by its first member. What a record is given is taken out of the line.
+pub fn later_row(alloc: Global, line: &mut Value) -> Option<Row<'_>>
+    ensures { option_map shape_shown result ≡ later_shape (view line.old) }
 {
     if has(line, "add") {
-        add_row(line)
+        add_row(alloc, line)
     } else if has(line, "replace") {
-        replace_row(line)
+        replace_row(alloc, line)
     } else if has(line, "replace_by") {
-        replace_by_row(line)
+        replace_by_row(alloc, line)
     } else if has(line, "delete") {
         delete_row(line)
     } else if has(line, "delete_by") {
@@ -37,35 +41,36 @@ pub fn later_row(line: &Value) -> Option<Row<'_>>
     }
 }
 
-fn add_row(line: &Value) -> Option<Row<'_>>
-    ensures { option_map shape_shown result ≡ add_row (view line.entry.now) }
+fn add_row(alloc: Global, line: &mut Value) -> Option<Row<'_>>
+    ensures { option_map shape_shown result ≡ add_row (view line.old) }
 {
     if !has_only(line, &["add", "data"]) {
         return None;
     }
-    let given = given_at(line, "add")?;
+    let given = given_at(alloc, line, "add")?;
     Some(Row::Add(given))
 }
 
-fn replace_row(line: &Value) -> Option<Row<'_>>
-    ensures { option_map shape_shown result ≡ replace_row (view line.entry.now) }
+fn replace_row(alloc: Global, line: &mut Value) -> Option<Row<'_>>
+    ensures { option_map shape_shown result ≡ replace_row (view line.old) }
 {
     if !has_only(line, &["replace", "with", "data"]) {
         return None;
     }
     let id = id_at(line, "replace")?;
-    let given = given_at(line, "with")?;
+    let given = given_at(alloc, line, "with")?;
     Some(Row::Replace(id, given))
 }
 
-fn replace_by_row(line: &Value) -> Option<Row<'_>>
-    ensures { option_map shape_shown result ≡ replace_by_row (view line.entry.now) }
+fn replace_by_row(alloc: Global, line: &mut Value) -> Option<Row<'_>>
+    ensures { option_map shape_shown result ≡ replace_by_row (view line.old) }
 {
     if !has_only(line, &["replace_by", "with", "data"]) {
         return None;
     }
+    let given = given_at(alloc, line, "with")?;
+    // The pair is borrowed from what is left of the line.
     let pair = pair_at(line, "replace_by")?;
-    let given = given_at(line, "with")?;
     Some(Row::ReplaceBy(pair, given))
 }
 
@@ -100,20 +105,32 @@ fn show_row(line: &Value) -> Option<Row<'_>>
     Some(Row::Show(text, join))
 }
 
-/// The values object at a member, and the payload, which is empty where nothing is said.
-fn given_at<'a>(line: &'a Value, name: &str) -> Option<RecordRow<'a>>
-    ensures { option_map given_shown result ≡ given_at name.now (view line.entry.now) }
+/// The values object at a member, and the payload. Both are taken out of the line.
+fn given_at(alloc: Global, line: &mut Value, name: &str) -> Option<RecordRow>
+    ensures given { option_map given_shown result ≡ given_at name.now (view line.old) }
+    ensures left { OnSome result (view line.new ≡ without name.now (without (codes "data") (view line.old))) }
 {
-    let values = values_of(line.get(name)?)?;
-    let payload = optional_text(line, "data")?;
+    let payload = payload_at(alloc, line)?;
+    let values = values_of(take_member(line, name)?)?;
     Some(RecordRow { values, payload })
 }
 
-/// An object whose strings are not too long in all.
-fn values_of(value: &Value) -> Option<&Value>
-    ensures { option_map (λ v. view v.now) result ≡ values_of (view value.entry.now) }
+/// The payload, which is empty where nothing is said.
+fn payload_at(alloc: Global, line: &mut Value) -> Option<Text>
+    ensures text { result ≡ optional_text (codes "data") (view line.old) }
+    ensures left { view line.new ≡ without (codes "data") (view line.old) }
 {
-    if !value.is_object() || !is_within(value, MOST_TEXT) {
+    match take_member(line, "data") {
+        Some(value) => text_of(value),
+        None => Some(Text::empty(alloc)),
+    }
+}
+
+/// An object whose strings are not too long in all.
+fn values_of(value: Value) -> Option<Value>
+    ensures { option_map view result ≡ values_of (view value) }
+{
+    if !value.is_object() || !is_within(&value, MOST_TEXT) {
         return None;
     }
     Some(value)

@@ -1,16 +1,21 @@
--- The members that were found are all, or fewer.
-use Rattle.std.proofs.Common.{arith, option_map, sym, ap, ◌∙◌}
+use Rattle.std.proofs.Common.{◌∷◌, suc, drop, sym, ap, ◌∙◌, subst, rules}
+use Rattle.std.proofs.Math.Seq.{drop-cons}
 use Rattle.serde_json.specs.View.{view}
-use Rattle.sk_record.specs.FieldRules.{members_found}
-use Rattle.sk_record.proofs.MemberLemmas.{found_is, entries_whole, entries_lost}
+use Rattle.serde_json.specs.Find.{get}
+use Rattle.sk_record.specs.FieldRules.{member_value}
+use Rattle.sk_record.specs.Taken.{without}
+use Rattle.sk_record.proofs.TakenLemmas.{Keeps, keeps_more}
 use Rattle.sk_record.proofs.judge.entries_of.Goals as goal
 
-pub returns-then-found-len : goal.returns-then-found-len
-returns-then-found-len c =
-    entries_lost c.args.fields.now (view c.args.values.now) c.in-Some.members.now.entries c.in-Some-2.found c.requires c.len.ensures.ordered c.in-Some.ensures
-    (found_is c.in_ok-entries.field-0 c.in-Some-2.entries c.in-Some-2.found (members_found c.args.fields.now (view c.args.values.now)) c.in-Some-2.is c.in_ok-entries.ensures.found) (omega (arith, c.len.ensures.len, c.if-found-len.true))
-
-pub returns : goal.returns
-returns c =
-    sym (ap (option_map (λ p. p.0)) c.in-Some-2.is) ∙ c.in_ok-entries.ensures.value ∙ entries_whole c.args.fields.now (view c.args.values.now) c.in-Some.members.now.entries c.in-Some-2.found c.requires c.len.ensures.ordered c.in-Some.ensures
-    (found_is c.in_ok-entries.field-0 c.in-Some-2.entries c.in-Some-2.found (members_found c.args.fields.now (view c.args.values.now)) c.in-Some-2.is c.in_ok-entries.ensures.found) (omega (arith, c.len.ensures.len, c.if-found-len.false))
+pub fields-preserved : goal.fields-preserved
+fields-preserved c =
+    let fields = c.args.fields.now in
+    let field = c.index-fields-place.result in
+    let before = view c.fields.values in
+    let left = c.take_member-member.ensures.left ∙ ap (λ name. without name before) c.as_str.ensures in
+    let there = sym c.in-Some.is ∙ c.in_ok-value.ensures ∙ ap (member_value field.kind) (c.take_member-member.ensures.taken ∙ ap (λ name. get name before) c.as_str.ensures) in
+    let next = drop-cons fields c.fields.place field c.fields-test.true ∙ ap (λ f. f ∷ drop (suc c.fields.place) fields) (sym c.index-fields-place.is) in
+    let kept = keeps_more fields (view c.args.values) field (drop (suc c.fields.place) fields) c.fields.place before (view c.take_member-member.new.value)
+    c.fields.entries c.push_entry.new.entries c.in-Some.value left there c.in_ok-push_entry.ensures
+    (subst (λ fs. Keeps fields (view c.args.values) fs c.fields.place before c.fields.entries) next c.fields.invariant) in
+    search (rules, kept)
