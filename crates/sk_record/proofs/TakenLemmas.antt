@@ -78,6 +78,7 @@ taken_once name (e ∷ es) none = by (bytes_eq name (string_bytes e.0)) refl (ta
         sym (ap (λ c. cond c (Some e.1) (lookup (Has name) (remove_entry (Has name) es))) (is_eq-slice_cmp name (string_bytes e.0) ∙ is)) ∙ ap (lookup (Has name)) (sym (left false is)) ∙ none in
         ap members_view (left false is) ∙ ap (member (string_bytes e.0) (view e.1)) (taken more) ∙ seen false is
 
+-- where a map finds the name no more, its members are those without the name
 pub members_taken : (name : List ℕ) (es fs : List Entry) → fs ≡ remove_entry (Has name) es → lookup (Has name) fs ≡ None
     → members_view (remove_entry (Has name) es) ≡ without_members name (members_view es)
 members_taken name es fs are none = taken_once name es (ap (lookup (Has name)) (sym are) ∙ none)
@@ -114,7 +115,7 @@ stays name q (member k d ms) unlike = by (bytes_eq name k) refl (stays name q ms
         ∙ ap (λ r. match_ordering (slice_cmp nat_cmp q k) r (Some d) r) same
 
 -- the member that was taken is not found
-pub get-taken : (name : List ℕ) (d : Data) → get name (without name d) ≡ None
+get-taken : (name : List ℕ) (d : Data) → get name (without name d) ≡ None
 get-taken name null = refl
 get-taken name (boolean b) = refl
 get-taken name (number n) = refl
@@ -123,7 +124,7 @@ get-taken name (array ds) = refl
 get-taken name (object ms) = gone name ms
 
 -- under another name is found what was found before
-pub get-other : (name q : List ℕ) (d : Data) → bytes_eq name q ≡ false → get q (without name d) ≡ get q d
+get-other : (name q : List ℕ) (d : Data) → bytes_eq name q ≡ false → get q (without name d) ≡ get q d
 get-other name q null unlike = refl
 get-other name q (boolean b) unlike = refl
 get-other name q (number n) unlike = refl
@@ -154,6 +155,7 @@ values_left name d payload e = by (bytes_eq (codes "data") name) refl
         ∙ sym (ap (λ n. option_and_then values_of (get n d)) (sym same) ∙ no_values (get (codes "data") d) payload e)
     by false is = ap (option_and_then values_of) (get-other (codes "data") name d is)
 
+-- the values object and the payload, as they are taken
 pub given_taken : (name : List ℕ) (d left : Data) (payload : List ℕ) (values : Option Data) → Some payload ≡ optional_text (codes "data") d → left ≡ without (codes "data") d
     → values ≡ option_and_then values_of (get name left) → option_map (λ v. record { values = v; payload = payload }) values ≡ given_at name d
 given_taken name d left payload values e is are =
@@ -174,7 +176,7 @@ pair_left d left is =
 -- ---- what is left for the other fields
 
 -- the other fields give what they gave
-pub entries_left : (f : Field) (more : List Field) (place : ℕ) (d : Data) → list_all (λ other. not (clash f other)) more ≡ true
+entries_left : (f : Field) (more : List Field) (place : ℕ) (d : Data) → list_all (λ other. not (clash f other)) more ≡ true
     → entries_from place more (without f.name d) ≡ entries_from place more d
 entries_left f [] place d others = refl
 entries_left f (g ∷ more) place d others =
@@ -208,7 +210,7 @@ names_among f more (member k d ms) = by (bytes_eq f.name k) refl (names_among f 
         ∙ left false is
 
 -- each member names a field where each that is left names one of the others
-pub names_left : (f : Field) (more : List Field) (d : Data) → names_fields (f ∷ more) d ≡ names_fields more (without f.name d)
+names_left : (f : Field) (more : List Field) (d : Data) → names_fields (f ∷ more) d ≡ names_fields more (without f.name d)
 names_left f more null = refl
 names_left f more (boolean b) = refl
 names_left f more (number n) = refl
@@ -216,6 +218,7 @@ names_left f more (string s) = refl
 names_left f more (array ds) = refl
 names_left f more (object ms) = names_among f more ms
 
+-- what is put behind the entries for a field stands before those of the other fields
 module _ (f : Field) (rest : List Field) (place : ℕ) (old : Data) (entries : List FieldEntry) (value : Option FieldValue) where
   abbrev behind : List FieldEntry
   behind = entries ++ with_entry place value []
