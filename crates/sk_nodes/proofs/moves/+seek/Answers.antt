@@ -111,6 +111,11 @@ seek_pair-returns-in-At-clause-reached g t c =
     head_reached c.args.target c.args.need c.in-At.head c.in-At.weight _ _ (seek_pair-returns-in-At-clause-covers g t c)
     (c.in-At.ensures.meets (rest i (shape_of c.reach.new.node)) (rest i (shape_of c.reach-in-sides.new.node)) c.reach.ensures.top.head c.reach-in-sides.ensures.top.head) c.requires.target
 
+pub seek_pair-skip-from-requires-in-Behind-clause-from : goal.seek_pair-skip-from-requires-in-Behind-clause-from
+seek_pair-skip-from-requires-in-Behind-clause-from g t c =
+    let i = c.args.index.now in
+    (c.in-Behind.ensures.meets (rest i (shape_of c.reach.new.node)) (rest i (shape_of c.reach-in-sides.new.node)) c.reach.ensures.top.head c.reach-in-sides.ensures.top.head).within
+
 pub seek_pair-sides-smaller : goal.seek_pair-sides-smaller
 seek_pair-sides-smaller g t c =
     let i = c.args.index.now in
