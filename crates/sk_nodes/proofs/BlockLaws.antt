@@ -1,10 +1,9 @@
 -- What leaves can weigh up to an id, and what may be skipped for it.
-use Rattle.std.proofs.Common.{◌≡◌, ◌≤◌, ◌<◌, ◌+◌, ◌^◌, ◌⊎◌, ℕ, [], ◌∷◌, Option, None, Some, unwrap_or, inl, inr, refl, sym, subst, ap, ◌∙◌, arith, le_refl}
+use Rattle.std.proofs.Common.{◌≡◌, ◌≤◌, ◌<◌, ◌+◌, ◌⊎◌, ℕ, [], ◌∷◌, Option, None, Some, unwrap_or, inl, inr, sym, subst, ◌∙◌, arith}
 use Rattle.std.specs.Option.{option_map}
 use Rattle.std.proofs.lemmas.Bool.{cases_eq, cases_lt}
 use Rattle.sk_base.specs.declared.find.Scheme.{Scheme}
 use Rattle.sk_query.specs.declared.form.Form.{Form}
-use Rattle.sk_sorted.specs.Entries.{found}
 use Rattle.sk_sorted.proofs.EntryLaws.{found-here, found-other}
 use Rattle.sk_chunks.specs.Postings.{Postings}
 use Rattle.sk_lists.specs.Seeks.{AreWithin}
@@ -43,7 +42,7 @@ both_light need x y (Some v) None p q lt = tt
 both_light need x y (Some v) (Some w) p q lt = omega (arith, p, q, lt)
 
 -- a weight that is enough is not light
-light_enough : (need : ℕ) (o : Option ℕ) → IsLight need o → IsAtLeast need o → ⊥
+pub light_enough : (need : ℕ) (o : Option ℕ) → IsLight need o → IsAtLeast need o → ⊥
 light_enough need None light enough = enough
 light_enough need (Some w) light enough = omega (arith, light, enough)
 

@@ -14,7 +14,7 @@ use Rattle.sk_decay.specs.Sides.{second_target}
 use Rattle.sk_nodes.specs.declared.top.Top.{Top}
 use Rattle.sk_nodes.specs.declared.leaf.Leaf.{Leaf}
 use Rattle.sk_nodes.specs.Leaves.{entries_of, head_of, leaf_unread}
-use Rattle.sk_nodes.specs.Shapes.{Shape, ended, leaf, span, pair, odd, tested}
+use Rattle.sk_nodes.specs.Shapes.{Shape, ended, leaf, span, pair, odd, any, tested}
 use Rattle.sk_nodes.specs.Left.{greatest_in}
 use Rattle.sk_nodes.specs.Sound.{IsTop, Sound}
 use Rattle.sk_nodes.specs.Decayed.{changed_pair, decayed}
@@ -37,6 +37,7 @@ behind_some i point (leaf l) lone past small = by (entries_of i l) past small
 behind_some i point (span r) lone past small = absurd lone
 behind_some i point (pair form ta a tb b) lone past small = absurd lone
 behind_some i point (odd ss) lone past small = absurd lone
+behind_some i point (any ss) lone past small = absurd lone
 behind_some i point (tested p t s) lone past small = absurd lone
 
 decayed_itself : (s : Shape) (need : ℕ) → IsLone s → decayed need s ≡ s
@@ -45,6 +46,7 @@ decayed_itself (leaf l) need lone = refl
 decayed_itself (span r) need lone = absurd lone
 decayed_itself (pair form ta a tb b) need lone = absurd lone
 decayed_itself (odd ss) need lone = absurd lone
+decayed_itself (any ss) need lone = absurd lone
 decayed_itself (tested p t s) need lone = absurd lone
 
 -- what it may read alone, being read out or fading
@@ -54,6 +56,7 @@ alone_room i point (leaf l) lone = (refl, refl)
 alone_room i point (span r) lone = absurd lone
 alone_room i point (pair form ta a tb b) lone = absurd lone
 alone_room i point (odd ss) lone = absurd lone
+alone_room i point (any ss) lone = absurd lone
 alone_room i point (tested p t s) lone = absurd lone
 
 -- it goes on alone, being read out
@@ -63,6 +66,7 @@ alone_other i greatest point target (leaf l) lone = (tt, tt)
 alone_other i greatest point target (span r) lone = absurd lone
 alone_other i greatest point target (pair form ta a tb b) lone = absurd lone
 alone_other i greatest point target (odd ss) lone = absurd lone
+alone_other i greatest point target (any ss) lone = absurd lone
 alone_other i greatest point target (tested p t s) lone = absurd lone
 
 -- or fading
@@ -72,6 +76,7 @@ alone_fading i greatest point target (leaf l) lone bound near = (bound, near)
 alone_fading i greatest point target (span r) lone bound near = absurd lone
 alone_fading i greatest point target (pair form ta a tb b) lone bound near = absurd lone
 alone_fading i greatest point target (odd ss) lone bound near = absurd lone
+alone_fading i greatest point target (any ss) lone bound near = absurd lone
 alone_fading i greatest point target (tested p t s) lone bound near = absurd lone
 
 -- ---- a leaf that was moved on
@@ -357,6 +362,7 @@ decayed_stands i point greatest target need first top s is sound opened enough h
     by true (pair _ ta a tb b) le sound h = absurd h.0
     by false (pair _ ta a tb b) le sound h = absurd h.0
     by first (odd ss) le sound h = absurd h
+    by first (any ss) le sound h = absurd h
     by first (tested p t s) le sound h = absurd h
 
 -- ---- a node under a need

@@ -14,7 +14,7 @@ use Rattle.sk_model.specs.Sharp.{terms_in, led_by_first, of_two, rare_lists, rar
 use Rattle.sk_index.specs.Indexed.{Indexed}
 use Rattle.sk_nodes.specs.declared.top.Top.{Top}
 use Rattle.sk_nodes.specs.Leaves.{entries_of, head_of}
-use Rattle.sk_nodes.specs.Shapes.{Shape, ended, leaf, span, pair, odd, tested}
+use Rattle.sk_nodes.specs.Shapes.{Shape, ended, leaf, span, pair, odd, any, tested}
 use Rattle.sk_chunks.specs.Postings.{Postings}
 use Rattle.sk_nodes.specs.Opened.{count_in, is_nest, others_of}
 use Rattle.sk_nodes.specs.Flat.{IsNest, SplitsTerms}
@@ -47,7 +47,7 @@ rare-append : (xs ys : List (List ℕ)) (m : ℕ) (docs : Docs) → rare_reading
 rare-append [] ys m docs = omega arith
 rare-append (x ∷ xs) ys m docs = let rest = rare-append xs ys m docs in omega (arith, rest)
 
-split_rare : (lists first second : List (List ℕ)) (m : ℕ) (docs : Docs) → (lists ≡ first ++ second) ⊎ (lists ≡ second ++ first) → rare_readings lists m docs ≡ rare_readings first m docs + rare_readings second m docs
+pub split_rare : (lists first second : List (List ℕ)) (m : ℕ) (docs : Docs) → (lists ≡ first ++ second) ⊎ (lists ≡ second ++ first) → rare_readings lists m docs ≡ rare_readings first m docs + rare_readings second m docs
 split_rare lists first second m docs (inl e) = ap (λ ts. rare_readings ts m docs) e ∙ rare-append first second m docs
 split_rare lists first second m docs (inr e) = let whole = ap (λ ts. rare_readings ts m docs) e ∙ rare-append second first m docs in omega (arith, whole)
 
@@ -216,6 +216,7 @@ lone_nest (leaf l) h = tt
 lone_nest (span r) h = h
 lone_nest (pair form ta a tb b) h = absurd h
 lone_nest (odd ss) h = h
+lone_nest (any ss) h = absurd h
 lone_nest (tested p t s) h = h
 
 lone_led : (i : Indexed) (s : Shape) → IsLone s → IsLed i s × (led_room i s ≡ lead_unread i s)
@@ -224,6 +225,7 @@ lone_led i (leaf l) h = (tt, refl)
 lone_led i (span r) h = absurd h
 lone_led i (pair form ta a tb b) h = absurd h
 lone_led i (odd ss) h = absurd h
+lone_led i (any ss) h = absurd h
 lone_led i (tested p t s) h = absurd h
 
 owed_so : (head own unread m : ℕ) → unread ≤ m → (head < 2 ^ 32 → unread < m) → owed head own + 128 * unread ≤ 128 * m
@@ -240,6 +242,7 @@ lone_follow i (leaf l) head unread m long before after h within begun few paid =
 lone_follow i (span r) head unread m long before after h within begun few paid = absurd h
 lone_follow i (pair form ta a tb b) head unread m long before after h within begun few paid = absurd h
 lone_follow i (odd ss) head unread m long before after h within begun few paid = absurd h
+lone_follow i (any ss) head unread m long before after h within begun few paid = absurd h
 lone_follow i (tested p t s) head unread m long before after h within begun few paid = absurd h
 
 pub lone_following : (i : Indexed) (t : Top) (s : Shape) (term : List ℕ) (before after : ℕ) → OpensLone i t s (length_of term i.live.documents) before after → OpensFollowing i s (term ∷ []) before after

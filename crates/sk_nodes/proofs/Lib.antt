@@ -13,6 +13,9 @@ pub mod StandingLaws
 pub mod WordLaws
 pub mod StopLaws
 pub mod NestLaws
+pub mod AnyLaws
+pub mod AnyOpenLaws
+pub mod OrderLaws
 pub mod RareLaws
 pub mod WalkLaws
 pub mod LedLaws

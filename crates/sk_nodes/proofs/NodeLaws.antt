@@ -18,7 +18,7 @@ use Rattle.sk_nodes.specs.declared.node.Node.TheVariants as Node
 use Rattle.sk_nodes.specs.Leaves.{AtMost}
 use Rattle.sk_nodes.specs.declared.proximity.Proximity.{Proximity}
 use Rattle.sk_nodes.specs.declared.leaf.Leaf.{Leaf}
-use Rattle.sk_nodes.specs.Shapes.{Shape, ended, leaf, pair, odd, tested, shape_of, size_of, sides_on}
+use Rattle.sk_nodes.specs.Shapes.{Shape, ended, leaf, pair, odd, any, tested, shape_of, size_of, sides_on}
 use Rattle.sk_nodes.specs.Decayed.{changed_pair, decayed}
 use Rattle.sk_nodes.specs.Left.{rest, from_on, unread_of}
 use Rattle.sk_nodes.specs.Sound.{IsTop, IsPair, Sound, Replaces}
@@ -37,6 +37,9 @@ shape_of-Pair form ta tb a b = search (rules, the_lemmas)
 
 pub shape_of-Odd : (tops : Vec Top Global) (nodes : Vec Node Global) → shape_of (Node.Odd tops nodes) ≡ odd (sides_on tops.items nodes.items)
 shape_of-Odd tops nodes = search (rules, the_lemmas)
+
+pub shape_of-Any : (tops : Vec Top Global) (nodes : Vec Node Global) → shape_of (Node.Any tops nodes) ≡ any (sides_on tops.items nodes.items)
+shape_of-Any tops nodes = search (rules, the_lemmas)
 
 pub shape_of-Tested : (p : Proximity) (t : Top) (b : Box Node Global) → shape_of (Node.Tested p t b) ≡ tested p t (shape_of b.value)
 shape_of-Tested p t b = search (rules, the_lemmas)
@@ -308,6 +311,12 @@ odd_shape node tops nodes ts ns e f g = ap shape_of e ∙ shape_of-Odd tops node
 -- the same, where new sides were written over them
 pub odd_written : (v : Vec Top Global) (w : Vec Node Global) (ts : List Top) (ns : List Node) → length ts ≡ v.len → length ns ≡ w.len → shape_of (Node.Odd (with_items v ts) (with_items w ns)) ≡ odd (sides_on ts ns)
 odd_written v w ts ns e f = shape_of-Odd (with_items v ts) (with_items w ns) ∙ (λ i. odd (sides_on (with_items_is v ts e i) (with_items_is w ns f i)))
+
+pub any_shape : (node : Node) (tops : Vec Top Global) (nodes : Vec Node Global) (ts : List Top) (ns : List Node) → node ≡ Node.Any tops nodes → ts ≡ tops.items → ns ≡ nodes.items → shape_of node ≡ any (sides_on ts ns)
+any_shape node tops nodes ts ns e f g = ap shape_of e ∙ shape_of-Any tops nodes ∙ (λ i. any (sides_on (sym f i) (sym g i)))
+
+pub any_written : (v : Vec Top Global) (w : Vec Node Global) (ts : List Top) (ns : List Node) → length ts ≡ v.len → length ns ≡ w.len → shape_of (Node.Any (with_items v ts) (with_items w ns)) ≡ any (sides_on ts ns)
+any_written v w ts ns e f = shape_of-Any (with_items v ts) (with_items w ns) ∙ (λ i. any (sides_on (with_items_is v ts e i) (with_items_is w ns f i)))
 
 -- a side alone, and the sides under another form
 pub decays_first : (i : Indexed) (need : ℕ) (form : Form) (ta : Top) (a : Shape) (tb : Top) (b : Shape) (a_ended b_ended : Bool) → (a_ended ≡ true → ta.head ≡ 2 ^ 32) → (b_ended ≡ true → tb.head ≡ 2 ^ 32)

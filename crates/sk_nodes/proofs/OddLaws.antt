@@ -60,16 +60,16 @@ pub either_none : (a b : Option ℕ) → a ≡ None → b ≡ None → either a 
 either_none None b e f = f
 either_none (Some v) b e f = cc
 
-either_first : (a b : Option ℕ) (v : ℕ) → a ≡ Some v → b ≡ None → either a b ≡ Some v
+pub either_first : (a b : Option ℕ) (v : ℕ) → a ≡ Some v → b ≡ None → either a b ≡ Some v
 either_first None b v e f = cc
 either_first (Some u) None v e f = e
 either_first (Some u) (Some w) v e f = cc
 
-either_second : (a b : Option ℕ) → a ≡ None → either a b ≡ b
+pub either_second : (a b : Option ℕ) → a ≡ None → either a b ≡ b
 either_second None b e = refl
 either_second (Some v) b e = cc
 
-either_both : (a b : Option ℕ) (v w : ℕ) → a ≡ Some v → b ≡ Some w → either a b ≡ Some (v + w)
+pub either_both : (a b : Option ℕ) (v w : ℕ) → a ≡ Some v → b ≡ Some w → either a b ≡ Some (v + w)
 either_both None b v w e f = cc
 either_both (Some u) None v w e f = cc
 either_both (Some u) (Some x) v w e f = cc
@@ -301,7 +301,7 @@ module _ (i : Indexed) (ss : Sides) (t : Tally) (tally : IsTally (rests i ss) t)
 
 -- ---- all sides sought
 
-none_below : (i : Indexed) (target : ℕ) (ss rs : Sides) (id : ℕ) → AreSought i target ss rs → id < target → sum_of_any (rests i rs id) ≡ None
+pub none_below : (i : Indexed) (target : ℕ) (ss rs : Sides) (id : ℕ) → AreSought i target ss rs → id < target → sum_of_any (rests i rs id) ≡ None
 none_below i target no_sides no_sides id sought lt = refl
 none_below i target no_sides (side u r rs) id sought lt = absurd sought
 none_below i target (side t s ss) no_sides id sought lt = absurd sought
@@ -315,7 +315,7 @@ exactly None (Some w) h = absurd h
 exactly (Some v) None h = absurd (omega (arith, h))
 exactly (Some v) (Some w) h = ap Some (h.1 (omega arith))
 
-same_from : (i : Indexed) (target : ℕ) (ss rs : Sides) (id : ℕ) → AreSought i target ss rs → target ≤ id → rests i rs id ≡ rests i ss id
+pub same_from : (i : Indexed) (target : ℕ) (ss rs : Sides) (id : ℕ) → AreSought i target ss rs → target ≤ id → rests i rs id ≡ rests i ss id
 same_from i target no_sides no_sides id sought le = refl
 same_from i target no_sides (side u r rs) id sought le = absurd sought
 same_from i target (side t s ss) no_sides id sought le = absurd sought
@@ -353,7 +353,7 @@ odd_more i target need from further ss0 ss rs far sound sought falls smaller on 
   smaller = omega (arith, smaller, far.smaller);
 }
 
-sum_bound : (i : Indexed) (ss : Sides) (id : ℕ) → AreSound i ss → unwrap_or (sum_of_any (rests i ss id)) 0 ≤ greatest_sum ss
+pub sum_bound : (i : Indexed) (ss : Sides) (id : ℕ) → AreSound i ss → unwrap_or (sum_of_any (rests i ss id)) 0 ≤ greatest_sum ss
 sum_bound i no_sides id sound = omega arith
 sum_bound i (side t s ss) id sound = added (rest i s id) (sum_of_any (rests i ss id)) (sound.top.bound id) (sum_bound i ss id sound.others)
   where

@@ -303,6 +303,27 @@ module _ (form : Form) (factor : ℕ) (ts : Trees.Trees) (n : ℕ) (e : is_nest 
       let whole = ceil_small scheme docs light (parts Form.Xor ts) factor (true_both (has_parts ts) (are_sound factor ts) (has_parts-some ts are.some) are.sound) small are.leaves in
       omega (arith, whole)
 
+-- ---- an or of several parts
+
+joint-or : (ts : Trees.Trees) (scheme : Scheme) (factor : ℕ) (o : Option Document) → combined Form.Or (part_scores ts scheme factor o) ≡ joint_score_of Form.Or ts scheme factor o
+joint-or ts scheme factor None = part_scores-none ts scheme factor
+joint-or ts scheme factor (Some d) = ap (combined Form.Or) (part_scores-some ts scheme factor d)
+
+module _ (form : Form) (factor : ℕ) (ts : Trees.Trees) (e : form ≡ Form.Or) where
+  pub or_are : AreParts form factor ts → AreParts Form.Xor factor ts
+  or_are are = record { some = are.some; sound = are.sound; leaves = are.leaves }
+
+  pub or_scores : (scheme : Scheme) (o : Option Document) → joint_score_of form ts scheme factor o ≡ combined Form.Or (part_scores ts scheme factor o)
+  or_scores scheme o = ap (λ (f : Form). joint_score_of f ts scheme factor o) e ∙ sym (joint-or ts scheme factor o)
+
+  pub or_ceiling : (scheme : Scheme) (docs : Docs) → ceil_of form (ceils ts scheme factor docs) ≡ sum_in (ceils ts scheme factor docs)
+  or_ceiling scheme docs = ap (λ (f : Form). ceil_of f (ceils ts scheme factor docs)) e
+
+  pub or_fits : AreParts form factor ts → factor ≤ 65536 → (scheme : Scheme) (docs : Docs) → All IsLight docs → sum_in (ceils ts scheme factor docs) < 2 ^ 63
+  or_fits are small scheme docs light =
+      let whole = ceil_small scheme docs light (parts Form.Or ts) factor (true_both (has_parts ts) (are_sound factor ts) (has_parts-some ts are.some) are.sound) small are.leaves in
+      omega (arith, whole)
+
 -- ---- the whole query
 
 pub fits_ceil : (t : Trees.Tree) (scheme : Scheme) (docs : Docs) → fits_tree t ≡ true → All IsLight docs → ceil t scheme 1 docs ≤ 2 ^ 55

@@ -13,10 +13,10 @@ use Rattle.sk_decay.specs.Sides.{is_led, second_target}
 use Rattle.sk_nodes.specs.declared.top.Top.{Top}
 use Rattle.sk_nodes.specs.declared.leaf.Leaf.{Leaf}
 use Rattle.sk_nodes.specs.Leaves.{entries_of, head_of, leaf_unread}
-use Rattle.sk_nodes.specs.Shapes.{Shape, ended, leaf, span, pair, odd, tested}
+use Rattle.sk_nodes.specs.Shapes.{Shape, ended, leaf, span, pair, odd, any, tested, Sides, no_sides, side}
 use Rattle.sk_nodes.specs.Decayed.{changed_pair, decayed}
 use Rattle.sk_nodes.specs.Flat.{IsNest}
-use Rattle.sk_nodes.specs.Led.{IsLone, lead_head, lead_unread, owed, follow_room, led_room, IsAtLead, MayFollow, IsLed, Advances, IsFollowing, Leads}
+use Rattle.sk_nodes.specs.Led.{IsLone, lead_head, lead_unread, owed, follow_room, follow_rooms, led_room, IsAtLead, MayFollow, IsLed, Advances, IsFollowing, Leads}
 use Rattle.sk_nodes.proofs.StopLaws.{decayed_leads, no_or}
 
 -- ---- what a list that follows is owed
@@ -45,13 +45,19 @@ owed_on h u h2 u2 own (inr (same, inr e)) = let none : owed h2 own ≡ 0 = ap (�
 min_le : (n a b : ℕ) → a ≤ b → min n a ≤ min n b
 min_le n a b le = omega (arith, le)
 
-pub follow_on : (i : Indexed) (h u h2 u2 : ℕ) (s : Shape) → Advances h u h2 u2 → follow_room i h2 u2 s ≤ follow_room i h u s
-follow_on i h u h2 u2 ended on = omega arith
-follow_on i h u h2 u2 (leaf l) on = min_le (leaf_unread i l) (owed h2 (head_of (entries_of i l)) + 128 * u2) (owed h (head_of (entries_of i l)) + 128 * u) (owed_on h u h2 u2 (head_of (entries_of i l)) on)
-follow_on i h u h2 u2 (span r) on = omega arith
-follow_on i h u h2 u2 (pair form ta a tb b) on = let one = follow_on i h u h2 u2 a on in let two = follow_on i h u h2 u2 b on in omega (arith, one, two)
-follow_on i h u h2 u2 (odd ss) on = omega arith
-follow_on i h u h2 u2 (tested p t s) on = omega arith
+mutual
+  pub follow_on : (i : Indexed) (h u h2 u2 : ℕ) (s : Shape) → Advances h u h2 u2 → follow_room i h2 u2 s ≤ follow_room i h u s
+  follow_on i h u h2 u2 ended on = omega arith
+  follow_on i h u h2 u2 (leaf l) on = min_le (leaf_unread i l) (owed h2 (head_of (entries_of i l)) + 128 * u2) (owed h (head_of (entries_of i l)) + 128 * u) (owed_on h u h2 u2 (head_of (entries_of i l)) on)
+  follow_on i h u h2 u2 (span r) on = omega arith
+  follow_on i h u h2 u2 (pair form ta a tb b) on = let one = follow_on i h u h2 u2 a on in let two = follow_on i h u h2 u2 b on in omega (arith, one, two)
+  follow_on i h u h2 u2 (odd ss) on = omega arith
+  follow_on i h u h2 u2 (any ss) on = follows_on i h u h2 u2 ss on
+  follow_on i h u h2 u2 (tested p t s) on = omega arith
+
+  follows_on : (i : Indexed) (h u h2 u2 : ℕ) (ss : Sides) → Advances h u h2 u2 → follow_rooms i h2 u2 ss ≤ follow_rooms i h u ss
+  follows_on i h u h2 u2 no_sides on = omega arith
+  follows_on i h u h2 u2 (side t s ss) on = let one = follow_on i h u h2 u2 s on in let two = follows_on i h u h2 u2 ss on in omega (arith, one, two)
 
 -- a list that follows was sought from the head of the one that leads, or from the beginning
 sought_by : (target head u own own2 un un2 before after : ℕ) → IsFollowing target head → target < 2 ^ 32 → after + un2 ≤ before + un → after ≤ before + 128
@@ -198,6 +204,7 @@ decayed_led i (leaf l) need led = tt
 decayed_led i (span r) need led = led
 decayed_led i (pair form ta a tb b) need led = changed_led i _ form ta a tb b need (decayed_leads form ta.greatest tb.greatest (ta.head == 2 ^ 32) (tb.head == 2 ^ 32) need) led
 decayed_led i (odd ss) need led = led
+decayed_led i (any ss) need led = led
 decayed_led i (tested p t s) need led = led
 
 decayed_lead : (i : Indexed) (s : Shape) (need : ℕ) → IsLed i s
@@ -207,6 +214,7 @@ decayed_lead i (leaf l) need led = (omega arith, advances_same (lead_head i (lea
 decayed_lead i (span r) need led = absurd led
 decayed_lead i (pair form ta a tb b) need led = changed_lead i _ form ta a tb b need (decayed_leads form ta.greatest tb.greatest (ta.head == 2 ^ 32) (tb.head == 2 ^ 32) need) led
 decayed_lead i (odd ss) need led = absurd led
+decayed_lead i (any ss) need led = absurd led
 decayed_lead i (tested p t s) need led = absurd led
 
 decayed_lone : (s : Shape) (need : ℕ) → IsLone s → IsLone (decayed need s)
@@ -215,6 +223,7 @@ decayed_lone (leaf l) need lone = tt
 decayed_lone (span r) need lone = lone
 decayed_lone (pair form ta a tb b) need lone = absurd lone
 decayed_lone (odd ss) need lone = lone
+decayed_lone (any ss) need lone = lone
 decayed_lone (tested p t s) need lone = lone
 
 decayed_nest : (s : Shape) (need : ℕ) → need ≡ 0 → IsNest Form.Or s → IsNest Form.Or (decayed need s)
@@ -223,6 +232,7 @@ decayed_nest (leaf l) need none nest = tt
 decayed_nest (span r) need none nest = nest
 decayed_nest (pair form ta a tb b) need none nest = changed_nest _ form ta a tb b need none (decayed_leads form ta.greatest tb.greatest (ta.head == 2 ^ 32) (tb.head == 2 ^ 32) need) nest
 decayed_nest (odd ss) need none nest = nest
+decayed_nest (any ss) need none nest = nest
 decayed_nest (tested p t s) need none nest = nest
 
 decayed_follow : (i : Indexed) (h u : ℕ) (s : Shape) (need : ℕ) → follow_room i h u (decayed need s) ≤ follow_room i h u s
@@ -231,6 +241,7 @@ decayed_follow i h u (leaf l) need = le_refl (follow_room i h u (leaf l))
 decayed_follow i h u (span r) need = omega arith
 decayed_follow i h u (pair form ta a tb b) need = changed_follow i h u (change_of form ta.greatest tb.greatest (ta.head == 2 ^ 32) (tb.head == 2 ^ 32) need) form ta a tb b
 decayed_follow i h u (odd ss) need = omega arith
+decayed_follow i h u (any ss) need = le_refl (follow_rooms i h u ss)
 decayed_follow i h u (tested p t s) need = omega arith
 
 -- ---- a node that was moved on
@@ -379,8 +390,8 @@ module _ (i : Indexed) (form : Form) (from need before between after : ℕ) (ta 
         by (inl e) = there ∙ e
         by (inr e) = absurd (omega (arith, small, there, e))
 
-    side : IsLed i (pair form ta a tb b) → MayFollow form d × (after + follow_room i (lead_head i c) (lead_unread i c) d ≤ between + follow_room i (lead_head i c) (lead_unread i c) b)
-    side h = followed i form next need ua.greatest between after (lead_head i c) (lead_unread i c) b d leads_b (at_lead h) h.0
+    follower : IsLed i (pair form ta a tb b) → MayFollow form d × (after + follow_room i (lead_head i c) (lead_unread i c) d ≤ between + follow_room i (lead_head i c) (lead_unread i c) b)
+    follower h = followed i form next need ua.greatest between after (lead_head i c) (lead_unread i c) b d leads_b (at_lead h) h.0
 
     or_nest : need ≡ 0 → (h : IsNest Form.Or (pair form ta a tb b)) → (first_need form need tb.greatest ≡ 0) × ((second_need form need ua.greatest ≡ 0) × (next ≡ from))
     or_nest none h = (ap (λ f. first_need f need tb.greatest) h.0 ∙ omega (arith, none), (ap (λ f. second_need f need ua.greatest) h.0 ∙ omega (arith, none), is ∙ ap (λ f. second_target f from ua.head) h.0))
@@ -394,8 +405,8 @@ module _ (i : Indexed) (form : Form) (from need before between after : ℕ) (ta 
 
     pub led_round : Leads i from need before after (pair form ta a tb b) (pair form ua c ub d)
     led_round = record {
-      led = λ h. ((side h).0, (at h.1.1 h.1.0, leads.led h.1.1));
-      led_paid = λ h. let one = paid_lead h in let two = (side h).1 in omega (arith, one, two);
+      led = λ h. ((follower h).0, (at h.1.1 h.1.0, leads.led h.1.1));
+      led_paid = λ h. let one = paid_lead h in let two = (follower h).1 in omega (arith, one, two);
       advances = λ h. leads.advances h.1.1;
       lone = λ h. absurd h;
       lone_paid = λ head unread follows h. absurd h;

@@ -13,13 +13,13 @@ use Rattle.sk_lists.specs.Seeks.{count_to}
 use Rattle.sk_nodes.specs.declared.top.Top.{Top}
 use Rattle.sk_nodes.specs.declared.leaf.Leaf.{Leaf}
 use Rattle.sk_nodes.specs.Leaves.{entries_of, AtMost}
-use Rattle.sk_nodes.specs.Shapes.{Shape, ended, leaf, span, pair, odd, tested}
+use Rattle.sk_nodes.specs.Shapes.{Shape, ended, leaf, span, pair, odd, any, tested}
 use Rattle.sk_nodes.specs.Left.{rest, from_on}
 use Rattle.sk_nodes.specs.Sound.{IsTop}
 use Rattle.sk_nodes.specs.Decayed.{changed_pair, decayed}
 use Rattle.sk_nodes.proofs.LeafLaws.{from_on-at}
 use Rattle.sk_nodes.specs.Stops.{MayMove}
-use Rattle.sk_nodes.specs.Flat.{room_to, IsFlatForm, IsFlat, IsPlain, IsAtLeast, MayGo, Stays}
+use Rattle.sk_nodes.specs.Flat.{room_to, rooms_to, IsFlatForm, IsFlat, IsPlain, IsAtLeast, MayGo, Stays}
 
 -- ---- at one id
 
@@ -209,6 +209,7 @@ flat-mono (pair form ta a tb b) m n le flat = (
   ),
 )
 flat-mono (odd ss) m n le flat = flat
+flat-mono (any ss) m n le flat = flat
 flat-mono (tested p t s) m n le flat = flat
 
 -- ---- what is put in a node's place
@@ -343,6 +344,7 @@ decayed_flat s last need le flat = by s (flat-mono s last need le flat)
     by (span r) flat = flat
     by (pair form ta a tb b) flat = changed_flat (change_of form ta.greatest tb.greatest (ta.head == 2 ^ 32) (tb.head == 2 ^ 32) need) form ta a tb b need (decayed_leads form ta.greatest tb.greatest (ta.head == 2 ^ 32) (tb.head == 2 ^ 32) need) flat
     by (odd ss) flat = flat
+    by (any ss) flat = flat
     by (tested p t s) flat = flat
 
 pub decayed_plain : (s : Shape) (need : ℕ) → IsPlain s → IsPlain (decayed need s)
@@ -351,6 +353,7 @@ decayed_plain (leaf l) need plain = tt
 decayed_plain (span r) need plain = plain
 decayed_plain (pair form ta a tb b) need plain = changed_plain (change_of form ta.greatest tb.greatest (ta.head == 2 ^ 32) (tb.head == 2 ^ 32) need) form ta a tb b need (decayed_leads form ta.greatest tb.greatest (ta.head == 2 ^ 32) (tb.head == 2 ^ 32) need) plain
 decayed_plain (odd ss) need plain = plain
+decayed_plain (any ss) need plain = plain
 decayed_plain (tested p t s) need plain = plain
 
 pub decayed_room : (i : Indexed) (point : ℕ) (s : Shape) (need : ℕ) → room_to i point (decayed need s) ≤ room_to i point s
@@ -359,6 +362,7 @@ decayed_room i point (leaf l) need = le_refl (room_to i point (leaf l))
 decayed_room i point (span r) need = omega arith
 decayed_room i point (pair form ta a tb b) need = changed_room i point (change_of form ta.greatest tb.greatest (ta.head == 2 ^ 32) (tb.head == 2 ^ 32) need) form ta a tb b
 decayed_room i point (odd ss) need = omega arith
+decayed_room i point (any ss) need = le_refl (rooms_to i point ss)
 decayed_room i point (tested p t s) need = omega arith
 
 -- ---- a node that was moved on

@@ -5,7 +5,7 @@ use Rattle.sk_index.specs.Indexed.{Indexed}
 use Rattle.sk_lists.specs.Seeks.{count_to}
 use Rattle.sk_nodes.specs.declared.top.Top.{Top}
 use Rattle.sk_nodes.specs.Leaves.{entries_of, leaf_unread}
-use Rattle.sk_nodes.specs.Shapes.{Shape, ended, leaf, span, pair, odd, tested}
+use Rattle.sk_nodes.specs.Shapes.{Shape, ended, leaf, span, pair, odd, any, tested}
 use Rattle.sk_nodes.specs.Left.{greatest_in}
 use Rattle.sk_nodes.specs.Flat.{room_to}
 use Rattle.sk_nodes.specs.Led.{count_behind, IsLone, lead_head, lead_unread}
@@ -17,6 +17,7 @@ room_behind i point (leaf l) = count_behind point (entries_of i l)
 room_behind i point (span r) = 0
 room_behind i point (pair form ta a tb b) = 0
 room_behind i point (odd ss) = 0
+room_behind i point (any ss) = 0
 room_behind i point (tested p t s) = 0
 
 -- A side is a leaf or nothing, and its head is kept beside it.
@@ -56,6 +57,7 @@ fading_room i point first (span r) = 0
 fading_room i point true (pair form ta a tb b) = lead_unread i a + pair_room form true point ta.head tb.head (both_room i point a b)
 fading_room i point false (pair form ta a tb b) = lead_unread i b + pair_room form false point tb.head ta.head (both_room i point b a)
 fading_room i point first (odd ss) = 0
+fading_room i point first (any ss) = 0
 fading_room i point first (tested p t s) = 0
 
 -- The forms of such a node: an or, and the and_maybe and the and that it becomes.
@@ -74,6 +76,7 @@ IsFading i greatest first (span r) = ⊥
 IsFading i greatest true (pair form ta a tb b) = IsFadingForm form × (StandsOn i ta a × (StandsOn i tb b × (greatest_in b ≤ greatest)))
 IsFading i greatest false (pair form ta a tb b) = IsFadingForm form × (StandsOn i ta a × (StandsOn i tb b × (greatest_in a ≤ greatest)))
 IsFading i greatest first (odd ss) = ⊥
+IsFading i greatest first (any ss) = ⊥
 IsFading i greatest first (tested p t s) = ⊥
 
 -- Two sides with these heads may be sought from a target: neither has ended, where nothing is given without the other list; and no further than from the id behind the point otherwise.
@@ -90,6 +93,7 @@ MayFade point target false (leaf l) = target ≤ point + 1
 MayFade point target first (span r) = Unit {0}
 MayFade point target first (pair form ta a tb b) = PairMayFade form first point target ta.head tb.head
 MayFade point target first (odd ss) = Unit {0}
+MayFade point target first (any ss) = Unit {0}
 MayFade point target first (tested p t s) = Unit {0}
 
 -- A leaf was moved on from the target, with this spent before and after, and its top is this.

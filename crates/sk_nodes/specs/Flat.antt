@@ -7,17 +7,24 @@ use Rattle.sk_model.specs.Covers.{first_need, second_need}
 use Rattle.sk_model.specs.Sharp.{up, ups}
 use Rattle.sk_index.specs.Indexed.{Indexed}
 use Rattle.sk_nodes.specs.Leaves.{entries_of}
-use Rattle.sk_nodes.specs.Shapes.{Shape, ended, leaf, span, pair, odd, tested}
+use Rattle.sk_nodes.specs.Shapes.{Shape, ended, leaf, span, pair, odd, any, tested, Sides, no_sides, side}
 use Rattle.sk_nodes.specs.Left.{rest}
 
--- How many entries a node of terms has left with ids up to a point.
-abbrev pub room_to : Indexed → ℕ → Shape → ℕ
-room_to i point ended = 0
-room_to i point (leaf l) = count_to point (entries_of i l)
-room_to i point (span r) = 0
-room_to i point (pair form ta a tb b) = room_to i point a + room_to i point b
-room_to i point (odd ss) = 0
-room_to i point (tested p t s) = 0
+abbrev mutual
+  -- How many entries a node of terms has left with ids up to a point.
+  pub room_to : Indexed → ℕ → Shape → ℕ
+  room_to i point ended = 0
+  room_to i point (leaf l) = count_to point (entries_of i l)
+  room_to i point (span r) = 0
+  room_to i point (pair form ta a tb b) = room_to i point a + room_to i point b
+  room_to i point (odd ss) = 0
+  room_to i point (any ss) = rooms_to i point ss
+  room_to i point (tested p t s) = 0
+
+  -- How many all sides have left.
+  pub rooms_to : Indexed → ℕ → Sides → ℕ
+  rooms_to i point no_sides = 0
+  rooms_to i point (side t s ss) = room_to i point s + rooms_to i point ss
 
 -- The forms of a flat node: an or, and under a need the and_maybe and the and that it becomes.
 abbrev pub IsFlatForm : Form → ℕ → Type 0
@@ -26,14 +33,21 @@ IsFlatForm Form.And need = 0 < need
 IsFlatForm Form.AndMaybe need = 0 < need
 IsFlatForm _ need = ⊥
 
--- Leaves, and what an or of leaves, nested to any depth, has become under needs that rose up to this one.
-abbrev pub IsFlat : ℕ → Shape → Type 0
-IsFlat need ended = Unit {0}
-IsFlat need (leaf l) = Unit {0}
-IsFlat need (span r) = ⊥
-IsFlat need (pair form ta a tb b) = IsFlatForm form need × (IsFlat (first_need form need tb.greatest) a × IsFlat (second_need form need ta.greatest) b)
-IsFlat need (odd ss) = ⊥
-IsFlat need (tested p t s) = ⊥
+abbrev mutual
+  -- Leaves, and what an or of leaves, nested to any depth, has become under needs that rose up to this one.
+  pub IsFlat : ℕ → Shape → Type 0
+  IsFlat need ended = Unit {0}
+  IsFlat need (leaf l) = Unit {0}
+  IsFlat need (span r) = ⊥
+  IsFlat need (pair form ta a tb b) = IsFlatForm form need × (IsFlat (first_need form need tb.greatest) a × IsFlat (second_need form need ta.greatest) b)
+  IsFlat need (odd ss) = ⊥
+  IsFlat need (any ss) = AreFlat ss
+  IsFlat need (tested p t s) = ⊥
+
+  -- The sides of an or of many sides, which are moved under no need.
+  pub AreFlat : Sides → Type 0
+  AreFlat no_sides = Unit {0}
+  AreFlat (side t s ss) = IsFlat 0 s × AreFlat ss
 
 -- Leaves, and a max of leaves nested to any depth.
 abbrev pub IsPlain : Shape → Type 0
@@ -43,6 +57,7 @@ IsPlain (span r) = ⊥
 IsPlain (pair Form.Max ta a tb b) = IsPlain a × IsPlain b
 IsPlain (pair _ ta a tb b) = ⊥
 IsPlain (odd ss) = ⊥
+IsPlain (any ss) = ⊥
 IsPlain (tested p t s) = ⊥
 
 -- There is a weight, and it is at least the need.
@@ -64,14 +79,21 @@ pub record Stays (i : Indexed) (target need : ℕ) (before after : ℕ) (old new
   pub plain : IsPlain old → IsPlain new
   pub plain_paid : (point : ℕ) → IsPlain old → target ≤ point + 1 → after + room_to i point new ≤ before + room_to i point old
 
--- Leaves, and nodes of two sides under this form alone, nested to any depth.
-abbrev pub IsNest : Form → Shape → Type 0
-IsNest form ended = Unit {0}
-IsNest form (leaf l) = Unit {0}
-IsNest form (span r) = ⊥
-IsNest form (pair other ta a tb b) = (other ≡ form) × (IsNest form a × IsNest form b)
-IsNest form (odd ss) = ⊥
-IsNest form (tested p t s) = ⊥
+abbrev mutual
+  -- Leaves, and nodes of two sides under this form alone, or of many sides under an or, nested to any depth.
+  pub IsNest : Form → Shape → Type 0
+  IsNest form ended = Unit {0}
+  IsNest form (leaf l) = Unit {0}
+  IsNest form (span r) = ⊥
+  IsNest form (pair other ta a tb b) = (other ≡ form) × (IsNest form a × IsNest form b)
+  IsNest form (odd ss) = ⊥
+  IsNest form (any ss) = (form ≡ Form.Or) × AreNests form ss
+  IsNest form (tested p t s) = ⊥
+
+  -- Sides of which each is one.
+  pub AreNests : Form → Sides → Type 0
+  AreNests form no_sides = Unit {0}
+  AreNests form (side t s ss) = IsNest form s × AreNests form ss
 
 -- The forms that leave out no document of either side.
 abbrev pub IsJoint : Form → Type 0

@@ -7,7 +7,7 @@ use Rattle.sk_index.specs.Indexed.{Indexed}
 use Rattle.sk_nodes.specs.declared.top.Top.{Top}
 use Rattle.sk_nodes.specs.declared.leaf.Leaf.{Leaf}
 use Rattle.sk_nodes.specs.Leaves.{entries_of, head_of, leaf_unread}
-use Rattle.sk_nodes.specs.Shapes.{Shape, ended, leaf, span, pair, odd, tested}
+use Rattle.sk_nodes.specs.Shapes.{Shape, ended, leaf, span, pair, odd, any, tested, Sides, no_sides, side}
 use Rattle.sk_nodes.specs.Flat.{IsNest}
 
 -- How many entries have ids behind a point.
@@ -22,6 +22,7 @@ IsLone (leaf l) = Unit {0}
 IsLone (span r) = ⊥
 IsLone (pair form ta a tb b) = ⊥
 IsLone (odd ss) = ⊥
+IsLone (any ss) = ⊥
 IsLone (tested p t s) = ⊥
 
 -- The head of the leaf that leads; 2 ^ 32 where there is none.
@@ -31,6 +32,7 @@ lead_head i (leaf l) = head_of (entries_of i l)
 lead_head i (span r) = 2 ^ 32
 lead_head i (pair form ta a tb b) = lead_head i a
 lead_head i (odd ss) = 2 ^ 32
+lead_head i (any ss) = 2 ^ 32
 lead_head i (tested p t s) = 2 ^ 32
 
 -- How many entries of its list the leaf that leads has not read.
@@ -40,21 +42,29 @@ lead_unread i (leaf l) = leaf_unread i l
 lead_unread i (span r) = 0
 lead_unread i (pair form ta a tb b) = lead_unread i a
 lead_unread i (odd ss) = 0
+lead_unread i (any ss) = 0
 lead_unread i (tested p t s) = 0
 
 -- A list whose head stands before that of the leading one may be sought once, and read 128 entries.
 abbrev pub owed : ℕ → ℕ → ℕ
 owed head own = if nat_lt own head && nat_lt head (2 ^ 32) then 128 else 0
 
--- How much a side may still read that follows a leading list with this head and so many entries unread: of each leaf what it
--- has not read, or 128 entries for each that the leading list has not read, and those that it is owed now, where that is less.
-abbrev pub follow_room : Indexed → ℕ → ℕ → Shape → ℕ
-follow_room i head unread ended = 0
-follow_room i head unread (leaf l) = min (leaf_unread i l) (owed head (head_of (entries_of i l)) + 128 * unread)
-follow_room i head unread (span r) = 0
-follow_room i head unread (pair form ta a tb b) = follow_room i head unread a + follow_room i head unread b
-follow_room i head unread (odd ss) = 0
-follow_room i head unread (tested p t s) = 0
+abbrev mutual
+  -- How much a side may still read that follows a leading list with this head and so many entries unread: of each leaf what it
+  -- has not read, or 128 entries for each that the leading list has not read, and those that it is owed now, where that is less.
+  pub follow_room : Indexed → ℕ → ℕ → Shape → ℕ
+  follow_room i head unread ended = 0
+  follow_room i head unread (leaf l) = min (leaf_unread i l) (owed head (head_of (entries_of i l)) + 128 * unread)
+  follow_room i head unread (span r) = 0
+  follow_room i head unread (pair form ta a tb b) = follow_room i head unread a + follow_room i head unread b
+  follow_room i head unread (odd ss) = 0
+  follow_room i head unread (any ss) = follow_rooms i head unread ss
+  follow_room i head unread (tested p t s) = 0
+
+  -- How much all sides may.
+  pub follow_rooms : Indexed → ℕ → ℕ → Sides → ℕ
+  follow_rooms i head unread no_sides = 0
+  follow_rooms i head unread (side t s ss) = follow_room i head unread s + follow_rooms i head unread ss
 
 -- How much a node in which a list leads may still read.
 abbrev pub led_room : Indexed → Shape → ℕ
@@ -63,6 +73,7 @@ led_room i (leaf l) = leaf_unread i l
 led_room i (span r) = 0
 led_room i (pair form ta a tb b) = led_room i a + follow_room i (lead_head i a) (lead_unread i a) b
 led_room i (odd ss) = 0
+led_room i (any ss) = 0
 led_room i (tested p t s) = 0
 
 -- A node stands where its leading leaf does, or has ended.
@@ -86,6 +97,7 @@ IsLed i (leaf l) = Unit {0}
 IsLed i (span r) = ⊥
 IsLed i (pair form ta a tb b) = MayFollow form b × (IsAtLead i ta a × IsLed i a)
 IsLed i (odd ss) = ⊥
+IsLed i (any ss) = ⊥
 IsLed i (tested p t s) = ⊥
 
 -- A leading list went on: it read or passed over an entry, or stands where it did, or has ended.

@@ -6,7 +6,7 @@ use Rattle.sk_index.specs.Indexed.{Indexed}
 use Rattle.sk_decay.specs.Sides.{paired, greatest_under}
 use Rattle.sk_nodes.specs.Leaves.{leaf_rest, leaf_unread}
 use Rattle.sk_nodes.specs.Span.{span_rest, span_unread}
-use Rattle.sk_nodes.specs.Shapes.{Shape, ended, leaf, span, pair, odd, tested, Sides, no_sides, side}
+use Rattle.sk_nodes.specs.Shapes.{Shape, ended, leaf, span, pair, odd, any, tested, Sides, no_sides, side}
 use Rattle.sk_nodes.specs.Proximity.{holds, entries_from}
 
 abbrev mutual
@@ -17,6 +17,7 @@ abbrev mutual
   rest i (span r) id = span_rest i r id
   rest i (pair form ta a tb b) id = paired form (rest i a id) (rest i b id)
   rest i (odd ss) id = combined Form.Xor (rests i ss id)
+  rest i (any ss) id = combined Form.Or (rests i ss id)
   rest i (tested p t s) id = where_so (holds i p id) (rest i s id)
 
   -- The weights that sides still give at an id.
@@ -32,6 +33,7 @@ abbrev mutual
   unread_of i (span r) = span_unread i r
   unread_of i (pair form ta a tb b) = unread_of i a + unread_of i b
   unread_of i (odd ss) = unread_in i ss
+  unread_of i (any ss) = unread_in i ss
   unread_of i (tested p t s) = unread_of i s + entries_from i p.next p.numbers.items
 
   -- How many entries of their lists sides have not read.
@@ -51,6 +53,7 @@ greatest_in (leaf l) = l.greatest
 greatest_in (span r) = 0
 greatest_in (pair form ta a tb b) = greatest_under form ta.greatest tb.greatest
 greatest_in (odd ss) = greatest_sum ss
+greatest_in (any ss) = greatest_sum ss
 greatest_in (tested p t s) = t.greatest
 
 -- What is given from an id on.

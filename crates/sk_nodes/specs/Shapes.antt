@@ -9,13 +9,14 @@ use Rattle.sk_nodes.specs.declared.node.Node.{Node, fold-Node}
 use Rattle.sk_nodes.specs.declared.node.Node.TheOpen.{Node-F}
 
 mutual
-  -- A node: nothing, a leaf, the values in a range, two sides with their tops under a form, the sides of an xor, or a test of what a node gives, with its top.
+  -- A node: nothing, a leaf, the values in a range, two sides with their tops under a form, the sides of an xor, those of an or of many sides, or a test of what a node gives, with its top.
   pub data Shape : Type 0 where
     ended : Shape
     leaf : Leaf → Shape
     span : Span → Shape
     pair : Form → Top → Shape → Top → Shape → Shape
     odd : Sides → Shape
+    any : Sides → Shape
     tested : Proximity → Top → Shape → Shape
 
   -- Sides in order, each with its top.
@@ -36,6 +37,7 @@ node_step (Node-F.Leaf l) = leaf l
 node_step (Node-F.Span r) = span r
 node_step (Node-F.Pair form ta a tb b) = pair form ta a.value tb b.value
 node_step (Node-F.Odd tops nodes) = odd (sides_of tops.items nodes.items)
+node_step (Node-F.Any tops nodes) = any (sides_of tops.items nodes.items)
 node_step (Node-F.Tested p t s) = tested p t s.value
 
 -- The shape of a node.
@@ -54,6 +56,7 @@ abbrev mutual
   size_of (span r) = 1
   size_of (pair form ta a tb b) = 1 + (size_of a + size_of b)
   size_of (odd ss) = 1 + sizes_in ss
+  size_of (any ss) = 1 + sizes_in ss
   size_of (tested p t s) = 1 + size_of s
 
   -- How many there are in all sides, each side itself counted.

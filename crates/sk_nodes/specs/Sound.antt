@@ -8,7 +8,7 @@ use Rattle.sk_nodes.specs.Leaves.{AtMost, IsLeafOn}
 use Rattle.sk_nodes.specs.Span.{IsSpanOn}
 use Rattle.sk_nodes.specs.declared.proximity.Proximity.{Proximity}
 use Rattle.sk_nodes.specs.Proximity.{holds, IsInAll, CanTest}
-use Rattle.sk_nodes.specs.Shapes.{Shape, ended, leaf, span, pair, odd, tested, Sides, no_sides, side, size_of}
+use Rattle.sk_nodes.specs.Shapes.{Shape, ended, leaf, span, pair, odd, any, tested, Sides, no_sides, side, size_of}
 use Rattle.sk_nodes.specs.Left.{rest, unread_of, greatest_sum, greatest_in}
 
 -- A node's head, and how much it can weigh, are those of what it still gives.
@@ -32,7 +32,7 @@ pub record IsFirst (i : Indexed) (t : Top) (s : Shape) (A B : Type 0) : Type 0 w
   pub sound : A
   pub others : B
 
--- The sides of an xor, by what holds of them.
+-- The sides of an xor or of an or of many sides, by what holds of them.
 pub record IsOdd (ss : Sides) (A : Type 0) : Type 0 where
   pub sides : A
   pub fits : greatest_sum ss < 2 ^ 63
@@ -55,6 +55,7 @@ abbrev mutual
   Sound i (span r) = IsSpanOn i r
   Sound i (pair form ta a tb b) = IsPair i ta a tb b (Sound i a) (Sound i b)
   Sound i (odd ss) = IsOdd ss (AreSound i ss)
+  Sound i (any ss) = IsOdd ss (AreSound i ss)
   Sound i (tested p t s) = IsTested i p t s (Sound i s)
 
   -- All that is kept in sides and beside them is so.

@@ -1,11 +1,13 @@
 //! The tree of a query: nodes that walk through the lists together, and pass over what is not wanted.
 #![tactic(auto)]
 
+mod any;
 mod leaf;
 mod moves;
 mod node;
 mod odd;
 mod opening;
+mod order;
 mod proximity;
 mod ranges;
 mod skip;

@@ -2,17 +2,19 @@
 ghost use Rattle.std.specs.Prelude.{◌≡◌, ◌≤◌, ◌<◌, ◌+◌, ◌^◌, ℕ};
 ghost use Rattle.sk_model.specs.Covers.{Covers};
 ghost use Rattle.sk_decay.specs.Sides.{paired, greatest_under};
-ghost use Rattle.sk_nodes.specs.Shapes.{pair, odd, tested, shape_of, size_of, sides_on, sizes_in};
+ghost use Rattle.sk_nodes.specs.Shapes.{pair, odd, any, tested, shape_of, size_of, sides_on, sizes_in};
 ghost use Rattle.sk_nodes.specs.Left.{rest, from_on, unread_of, unread_in, greatest_sum};
 ghost use Rattle.sk_nodes.specs.Sound.{IsTop, IsPair, IsOdd, IsTested, Sound, AreSound};
 ghost use Rattle.sk_nodes.specs.Flat.{Stays};
 ghost use Rattle.sk_nodes.specs.Led.{IsLone, IsLed, IsAtLead, Leads};
 ghost use Rattle.sk_nodes.specs.Fading.{StandsOn, Moves, Fades, FadesUnder};
 ghost use Rattle.sk_nodes.specs.Odd.{AreSought, AreFrom};
+ghost use Rattle.sk_nodes.specs.Any.{AreKept, HaveLed, AreWeighed, AreEnded};
 ghost use Rattle.sk_nodes.specs.Proximity.{entries_from};
 
+use crate::any::{first_of, weight_at};
 use crate::node::{Node, settle};
-use crate::odd::{FEW, odd_greatest, odd_meeting};
+use crate::odd::{FEW, odd_greatest, odd_meeting, sum_of};
 use crate::proximity::Proximity;
 use crate::skip::skip;
 use crate::top::{END, Top};
@@ -152,6 +154,7 @@ fn seek<L: Ledger>(
             top, *form, ta, a, tb, b, index, target, need, spent, steps,
         ),
         Node::Odd(tops, nodes) => seek_odd(top, tops, nodes, index, target, need, spent, steps),
+        Node::Any(tops, nodes) => seek_any(top, tops, nodes, index, target, need, spent, steps),
         Node::Tested(test, below, node) => seek_tested(
             top, test, below, node, index, target, need, spent, steps,
         ),
@@ -345,6 +348,250 @@ pub(crate) fn seek_odd<L: Ledger>(
     }
 }
 
+/// Moves the sides of an or of many sides on to its first match from the target on.
+#[cycle(seek)]
+pub(crate) fn seek_any<L: Ledger>(
+    top: &mut Top,
+    tops: &mut [Top],
+    nodes: &mut [Node],
+    index: &Index,
+    target: u64,
+    need: u64,
+    spent: &mut u128,
+    steps: &mut Steps<L>,
+)
+    requires sides { IsOdd (sides_on tops.old nodes.old) (AreSound index.now (sides_on tops.old nodes.old)) }
+    requires target { target < 2 ^ 32 }
+    requires room { spent.old + unread_in index.now (sides_on tops.old nodes.old) < 2 ^ 128 }
+    ensures top { IsTop index.now top.new (any (sides_on tops.new nodes.new)) }
+    ensures sound { IsOdd (sides_on tops.new nodes.new) (AreSound index.now (sides_on tops.new nodes.new)) }
+    ensures covers { Covers (from_on target (rest index.now (any (sides_on tops.old nodes.old)))) (rest index.now (any (sides_on tops.new nodes.new))) need }
+    ensures reached { target ≤ top.new.head }
+    ensures falls { top.new.greatest ≤ greatest_sum (sides_on tops.old nodes.old) }
+    ensures smaller { sizes_in (sides_on tops.new nodes.new) ≤ sizes_in (sides_on tops.old nodes.old) }
+    ensures paid { spent.new + unread_in index.now (sides_on tops.new nodes.new) ≤ spent.old + unread_in index.now (sides_on tops.old nodes.old) }
+    ensures counted { steps.new + spent.old ≡ steps.old + spent.new }
+    ensures later { spent.old ≤ spent.new }
+    ensures stays { Stays index.now target need spent.old spent.new (any (sides_on tops.old nodes.old)) (any (sides_on tops.new nodes.new)) }
+    ensures leads { Leads index.now target need spent.old spent.new (any (sides_on tops.old nodes.old)) (any (sides_on tops.new nodes.new)) }
+{
+    if need == 0 {
+        seek_all(top, tops, nodes, index, target, need, spent, steps);
+        return;
+    }
+    seek_some(top, tops, nodes, index, target, need, spent, steps);
+}
+
+/// The same where all sides are sought: what they begin with together is the first match, whatever it weighs.
+#[cycle(seek)]
+fn seek_all<L: Ledger>(
+    top: &mut Top,
+    tops: &mut [Top],
+    nodes: &mut [Node],
+    index: &Index,
+    target: u64,
+    _need: u64,
+    spent: &mut u128,
+    steps: &mut Steps<L>,
+)
+    requires sides { IsOdd (sides_on tops.old nodes.old) (AreSound index.now (sides_on tops.old nodes.old)) }
+    requires target { target < 2 ^ 32 }
+    requires room { spent.old + unread_in index.now (sides_on tops.old nodes.old) < 2 ^ 128 }
+    ensures top { IsTop index.now top.new (any (sides_on tops.new nodes.new)) }
+    ensures sound { IsOdd (sides_on tops.new nodes.new) (AreSound index.now (sides_on tops.new nodes.new)) }
+    ensures covers { Covers (from_on target (rest index.now (any (sides_on tops.old nodes.old)))) (rest index.now (any (sides_on tops.new nodes.new))) _need }
+    ensures reached { target ≤ top.new.head }
+    ensures falls { top.new.greatest ≤ greatest_sum (sides_on tops.old nodes.old) }
+    ensures smaller { sizes_in (sides_on tops.new nodes.new) ≤ sizes_in (sides_on tops.old nodes.old) }
+    ensures paid { spent.new + unread_in index.now (sides_on tops.new nodes.new) ≤ spent.old + unread_in index.now (sides_on tops.old nodes.old) }
+    ensures counted { steps.new + spent.old ≡ steps.old + spent.new }
+    ensures later { spent.old ≤ spent.new }
+    ensures stays { Stays index.now target _need spent.old spent.new (any (sides_on tops.old nodes.old)) (any (sides_on tops.new nodes.new)) }
+    ensures leads { Leads index.now target _need spent.old spent.new (any (sides_on tops.old nodes.old)) (any (sides_on tops.new nodes.new)) }
+{
+    reach_all(tops, nodes, index, target, spent, steps);
+    let first = first_of(tops, nodes, END, 0);
+    top.head = first.head;
+    top.weight = first.weight;
+    top.greatest = odd_greatest(first.head, tops, nodes);
+}
+
+/// The same where something is needed. The sides that lead are sought, and where the first of them begins all others
+/// are, as long as what is known of that document may be enough.
+#[cycle(seek)]
+fn seek_some<L: Ledger>(
+    top: &mut Top,
+    tops: &mut [Top],
+    nodes: &mut [Node],
+    index: &Index,
+    target: u64,
+    need: u64,
+    spent: &mut u128,
+    steps: &mut Steps<L>,
+)
+    requires needed { 0 < need }
+    requires sides { IsOdd (sides_on tops.old nodes.old) (AreSound index.now (sides_on tops.old nodes.old)) }
+    requires target { target < 2 ^ 32 }
+    requires room { spent.old + unread_in index.now (sides_on tops.old nodes.old) < 2 ^ 128 }
+    ensures top { IsTop index.now top.new (any (sides_on tops.new nodes.new)) }
+    ensures sound { IsOdd (sides_on tops.new nodes.new) (AreSound index.now (sides_on tops.new nodes.new)) }
+    ensures covers { Covers (from_on target (rest index.now (any (sides_on tops.old nodes.old)))) (rest index.now (any (sides_on tops.new nodes.new))) need }
+    ensures reached { target ≤ top.new.head }
+    ensures falls { top.new.greatest ≤ greatest_sum (sides_on tops.old nodes.old) }
+    ensures smaller { sizes_in (sides_on tops.new nodes.new) ≤ sizes_in (sides_on tops.old nodes.old) }
+    ensures paid { spent.new + unread_in index.now (sides_on tops.new nodes.new) ≤ spent.old + unread_in index.now (sides_on tops.old nodes.old) }
+    ensures counted { steps.new + spent.old ≡ steps.old + spent.new }
+    ensures later { spent.old ≤ spent.new }
+    ensures stays { Stays index.now target need spent.old spent.new (any (sides_on tops.old nodes.old)) (any (sides_on tops.new nodes.new)) }
+    ensures leads { Leads index.now target need spent.old spent.new (any (sides_on tops.old nodes.old)) (any (sides_on tops.new nodes.new)) }
+{
+    let most = sum_of(tops, nodes);
+    let mut from = target;
+    'matches: loop {
+        let head = lead(tops, nodes, index, from, need, most, END, spent, steps);
+        if head >= END {
+            end_sides(top, tops, nodes);
+            return;
+        }
+        let weight = weigh(tops, nodes, index, head, need, most, 0, spent, steps);
+        if weight >= need {
+            top.head = head;
+            top.weight = weight;
+            top.greatest = odd_greatest(head, tops, nodes);
+            return;
+        }
+        from = head + 1;
+        if from >= END {
+            end_sides(top, tops, nodes);
+            return;
+        }
+    }
+}
+
+/// Moves the sides on that lead: those that with all behind them may weigh what is needed. It answers where the first of
+/// them begins, or the last id that was known before. All together weigh no more than `most`.
+#[cycle(seek)]
+fn lead<L: Ledger>(
+    tops: &mut [Top],
+    nodes: &mut [Node],
+    index: &Index,
+    from: u64,
+    need: u64,
+    most: u64,
+    last: u64,
+    spent: &mut u128,
+    steps: &mut Steps<L>,
+) -> u64
+    requires sound { AreSound index.now (sides_on tops.old nodes.old) }
+    requires from { from < 2 ^ 32 }
+    requires room { spent.old + unread_in index.now (sides_on tops.old nodes.old) < 2 ^ 128 }
+    requires most { greatest_sum (sides_on tops.old nodes.old) ≤ most }
+    requires last { from ≤ last }
+    ensures sound { AreSound index.now (sides_on tops.new nodes.new) }
+    ensures led { HaveLed index.now need from last result (sides_on tops.old nodes.old) (sides_on tops.new nodes.new) }
+    ensures falls { greatest_sum (sides_on tops.new nodes.new) ≤ greatest_sum (sides_on tops.old nodes.old) }
+    ensures smaller { sizes_in (sides_on tops.new nodes.new) ≤ sizes_in (sides_on tops.old nodes.old) }
+    ensures paid { spent.new + unread_in index.now (sides_on tops.new nodes.new) ≤ spent.old + unread_in index.now (sides_on tops.old nodes.old) }
+    ensures counted { steps.new + spent.old ≡ steps.old + spent.new }
+    ensures later { spent.old ≤ spent.new }
+    ensures kept { AreKept index.now from spent.old spent.new (sides_on tops.old nodes.old) (sides_on tops.new nodes.new) }
+{
+    if most < need {
+        return last;
+    }
+    if let Some((top, tops)) = tops.split_first_mut() {
+        if let Some((node, nodes)) = nodes.split_first_mut() {
+            let behind = most - top.greatest;
+            reach(top, node, index, from, 0, spent, steps);
+            return lead(
+                tops,
+                nodes,
+                index,
+                from,
+                need,
+                behind,
+                last.min(top.head),
+                spent,
+                steps,
+            );
+        }
+    }
+    last
+}
+
+/// Moves all sides to an id, and answers what they and the others weigh there; or a part of it, once the whole is known to
+/// be less than is needed.
+#[cycle(seek)]
+fn weigh<L: Ledger>(
+    tops: &mut [Top],
+    nodes: &mut [Node],
+    index: &Index,
+    id: u64,
+    need: u64,
+    most: u64,
+    others: u64,
+    spent: &mut u128,
+    steps: &mut Steps<L>,
+) -> u64
+    requires sound { AreSound index.now (sides_on tops.old nodes.old) }
+    requires id { id < 2 ^ 32 }
+    requires room { spent.old + unread_in index.now (sides_on tops.old nodes.old) < 2 ^ 128 }
+    requires most { greatest_sum (sides_on tops.old nodes.old) ≤ most }
+    requires fits { others + most < 2 ^ 63 }
+    ensures sound { AreSound index.now (sides_on tops.new nodes.new) }
+    ensures weighed { AreWeighed index.now need id others result (sides_on tops.old nodes.old) (sides_on tops.new nodes.new) }
+    ensures falls { greatest_sum (sides_on tops.new nodes.new) ≤ greatest_sum (sides_on tops.old nodes.old) }
+    ensures smaller { sizes_in (sides_on tops.new nodes.new) ≤ sizes_in (sides_on tops.old nodes.old) }
+    ensures paid { spent.new + unread_in index.now (sides_on tops.new nodes.new) ≤ spent.old + unread_in index.now (sides_on tops.old nodes.old) }
+    ensures counted { steps.new + spent.old ≡ steps.old + spent.new }
+    ensures later { spent.old ≤ spent.new }
+    ensures kept { AreKept index.now id spent.old spent.new (sides_on tops.old nodes.old) (sides_on tops.new nodes.new) }
+{
+    if others + most < need {
+        return others;
+    }
+    if let Some((top, tops)) = tops.split_first_mut() {
+        if let Some((node, nodes)) = nodes.split_first_mut() {
+            let behind = most - top.greatest;
+            reach(top, node, index, id, 0, spent, steps);
+            return weigh(
+                tops,
+                nodes,
+                index,
+                id,
+                need,
+                behind,
+                others + weight_at(top, id),
+                spent,
+                steps,
+            );
+        }
+    }
+    others
+}
+
+/// Leaves nothing of all sides.
+fn end_sides(top: &mut Top, tops: &mut [Top], nodes: &mut [Node])
+    ensures top { top.new ≡ record { head = 2 ^ 32; weight = 0; greatest = 0 } }
+    ensures over { AreEnded (sides_on tops.new nodes.new) }
+    ensures smaller { sizes_in (sides_on tops.new nodes.new) ≤ sizes_in (sides_on tops.old nodes.old) }
+{
+    end_all(tops, nodes);
+    *top = Top::ended();
+}
+
+fn end_all(tops: &mut [Top], nodes: &mut [Node])
+    ensures over { AreEnded (sides_on tops.new nodes.new) }
+    ensures smaller { sizes_in (sides_on tops.new nodes.new) ≤ sizes_in (sides_on tops.old nodes.old) }
+{
+    if let Some((top, tops)) = tops.split_first_mut() {
+        if let Some((node, nodes)) = nodes.split_first_mut() {
+            give_up(top, node);
+            end_all(tops, nodes);
+        }
+    }
+}
+
 /// Moves all sides on that stand before the target.
 #[cycle(seek)]
 fn reach_all<L: Ledger>(
@@ -366,6 +613,7 @@ fn reach_all<L: Ledger>(
     ensures paid { spent.new + unread_in index.now (sides_on tops.new nodes.new) ≤ spent.old + unread_in index.now (sides_on tops.old nodes.old) }
     ensures counted { steps.new + spent.old ≡ steps.old + spent.new }
     ensures later { spent.old ≤ spent.new }
+    ensures kept { AreKept index.now target spent.old spent.new (sides_on tops.old nodes.old) (sides_on tops.new nodes.new) }
 {
     let count = tops.len().min(nodes.len());
     if count <= FEW {
@@ -399,6 +647,7 @@ fn reach_few<L: Ledger>(
     ensures paid { spent.new + unread_in index.now (sides_on tops.new nodes.new) ≤ spent.old + unread_in index.now (sides_on tops.old nodes.old) }
     ensures counted { steps.new + spent.old ≡ steps.old + spent.new }
     ensures later { spent.old ≤ spent.new }
+    ensures kept { AreKept index.now target spent.old spent.new (sides_on tops.old nodes.old) (sides_on tops.new nodes.new) }
 {
     if let Some((top, tops)) = tops.split_first_mut() {
         if let Some((node, nodes)) = nodes.split_first_mut() {

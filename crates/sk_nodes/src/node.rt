@@ -24,6 +24,7 @@ pub(crate) enum Node {
     Span(Span),
     Pair(Form, Top, Box<Node>, Top, Box<Node>),
     Odd(Vec<Top>, Vec<Node>),
+    Any(Vec<Top>, Vec<Node>),
     Tested(Proximity, Top, Box<Node>),
 }
 
@@ -53,6 +54,7 @@ fn is_settled(node: &Node, need: u64) -> bool
             ta.head < END && tb.head < END && stands(*form, ta.greatest, tb.greatest, need)
         }
         Node::Odd(_, _) => true,
+        Node::Any(_, _) => true,
         Node::Tested(_, _, _) => true,
     }
 }
@@ -82,6 +84,7 @@ fn decay(node: &mut Node, _index: &Index, need: u64)
         Node::Leaf(_) => {}
         Node::Span(_) => {}
         Node::Odd(_, _) => {}
+        Node::Any(_, _) => {}
         Node::Tested(_, _, _) => {}
         Node::Pair(form, ta, a, tb, b) => {
             let change = rule(

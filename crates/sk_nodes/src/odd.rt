@@ -123,7 +123,8 @@ pub(crate) fn odd_greatest(head: u64, tops: &[Top], nodes: &[Node]) -> u64
     sum_of(tops, nodes)
 }
 
-fn sum_of(tops: &[Top], nodes: &[Node]) -> u64
+/// What all sides can weigh together.
+pub(crate) fn sum_of(tops: &[Top], nodes: &[Node]) -> u64
     requires { greatest_sum (sides_on tops.now nodes.now) < 2 ^ 63 }
     ensures { result ≡ greatest_sum (sides_on tops.now nodes.now) }
 {

@@ -17,10 +17,11 @@ ghost use Rattle.sk_model.specs.Sharp.{terms_in, flat_lists, rare_lists, rare_re
 ghost use Rattle.sk_lists.specs.Seeks.{count_to};
 ghost use Rattle.sk_decay.specs.Sides.{paired, greatest_under};
 ghost use Rattle.sk_nodes.specs.Leaves.{IsThere, list_in, weighed, leaf_greatest};
-ghost use Rattle.sk_nodes.specs.Shapes.{pair, odd, no_sides, side, shape_of, sides_on};
+ghost use Rattle.sk_nodes.specs.Shapes.{pair, odd, any, no_sides, side, shape_of, sides_on};
 ghost use Rattle.sk_nodes.specs.Left.{rest, rests, unread_of, unread_in, greatest_sum};
 ghost use Rattle.sk_nodes.specs.Sound.{IsTop, IsOdd, IsTested, Sound, AreSound};
-ghost use Rattle.sk_nodes.specs.Flat.{room_to, IsNest, IsJoint, PairsNest, OpensNest, OpensFlat, SplitsTerms};
+ghost use Rattle.sk_nodes.specs.Any.{OpensTerms};
+ghost use Rattle.sk_nodes.specs.Flat.{room_to, IsNest, IsJoint, Stays, PairsNest, OpensNest, OpensFlat, SplitsTerms};
 ghost use Rattle.sk_nodes.specs.Led.{IsLed, IsAtLead, Leads};
 ghost use Rattle.sk_nodes.specs.OpenedLed.{first_length, last_length, CanLead, SplitsOff, IsOrdered, SplitsLed, OpensLone, OpensFollowing, OpensLed, OpensRare};
 ghost use Rattle.sk_nodes.specs.Fading.{Fades};
@@ -30,8 +31,9 @@ ghost use Rattle.sk_nodes.specs.Proximity.{standing_query, holds, entries_from};
 ghost use Rattle.sk_nodes.specs.Opened.{count_in, score_of, part_scores, is_nest, OpensSides, joint_score_of, others_of, query_size, parts_size, AreParts, Opens};
 
 use crate::leaf::{Leaf, list_length};
-use crate::moves::{seek_odd, seek_pair, seek_tested};
+use crate::moves::{seek_any, seek_odd, seek_pair, seek_tested};
 use crate::node::Node;
+use crate::order::put_in_order;
 use crate::proximity::{Proximity, Standing};
 use crate::ranges::open_range;
 use crate::synonym::{open_synonym, open_wildcard};
@@ -47,6 +49,9 @@ use std::sync::ledger::Ledger;
 
 // So many parts stand one inside another at most, where the first of them leads.
 const MOST_NESTED: usize = 1024;
+
+// So many sides stand in one node at most, where they are gone through one inside another.
+const MOST_SIDES: usize = 64;
 
 /// The node of a query, and its top. `most` is how long the lists of all leaves are that were opened.
 #[cycle(open_node)]
@@ -248,7 +253,7 @@ fn tested_of<L: Ledger>(
     Ok((top, Node::Tested(test, below, node)))
 }
 
-/// The node of a form of several parts: two nodes, of the first parts and of the others.
+/// The node of a form of several parts: one node of all sides, or two, of the first parts and of the others.
 #[cycle(open_node)]
 fn open_parts<L: Ledger>(
     alloc: Global,
@@ -288,6 +293,13 @@ fn open_parts<L: Ledger>(
         let (top, node) = odd_of(index, tops, nodes, spent, steps);
         return Ok((top, node));
     }
+    if let Some(sides) = any_parts(form, parts, factor) {
+        let (all_tops, all_nodes) = open_sides(
+            alloc, index, sides, scheme, factor, most, spent, steps,
+        )?;
+        let (top, node) = any_of(index, all_tops, all_nodes, spent, steps);
+        return Ok((top, node));
+    }
     let (front, back) = split_parts(index, form, parts, factor);
     let (ta, a) = open_parts(
         alloc, index, form, front, scheme, factor, most, spent, steps,
@@ -306,7 +318,7 @@ fn open_parts<L: Ledger>(
     pair_of(alloc, index, form, ta, a, tb, b, spent, steps)
 }
 
-/// The nodes of the parts of an xor, in order, with their tops.
+/// The nodes of the parts of an xor, or of an or of many sides, in order, with their tops.
 #[cycle(open_node)]
 fn open_sides<L: Ledger>(
     alloc: Global,
@@ -332,6 +344,7 @@ fn open_sides<L: Ledger>(
     ensures later { spent.old ≤ spent.new }
     ensures room { IfOk result (λ p. spent.new ≤ most.new) }
     ensures small { most.new < 2 ^ 128 }
+    ensures terms { IfOk result (λ p. (lists : List (List ℕ)) → terms_in (queries_view parts.now) ≡ Some lists → OpensTerms index.now (sides_on p.0.items p.1.items) lists spent.old spent.new) }
 {
     if let Some(part) = only_part(Form::Xor, parts, factor) {
         let (top, node) = open_node(alloc, index, part, scheme, factor, most, spent, steps)?;
@@ -397,7 +410,39 @@ fn odd_parts(form: Form, parts: &[Query], _factor: u64) -> Option<&[Query]>
     Some(parts)
 }
 
-/// The two halves of the parts of an xor.
+/// The parts of an or of three or more that stand in one node.
+fn any_parts(form: Form, parts: &[Query], _factor: u64) -> Option<&[Query]>
+    requires factor { _factor ≤ 65536 }
+    requires parts { AreParts form _factor (queries_view parts.now) }
+    ensures form { IfSome result (λ sides. form ≡ Form.Or) }
+    ensures many { IfSome result (λ sides. 3 ≤ count_in (queries_view parts.now)) }
+    ensures parts { IfSome result (λ sides. AreParts Form.Xor _factor (queries_view sides.now)) }
+    ensures size { IfSome result (λ sides. parts_size (queries_view sides.now) ≡ parts_size (queries_view parts.now)) }
+    ensures scores { IfSome result (λ sides. (scheme : Scheme) (o : Option Document) → joint_score_of form (queries_view parts.now) scheme _factor o ≡ combined Form.Or (part_scores (queries_view sides.now) scheme _factor o)) }
+    ensures ceiling { IfSome result (λ sides. (scheme : Scheme) (docs : Docs) → ceil_of form (ceils (queries_view parts.now) scheme _factor docs) ≡ sum_in (ceils (queries_view sides.now) scheme _factor docs)) }
+    ensures fits { IfSome result (λ sides. (scheme : Scheme) (docs : Docs) → All IsLight docs → sum_in (ceils (queries_view sides.now) scheme _factor docs) < 2 ^ 63) }
+    ensures readings { IfSome result (λ sides. (docs : Docs) → leaves_readings (queries_view parts.now) docs ≡ leaves_readings (queries_view sides.now) docs) }
+    ensures terms { IfSome result (λ sides. terms_in (queries_view parts.now) ≡ terms_in (queries_view sides.now)) }
+{
+    if is_many(form, parts.len()) {
+        Some(parts)
+    } else {
+        None
+    }
+}
+
+/// Whether so many parts of a form stand in one node: in an or, where two are a node of two sides.
+fn is_many(form: Form, count: usize) -> bool
+    ensures form { result ≡ true → form ≡ Form.Or }
+    ensures many { result ≡ true → 3 ≤ count }
+{
+    match form {
+        Form::Or => 3 <= count && count <= MOST_SIDES,
+        _ => false,
+    }
+}
+
+/// The two halves of the parts of an xor, or of an or of many sides.
 fn odd_halves(parts: &[Query], _factor: u64) -> (&[Query], &[Query])
     requires factor { _factor ≤ 65536 }
     requires parts { AreParts Form.Xor _factor (queries_view parts.now) }
@@ -409,6 +454,7 @@ fn odd_halves(parts: &[Query], _factor: u64) -> (&[Query], &[Query])
     ensures scores { (scheme : Scheme) (o : Option Document) → part_scores (queries_view parts.now) scheme _factor o ≡ part_scores (queries_view result.0.now) scheme _factor o ++ part_scores (queries_view result.1.now) scheme _factor o }
     ensures ceiling { (scheme : Scheme) (docs : Docs) → sum_in (ceils (queries_view parts.now) scheme _factor docs) ≡ sum_in (ceils (queries_view result.0.now) scheme _factor docs) + sum_in (ceils (queries_view result.1.now) scheme _factor docs) }
     ensures readings { (docs : Docs) → leaves_readings (queries_view parts.now) docs ≡ leaves_readings (queries_view result.0.now) docs + leaves_readings (queries_view result.1.now) docs }
+    ensures terms { (lists : List (List ℕ)) → terms_in (queries_view parts.now) ≡ Some lists → SplitsTerms lists (terms_in (queries_view result.0.now)) (terms_in (queries_view result.1.now)) }
 {
     let half = parts.len() / 2;
     parts.split_at(half)
@@ -789,4 +835,56 @@ fn begin_odd<L: Ledger>(
     ensures later { spent.old ≤ spent.new }
 {
     seek_odd(top, tops, nodes, index, 0, 0, spent, steps);
+}
+
+/// A node of the sides of an or, moved on to its first match, and its top.
+fn any_of<L: Ledger>(
+    index: &Index,
+    mut tops: Vec<Top>,
+    mut nodes: Vec<Node>,
+    spent: &mut u128,
+    steps: &mut Steps<L>,
+) -> (Top, Node)
+    requires sound { AreSound index.now (sides_on tops.items nodes.items) }
+    requires fits { greatest_sum (sides_on tops.items nodes.items) < 2 ^ 63 }
+    requires room { spent.old + unread_in index.now (sides_on tops.items nodes.items) < 2 ^ 128 }
+    ensures top { IsTop index.now result.0 (shape_of result.1) }
+    ensures sound { Sound index.now (shape_of result.1) }
+    ensures gives { (id : ℕ) → rest index.now (shape_of result.1) id ≡ combined Form.Or (rests index.now (sides_on tops.items nodes.items) id) }
+    ensures ceiling { result.0.greatest ≤ greatest_sum (sides_on tops.items nodes.items) }
+    ensures paid { spent.new + unread_of index.now (shape_of result.1) ≤ spent.old + unread_in index.now (sides_on tops.items nodes.items) }
+    ensures counted { steps.new + spent.old ≡ steps.old + spent.new }
+    ensures later { spent.old ≤ spent.new }
+    ensures stays { Stays index.now 0 0 spent.old spent.new (any (sides_on tops.items nodes.items)) (shape_of result.1) }
+    ensures leads { Leads index.now 0 0 spent.old spent.new (any (sides_on tops.items nodes.items)) (shape_of result.1) }
+{
+    let mut top = Top::ended();
+    begin_any(&mut top, &mut tops, &mut nodes, index, spent, steps);
+    (top, Node::Any(tops, nodes))
+}
+
+/// Puts the sides of an or in order, and moves them on to its first match.
+fn begin_any<L: Ledger>(
+    top: &mut Top,
+    tops: &mut [Top],
+    nodes: &mut [Node],
+    index: &Index,
+    spent: &mut u128,
+    steps: &mut Steps<L>,
+)
+    requires sound { AreSound index.now (sides_on tops.old nodes.old) }
+    requires fits { greatest_sum (sides_on tops.old nodes.old) < 2 ^ 63 }
+    requires room { spent.old + unread_in index.now (sides_on tops.old nodes.old) < 2 ^ 128 }
+    ensures top { IsTop index.now top.new (any (sides_on tops.new nodes.new)) }
+    ensures sound { IsOdd (sides_on tops.new nodes.new) (AreSound index.now (sides_on tops.new nodes.new)) }
+    ensures gives { (id : ℕ) → rest index.now (any (sides_on tops.new nodes.new)) id ≡ combined Form.Or (rests index.now (sides_on tops.old nodes.old) id) }
+    ensures ceiling { top.new.greatest ≤ greatest_sum (sides_on tops.old nodes.old) }
+    ensures paid { spent.new + unread_in index.now (sides_on tops.new nodes.new) ≤ spent.old + unread_in index.now (sides_on tops.old nodes.old) }
+    ensures counted { steps.new + spent.old ≡ steps.old + spent.new }
+    ensures later { spent.old ≤ spent.new }
+    ensures stays { Stays index.now 0 0 spent.old spent.new (any (sides_on tops.old nodes.old)) (any (sides_on tops.new nodes.new)) }
+    ensures leads { Leads index.now 0 0 spent.old spent.new (any (sides_on tops.old nodes.old)) (any (sides_on tops.new nodes.new)) }
+{
+    put_in_order(tops, nodes);
+    seek_any(top, tops, nodes, index, 0, 0, spent, steps);
 }

@@ -1,28 +1,30 @@
 -- Two sides, how far they have come and where they meet.
-use Rattle.std.proofs.Common.{◌≡◌, ◌^◌, ◌++◌, refl, sym, subst, ap, ◌∙◌, Box, Vec, Global, arith, rules}
+use Rattle.std.proofs.Common.{◌≡◌, ◌+◌, ◌^◌, ◌++◌, refl, sym, subst, ap, ◌∙◌, Box, Vec, Global, arith, rules}
 use Rattle.std.proofs.lemmas.List.{places}
 use Rattle.sk_model.specs.Covers.{Covers}
 use Rattle.sk_nodes.specs.declared.top.Top.{Top}
 use Rattle.sk_nodes.specs.declared.node.Node.{Node}
-use Rattle.sk_nodes.specs.Shapes.{Shape, Sides, ended, pair, odd, tested, shape_of, sides_on, sizes_in}
+use Rattle.sk_nodes.specs.Shapes.{Shape, Sides, side, ended, pair, odd, any, tested, shape_of, sides_on, sizes_in}
 use Rattle.sk_nodes.specs.Left.{rest, from_on, greatest_sum, unread_in}
 use Rattle.sk_nodes.specs.Sound.{IsTop, Sound, AreSound}
 use Rattle.sk_nodes.specs.Odd.{AreFrom, AreSought, followed_by}
 use Rattle.sk_nodes.proofs.LeafLaws.{AtMost-covers}
 use Rattle.sk_nodes.proofs.NodeLaws.{covers_more, capped_top, shape_of-Nothing, shape_of-Leaf, shape_of-Pair, leaf_shape, shape_of-Tested, tested_shape, parts_shape, covers_along, weight_le, target_ended, head_reached, pair_top, pair_top_ended, sides_covers, sides_covers_ended, sides_begun, sides_more, size_along, paid_along}
-use Rattle.sk_nodes.proofs.OddLaws.{weights_fit, odd_covers, odd_more, odd_top, sides_split, sides_append, both_sound, sound_behind, from_behind, sought_behind, greatest_behind, unread_behind, sizes_behind, some_sizes}
+use Rattle.sk_nodes.proofs.OddLaws.{weights_fit, sides_cons, odd_covers, odd_more, odd_top, sides_split, sides_append, both_sound, sound_behind, from_behind, sought_behind, greatest_behind, unread_behind, sizes_behind, some_sizes}
 use Rattle.sk_nodes.specs.Proximity.{entries_from}
 use Rattle.sk_nodes.proofs.ProximityLaws.{test_begun, moved_all, moved_covers, passed_top, passed_sound, passed_covers, none_top, failed_ended_covers, failed_more}
 use Rattle.sk_nodes.specs.Flat.{Stays}
-use Rattle.sk_nodes.proofs.NodeLaws.{pair_covers, odd_shape, odd_written}
+use Rattle.sk_nodes.proofs.NodeLaws.{pair_covers, odd_shape, odd_written, any_shape, any_written}
 use Rattle.sk_nodes.proofs.StopLaws.{stays_same, stays_decayed, stays_along, stays_begun, stays_then, stays_on, stays_other, round_stays, round_ended}
-use Rattle.std.proofs.Common.{inr}
+use Rattle.std.proofs.Common.{None, inr}
 use Rattle.sk_nodes.specs.Led.{IsLed, Leads}
 use Rattle.sk_nodes.proofs.RareLaws.{leads_same, leads_decayed, leads_along, leads_other, leads_begun, leads_then, leads_on, led_round, led_round_ended, decayed_led, at_along, meets_lead}
 use Rattle.sk_nodes.specs.Fading.{Moves}
 use Rattle.sk_nodes.specs.Led.{IsLone}
 use Rattle.sk_nodes.proofs.FadingLaws.{moves_same, moves_decayed, fades_other, fades_along, under_same, under_leaf, under_moved, fades_begun, fades_half, fades_both, fades_on}
 use Rattle.sk_nodes.proofs.SkipLaws.{sides_skipped, stays_skipped, leads_skipped, fades_skipped}
+use Rattle.sk_nodes.specs.Any.{AreKept, AreWeighed}
+use Rattle.sk_nodes.proofs.AnyLaws.{none_head, any_leads, any_leads_needed, any_top, any_covers, any_stays, kept_behind, led_none, weighed_light, weighed_more, any_begun, any_led, any_weighed, any_on, any_matches, any_gone, any_gone_stays, any_ended_top, any_ended_sound, ended_unread}
 use Rattle.sk_nodes.proofs.moves.+seek.Goals as goal
 
 pub reach_inner-returns-clause-covers : goal.reach_inner-returns-clause-covers
@@ -110,11 +112,6 @@ seek_pair-returns-in-At-clause-reached g t c =
     let i = c.args.index.now in
     head_reached c.args.target c.args.need c.in-At.head c.in-At.weight _ _ (seek_pair-returns-in-At-clause-covers g t c)
     (c.in-At.ensures.meets (rest i (shape_of c.reach.new.node)) (rest i (shape_of c.reach-in-sides.new.node)) c.reach.ensures.top.head c.reach-in-sides.ensures.top.head) c.requires.target
-
-pub seek_pair-skip-from-requires-in-Behind-clause-from : goal.seek_pair-skip-from-requires-in-Behind-clause-from
-seek_pair-skip-from-requires-in-Behind-clause-from g t c =
-    let i = c.args.index.now in
-    (c.in-Behind.ensures.meets (rest i (shape_of c.reach.new.node)) (rest i (shape_of c.reach-in-sides.new.node)) c.reach.ensures.top.head c.reach-in-sides.ensures.top.head).within
 
 pub seek_pair-sides-smaller : goal.seek_pair-sides-smaller
 seek_pair-sides-smaller g t c =
@@ -573,3 +570,220 @@ seek_pair-returns-in-At-clause-fades g t c =
     c.sides.ta (shape_of c.sides.a) c.sides.tb (shape_of c.sides.b) c.reach.new.top (shape_of c.reach.new.node) c.sides.invariant.fades c.reach.ensures.moves
     c.reach-in-sides.new.spent c.second_target-next.result c.if-next-ge-END.false c.reach-in-sides.new.top (shape_of c.reach-in-sides.new.node) c.second_target-next.ensures c.reach-in-sides.ensures.moves
     c.in-At.head c.in-At.weight c.in-At.ensures.both
+
+-- ---- an or of many sides
+
+pub seek-returns-in-Any-clause-top : goal.seek-returns-in-Any-clause-top
+seek-returns-in-Any-clause-top g t c = subst (λ (s : Shape). IsTop c.args.index.now c.seek_any.new.top s) (sym (any_written _ _ c.seek_any.new.tops c.seek_any.new.nodes (search (rules, places)) (search (rules, places)))) c.seek_any.ensures.top
+
+pub seek-returns-in-Any-clause-sound : goal.seek-returns-in-Any-clause-sound
+seek-returns-in-Any-clause-sound g t c = subst (λ (s : Shape). Sound c.args.index.now s) (sym (any_written _ _ c.seek_any.new.tops c.seek_any.new.nodes (search (rules, places)) (search (rules, places)))) c.seek_any.ensures.sound
+
+pub seek-returns-in-Any-clause-covers : goal.seek-returns-in-Any-clause-covers
+seek-returns-in-Any-clause-covers g t c =
+    covers_along c.args.index.now c.args.target c.args.need _ _ _ _
+    (any_shape c.args.node.now c.in-Any.tops c.in-Any.nodes _ _ c.in-Any.is (c.deref_mut-in-Any.ensures.value ∙ ap (λ (v : Vec Top Global). v.items) c.in-Any.tops-is) (c.deref_mut-in-Any-2.ensures.value ∙ ap (λ (v : Vec Node Global). v.items) c.in-Any.nodes-is))
+    (any_written _ _ c.seek_any.new.tops c.seek_any.new.nodes (search (rules, places)) (search (rules, places))) c.seek_any.ensures.covers
+
+pub seek-returns-in-Any-clause-smaller : goal.seek-returns-in-Any-clause-smaller
+seek-returns-in-Any-clause-smaller g t c =
+    size_along _ _ _ _
+    (any_shape c.args.node.now c.in-Any.tops c.in-Any.nodes _ _ c.in-Any.is (c.deref_mut-in-Any.ensures.value ∙ ap (λ (v : Vec Top Global). v.items) c.in-Any.tops-is) (c.deref_mut-in-Any-2.ensures.value ∙ ap (λ (v : Vec Node Global). v.items) c.in-Any.nodes-is))
+    (any_written _ _ c.seek_any.new.tops c.seek_any.new.nodes (search (rules, places)) (search (rules, places))) (omega (arith, c.seek_any.ensures.smaller))
+
+pub seek-returns-in-Any-clause-paid : goal.seek-returns-in-Any-clause-paid
+seek-returns-in-Any-clause-paid g t c =
+    paid_along c.args.index.now _ _ _ _ c.args.spent.now c.seek_any.new.spent
+    (any_shape c.args.node.now c.in-Any.tops c.in-Any.nodes _ _ c.in-Any.is (c.deref_mut-in-Any.ensures.value ∙ ap (λ (v : Vec Top Global). v.items) c.in-Any.tops-is) (c.deref_mut-in-Any-2.ensures.value ∙ ap (λ (v : Vec Node Global). v.items) c.in-Any.nodes-is))
+    (any_written _ _ c.seek_any.new.tops c.seek_any.new.nodes (search (rules, places)) (search (rules, places))) c.seek_any.ensures.paid
+
+pub seek-returns-in-Any-clause-stays : goal.seek-returns-in-Any-clause-stays
+seek-returns-in-Any-clause-stays g t c =
+    stays_along c.args.index.now c.args.target c.args.need c.args.spent.now c.seek_any.new.spent _ _ _ _
+    (any_shape c.args.node.now c.in-Any.tops c.in-Any.nodes _ _ c.in-Any.is (c.deref_mut-in-Any.ensures.value ∙ ap (λ (v : Vec Top Global). v.items) c.in-Any.tops-is) (c.deref_mut-in-Any-2.ensures.value ∙ ap (λ (v : Vec Node Global). v.items) c.in-Any.nodes-is))
+    (any_written _ _ c.seek_any.new.tops c.seek_any.new.nodes (search (rules, places)) (search (rules, places))) c.seek_any.ensures.stays
+
+pub seek-returns-in-Any-clause-leads : goal.seek-returns-in-Any-clause-leads
+seek-returns-in-Any-clause-leads g t c =
+    leads_along c.args.index.now c.args.target c.args.need c.args.spent.now c.seek_any.new.spent _ _ _ _
+    (any_shape c.args.node.now c.in-Any.tops c.in-Any.nodes _ _ c.in-Any.is (c.deref_mut-in-Any.ensures.value ∙ ap (λ (v : Vec Top Global). v.items) c.in-Any.tops-is) (c.deref_mut-in-Any-2.ensures.value ∙ ap (λ (v : Vec Node Global). v.items) c.in-Any.nodes-is))
+    (any_written _ _ c.seek_any.new.tops c.seek_any.new.nodes (search (rules, places)) (search (rules, places)))
+    c.seek_any.ensures.leads
+
+pub seek-returns-in-Any-clause-at : goal.seek-returns-in-Any-clause-at
+seek-returns-in-Any-clause-at g t c led =
+    absurd (subst (λ (s : Shape). IsLed c.args.index.now s)
+    (any_shape c.args.node.now c.in-Any.tops c.in-Any.nodes _ _ c.in-Any.is (c.deref_mut-in-Any.ensures.value ∙ ap (λ (v : Vec Top Global). v.items) c.in-Any.tops-is) (c.deref_mut-in-Any-2.ensures.value ∙ ap (λ (v : Vec Node Global). v.items) c.in-Any.nodes-is)) led)
+
+pub seek-returns-in-Any-clause-fades : goal.seek-returns-in-Any-clause-fades
+seek-returns-in-Any-clause-fades g t c =
+    fades_along c.args.index.now c.args.target c.args.spent.now c.seek_any.new.spent _ _ _ _
+    (any_shape c.args.node.now c.in-Any.tops c.in-Any.nodes _ _ c.in-Any.is (c.deref_mut-in-Any.ensures.value ∙ ap (λ (v : Vec Top Global). v.items) c.in-Any.tops-is) (c.deref_mut-in-Any-2.ensures.value ∙ ap (λ (v : Vec Node Global). v.items) c.in-Any.nodes-is))
+    (any_written _ _ c.seek_any.new.tops c.seek_any.new.nodes (search (rules, places)) (search (rules, places)))
+    (fades_other c.args.index.now c.args.target c.args.spent.now c.seek_any.new.spent (any _) (any _) (λ greatest first h. h))
+
+pub seek-returns-in-Any-clause-moves : goal.seek-returns-in-Any-clause-moves
+seek-returns-in-Any-clause-moves g t c lone =
+    absurd (subst (λ (s : Shape). IsLone s)
+    (any_shape c.args.node.now c.in-Any.tops c.in-Any.nodes _ _ c.in-Any.is (c.deref_mut-in-Any.ensures.value ∙ ap (λ (v : Vec Top Global). v.items) c.in-Any.tops-is) (c.deref_mut-in-Any-2.ensures.value ∙ ap (λ (v : Vec Node Global). v.items) c.in-Any.nodes-is)) lone)
+
+pub seek_all-first_of-first-requires : goal.seek_all-first_of-first-requires
+seek_all-first_of-first-requires g t c =
+    omega (arith, weights_fit c.args.index.now (sides_on c.reach_all.new.tops c.reach_all.new.nodes) c.reach_all.ensures.sound, c.reach_all.ensures.falls, c.requires.sides.fits)
+
+pub seek_all-returns-clause-top : goal.seek_all-returns-clause-top
+seek_all-returns-clause-top g t c =
+    let i = c.args.index.now in
+    any_top i (sides_on c.reach_all.new.tops c.reach_all.new.nodes) _ c.reach_all.ensures.sound
+    (c.first_of-first.ensures.first i (λ id. None) c.reach_all.ensures.sound none_head)
+    c.odd_greatest-top.ensures.there c.odd_greatest-top.ensures.ended
+
+pub seek_all-returns-clause-covers : goal.seek_all-returns-clause-covers
+seek_all-returns-clause-covers g t c =
+    any_covers c.args.index.now c.args.target c.args._need (sides_on c.args.tops.now c.args.nodes.now) (sides_on c.reach_all.new.tops c.reach_all.new.nodes) c.reach_all.ensures.sought
+
+pub seek_all-returns-clause-stays : goal.seek_all-returns-clause-stays
+seek_all-returns-clause-stays g t c =
+    any_stays c.args.index.now c.args.target c.args._need c.args.spent.now c.reach_all.new.spent (sides_on c.args.tops.now c.args.nodes.now) (sides_on c.reach_all.new.tops c.reach_all.new.nodes) c.requires.target c.reach_all.ensures.kept
+
+pub reach_all-returns-clause-kept : goal.reach_all-returns-clause-kept
+reach_all-returns-clause-kept g t c =
+    let i = c.args.index.now in
+    subst (λ (ss : Sides). AreKept i c.args.target c.args.spent.now c.reach_all-2.new.spent ss (sides_on (c.reach_all.new.tops ++ c.reach_all-2.new.tops) (c.reach_all.new.nodes ++ c.reach_all-2.new.nodes))) (sym (sides_split _ c.args.tops.now _ _ c.args.nodes.now _ _ c.split_at_mut-front_tops.ensures.front c.split_at_mut-front_tops.ensures.back c.split_at_mut-front_nodes.ensures.front c.split_at_mut-front_nodes.ensures.back))
+    (subst (λ (ss : Sides). AreKept i c.args.target c.args.spent.now c.reach_all-2.new.spent (followed_by (sides_on c.split_at_mut-front_tops.result.0.now c.split_at_mut-front_nodes.result.0.now) (sides_on c.split_at_mut-front_tops.result.1.now c.split_at_mut-front_nodes.result.1.now)) ss) (sym (sides_append c.reach_all.new.tops c.reach_all-2.new.tops c.reach_all.new.nodes c.reach_all-2.new.nodes (omega (arith, c.reach_all.auto.tops, c.reach_all.auto.nodes, c.split_at_mut-front_tops.ensures.front_len, c.split_at_mut-front_nodes.ensures.front_len))))
+    (kept_behind i c.args.target c.args.spent.now c.reach_all.new.spent c.reach_all-2.new.spent (sides_on c.split_at_mut-front_tops.result.0.now c.split_at_mut-front_nodes.result.0.now) (sides_on c.split_at_mut-front_tops.result.1.now c.split_at_mut-front_nodes.result.1.now) (sides_on c.reach_all.new.tops c.reach_all.new.nodes) (sides_on c.reach_all-2.new.tops c.reach_all-2.new.nodes) c.reach_all.ensures.kept c.reach_all-2.ensures.kept))
+
+pub seek_all-returns-clause-reached : goal.seek_all-returns-clause-reached
+seek_all-returns-clause-reached g t c = c.first_of-first.ensures.reached c.args.target (omega (arith, c.requires.target)) c.reach_all.ensures.reached
+
+pub seek_pair-skip-from-requires-in-Behind-clause-from : goal.seek_pair-skip-from-requires-in-Behind-clause-from
+seek_pair-skip-from-requires-in-Behind-clause-from g t c =
+    let i = c.args.index.now in
+    (c.in-Behind.ensures.meets (rest i (shape_of c.reach.new.node)) (rest i (shape_of c.reach-in-sides.new.node)) c.reach.ensures.top.head c.reach-in-sides.ensures.top.head).within
+
+-- ---- an or of many sides, where something is needed
+
+pub seek_some-matches-init : goal.seek_some-matches-init
+seek_some-matches-init g t c =
+    record {
+      far = any_begun c.args.index.now c.args.target c.args.need c.args.spent.now (sides_on c.args.tops.now c.args.nodes.now) c.requires.sides;
+      within = c.requires.target;
+      paid = omega arith;
+      counted = omega arith;
+      later = omega arith;
+    }
+
+pub seek_some-returns-then-head-ge-END-clause-top : goal.seek_some-returns-then-head-ge-END-clause-top
+seek_some-returns-then-head-ge-END-clause-top g t c =
+    let i = c.args.index.now in
+    subst (λ (u : Top). IsTop i u (any (sides_on c.end_sides.new.tops c.end_sides.new.nodes))) (sym c.end_sides.ensures.top) (any_ended_top i (sides_on c.end_sides.new.tops c.end_sides.new.nodes) c.end_sides.ensures.over)
+
+pub seek_some-returns-then-head-ge-END-clause-sound : goal.seek_some-returns-then-head-ge-END-clause-sound
+seek_some-returns-then-head-ge-END-clause-sound g t c =
+    any_ended_sound c.args.index.now (sides_on c.end_sides.new.tops c.end_sides.new.nodes) c.end_sides.ensures.over
+
+pub seek_some-returns-then-head-ge-END-clause-covers : goal.seek_some-returns-then-head-ge-END-clause-covers
+seek_some-returns-then-head-ge-END-clause-covers g t c =
+    let i = c.args.index.now in
+    any_gone i c.args.target c.args.need c.requires.needed c.args.spent.now (sides_on c.args.tops.now c.args.nodes.now) c.lead-head.result c.lead-head.new.spent (sides_on c.lead-head.new.tops c.lead-head.new.nodes) (sides_on c.end_sides.new.tops c.end_sides.new.nodes) c.requires.sides.sides (omega (arith, c.if-head-ge-END.true))
+    (any_led i c.args.target c.args.need c.requires.needed c.args.spent.now (sides_on c.args.tops.now c.args.nodes.now) c.matches.from c.lead-head.result c.matches.spent c.lead-head.new.spent (sides_on c.matches.tops c.matches.nodes) (sides_on c.lead-head.new.tops c.lead-head.new.nodes) c.matches.invariant.within
+    c.matches.invariant.far c.lead-head.ensures.led c.lead-head.ensures.sound c.lead-head.ensures.falls c.lead-head.ensures.smaller c.lead-head.ensures.kept)
+    c.end_sides.ensures.over
+
+pub seek_some-returns-then-head-ge-END-clause-paid : goal.seek_some-returns-then-head-ge-END-clause-paid
+seek_some-returns-then-head-ge-END-clause-paid g t c =
+    let i = c.args.index.now in
+    let none = ended_unread i (sides_on c.end_sides.new.tops c.end_sides.new.nodes) c.end_sides.ensures.over in
+    omega (arith, none, c.matches.invariant.paid, c.lead-head.ensures.paid)
+
+pub seek_some-returns-then-head-ge-END-clause-stays : goal.seek_some-returns-then-head-ge-END-clause-stays
+seek_some-returns-then-head-ge-END-clause-stays g t c =
+    let i = c.args.index.now in
+    any_gone_stays i c.args.target c.args.need c.requires.needed c.args.spent.now (sides_on c.args.tops.now c.args.nodes.now) c.lead-head.result c.lead-head.new.spent (sides_on c.lead-head.new.tops c.lead-head.new.nodes) (sides_on c.end_sides.new.tops c.end_sides.new.nodes)
+    (any_led i c.args.target c.args.need c.requires.needed c.args.spent.now (sides_on c.args.tops.now c.args.nodes.now) c.matches.from c.lead-head.result c.matches.spent c.lead-head.new.spent (sides_on c.matches.tops c.matches.nodes) (sides_on c.lead-head.new.tops c.lead-head.new.nodes) c.matches.invariant.within
+    c.matches.invariant.far c.lead-head.ensures.led c.lead-head.ensures.sound c.lead-head.ensures.falls c.lead-head.ensures.smaller c.lead-head.ensures.kept)
+    c.end_sides.ensures.over
+
+pub seek_some-returns-then-from-ge-END-clause-top : goal.seek_some-returns-then-from-ge-END-clause-top
+seek_some-returns-then-from-ge-END-clause-top g t c =
+    let i = c.args.index.now in
+    subst (λ (u : Top). IsTop i u (any (sides_on c.end_sides-then-from-ge-END.new.tops c.end_sides-then-from-ge-END.new.nodes))) (sym c.end_sides-then-from-ge-END.ensures.top) (any_ended_top i (sides_on c.end_sides-then-from-ge-END.new.tops c.end_sides-then-from-ge-END.new.nodes) c.end_sides-then-from-ge-END.ensures.over)
+
+pub seek_some-returns-then-from-ge-END-clause-sound : goal.seek_some-returns-then-from-ge-END-clause-sound
+seek_some-returns-then-from-ge-END-clause-sound g t c =
+    any_ended_sound c.args.index.now (sides_on c.end_sides-then-from-ge-END.new.tops c.end_sides-then-from-ge-END.new.nodes) c.end_sides-then-from-ge-END.ensures.over
+
+pub seek_some-returns-then-from-ge-END-clause-covers : goal.seek_some-returns-then-from-ge-END-clause-covers
+seek_some-returns-then-from-ge-END-clause-covers g t c =
+    let i = c.args.index.now in
+    any_gone i c.args.target c.args.need c.requires.needed c.args.spent.now (sides_on c.args.tops.now c.args.nodes.now) (c.lead-head.result + 1) c.weigh-weight.new.spent (sides_on c.weigh-weight.new.tops c.weigh-weight.new.nodes) (sides_on c.end_sides-then-from-ge-END.new.tops c.end_sides-then-from-ge-END.new.nodes) c.requires.sides.sides (omega (arith, c.if-from-ge-END.true))
+    (any_on i c.args.target c.args.need c.requires.needed c.args.spent.now (sides_on c.args.tops.now c.args.nodes.now) c.lead-head.result c.weigh-weight.new.spent c.weigh-weight.result (sides_on c.lead-head.new.tops c.lead-head.new.nodes) (sides_on c.weigh-weight.new.tops c.weigh-weight.new.nodes)
+    (any_weighed i c.args.target c.args.need c.requires.needed c.args.spent.now (sides_on c.args.tops.now c.args.nodes.now) c.lead-head.result c.lead-head.new.spent c.weigh-weight.new.spent c.weigh-weight.result (sides_on c.lead-head.new.tops c.lead-head.new.nodes) (sides_on c.weigh-weight.new.tops c.weigh-weight.new.nodes) (omega (arith, c.if-head-ge-END.false))
+    (any_led i c.args.target c.args.need c.requires.needed c.args.spent.now (sides_on c.args.tops.now c.args.nodes.now) c.matches.from c.lead-head.result c.matches.spent c.lead-head.new.spent (sides_on c.matches.tops c.matches.nodes) (sides_on c.lead-head.new.tops c.lead-head.new.nodes) c.matches.invariant.within
+    c.matches.invariant.far c.lead-head.ensures.led c.lead-head.ensures.sound c.lead-head.ensures.falls c.lead-head.ensures.smaller c.lead-head.ensures.kept)
+    c.weigh-weight.ensures.weighed c.weigh-weight.ensures.sound c.weigh-weight.ensures.falls c.weigh-weight.ensures.smaller c.weigh-weight.ensures.kept)
+    c.weigh-weight.ensures.weighed (omega (arith, c.if-weight-need.false)))
+    c.end_sides-then-from-ge-END.ensures.over
+
+pub seek_some-returns-then-from-ge-END-clause-paid : goal.seek_some-returns-then-from-ge-END-clause-paid
+seek_some-returns-then-from-ge-END-clause-paid g t c =
+    let i = c.args.index.now in
+    let none = ended_unread i (sides_on c.end_sides-then-from-ge-END.new.tops c.end_sides-then-from-ge-END.new.nodes) c.end_sides-then-from-ge-END.ensures.over in
+    omega (arith, none, c.matches.invariant.paid, c.lead-head.ensures.paid, c.weigh-weight.ensures.paid)
+
+pub seek_some-returns-then-from-ge-END-clause-stays : goal.seek_some-returns-then-from-ge-END-clause-stays
+seek_some-returns-then-from-ge-END-clause-stays g t c =
+    let i = c.args.index.now in
+    any_gone_stays i c.args.target c.args.need c.requires.needed c.args.spent.now (sides_on c.args.tops.now c.args.nodes.now) (c.lead-head.result + 1) c.weigh-weight.new.spent (sides_on c.weigh-weight.new.tops c.weigh-weight.new.nodes) (sides_on c.end_sides-then-from-ge-END.new.tops c.end_sides-then-from-ge-END.new.nodes)
+    (any_on i c.args.target c.args.need c.requires.needed c.args.spent.now (sides_on c.args.tops.now c.args.nodes.now) c.lead-head.result c.weigh-weight.new.spent c.weigh-weight.result (sides_on c.lead-head.new.tops c.lead-head.new.nodes) (sides_on c.weigh-weight.new.tops c.weigh-weight.new.nodes)
+    (any_weighed i c.args.target c.args.need c.requires.needed c.args.spent.now (sides_on c.args.tops.now c.args.nodes.now) c.lead-head.result c.lead-head.new.spent c.weigh-weight.new.spent c.weigh-weight.result (sides_on c.lead-head.new.tops c.lead-head.new.nodes) (sides_on c.weigh-weight.new.tops c.weigh-weight.new.nodes) (omega (arith, c.if-head-ge-END.false))
+    (any_led i c.args.target c.args.need c.requires.needed c.args.spent.now (sides_on c.args.tops.now c.args.nodes.now) c.matches.from c.lead-head.result c.matches.spent c.lead-head.new.spent (sides_on c.matches.tops c.matches.nodes) (sides_on c.lead-head.new.tops c.lead-head.new.nodes) c.matches.invariant.within
+    c.matches.invariant.far c.lead-head.ensures.led c.lead-head.ensures.sound c.lead-head.ensures.falls c.lead-head.ensures.smaller c.lead-head.ensures.kept)
+    c.weigh-weight.ensures.weighed c.weigh-weight.ensures.sound c.weigh-weight.ensures.falls c.weigh-weight.ensures.smaller c.weigh-weight.ensures.kept)
+    c.weigh-weight.ensures.weighed (omega (arith, c.if-weight-need.false)))
+    c.end_sides-then-from-ge-END.ensures.over
+
+pub seek_some-returns-then-weight-need-clause-top : goal.seek_some-returns-then-weight-need-clause-top
+seek_some-returns-then-weight-need-clause-top g t c =
+    let i = c.args.index.now in
+    any_top i (sides_on c.weigh-weight.new.tops c.weigh-weight.new.nodes) _ c.weigh-weight.ensures.sound
+    (any_matches i c.args.target c.args.need c.requires.needed c.args.spent.now (sides_on c.args.tops.now c.args.nodes.now) c.lead-head.result c.weigh-weight.new.spent c.weigh-weight.result (sides_on c.lead-head.new.tops c.lead-head.new.nodes) (sides_on c.weigh-weight.new.tops c.weigh-weight.new.nodes) (omega (arith, c.if-head-ge-END.false))
+    (any_weighed i c.args.target c.args.need c.requires.needed c.args.spent.now (sides_on c.args.tops.now c.args.nodes.now) c.lead-head.result c.lead-head.new.spent c.weigh-weight.new.spent c.weigh-weight.result (sides_on c.lead-head.new.tops c.lead-head.new.nodes) (sides_on c.weigh-weight.new.tops c.weigh-weight.new.nodes) (omega (arith, c.if-head-ge-END.false))
+    (any_led i c.args.target c.args.need c.requires.needed c.args.spent.now (sides_on c.args.tops.now c.args.nodes.now) c.matches.from c.lead-head.result c.matches.spent c.lead-head.new.spent (sides_on c.matches.tops c.matches.nodes) (sides_on c.lead-head.new.tops c.lead-head.new.nodes) c.matches.invariant.within
+    c.matches.invariant.far c.lead-head.ensures.led c.lead-head.ensures.sound c.lead-head.ensures.falls c.lead-head.ensures.smaller c.lead-head.ensures.kept)
+    c.weigh-weight.ensures.weighed c.weigh-weight.ensures.sound c.weigh-weight.ensures.falls c.weigh-weight.ensures.smaller c.weigh-weight.ensures.kept)
+    c.weigh-weight.ensures.weighed (omega (arith, c.if-weight-need.true)))
+    c.odd_greatest-top.ensures.there c.odd_greatest-top.ensures.ended
+
+pub lead-returns-then-most-need-clause-led : goal.lead-returns-then-most-need-clause-led
+lead-returns-then-most-need-clause-led g t c =
+    led_none c.args.index.now c.args.need c.args.from c.args.last c.args.most (sides_on c.args.tops.now c.args.nodes.now) c.requires.sound c.requires.most (omega (arith, c.if-most-need.true)) c.requires.last
+
+pub weigh-returns-then-others-most-clause-weighed : goal.weigh-returns-then-others-most-clause-weighed
+weigh-returns-then-others-most-clause-weighed g t c =
+    weighed_light c.args.index.now c.args.need c.args.id c.args.others c.args.most (sides_on c.args.tops.now c.args.nodes.now) c.requires.sound c.requires.most (omega (arith, c.if-others-most.true))
+
+pub weigh-returns-in-Some-split_first_mut-clause-weighed : goal.weigh-returns-in-Some-split_first_mut-clause-weighed
+weigh-returns-in-Some-split_first_mut-clause-weighed g t c =
+    let i = c.args.index.now in
+    subst (λ (ss : Sides). AreWeighed i c.args.need c.args.id c.args.others c.weigh.result ss (side c.reach.new.top (shape_of c.reach.new.node) (sides_on c.weigh.new.tops c.weigh.new.nodes)))
+    (sym (sides_cons c.args.tops.now c.in-Some.tops.now c.args.nodes.now c.in-Some-split_first_mut.nodes.now _ _ c.in-Some.ensures.cases c.in-Some-split_first_mut.ensures.cases))
+    (weighed_more i c.args.need c.args.id c.args.others c.weight_at.result c.weigh.result _ _ (sides_on c.in-Some.tops.now c.in-Some-split_first_mut.nodes.now) c.reach.new.top (shape_of c.reach.new.node) (sides_on c.weigh.new.tops c.weigh.new.nodes)
+    c.reach.ensures.top c.reach.ensures.reached c.reach.ensures.covers
+    (c.weight_at.ensures.there (rest i (shape_of c.reach.new.node)) c.reach.ensures.top.head c.reach.ensures.reached c.requires.id) c.weigh.ensures.weighed)
+
+pub seek_all-returns-clause-leads : goal.seek_all-returns-clause-leads
+seek_all-returns-clause-leads g t c =
+    any_leads c.args.index.now c.args.target c.args._need c.args.spent.now c.reach_all.new.spent (sides_on c.args.tops.now c.args.nodes.now) (sides_on c.reach_all.new.tops c.reach_all.new.nodes) c.reach_all.ensures.kept
+
+pub seek_some-returns-then-head-ge-END-clause-leads : goal.seek_some-returns-then-head-ge-END-clause-leads
+seek_some-returns-then-head-ge-END-clause-leads g t c =
+    any_leads_needed c.args.index.now c.args.target c.args.need c.args.spent.now c.lead-head.new.spent (sides_on c.args.tops.now c.args.nodes.now) (sides_on c.end_sides.new.tops c.end_sides.new.nodes) c.requires.needed
+
+pub seek_some-returns-then-weight-need-clause-leads : goal.seek_some-returns-then-weight-need-clause-leads
+seek_some-returns-then-weight-need-clause-leads g t c =
+    any_leads_needed c.args.index.now c.args.target c.args.need c.args.spent.now c.weigh-weight.new.spent (sides_on c.args.tops.now c.args.nodes.now) (sides_on c.weigh-weight.new.tops c.weigh-weight.new.nodes) c.requires.needed
+
+pub seek_some-returns-then-from-ge-END-clause-leads : goal.seek_some-returns-then-from-ge-END-clause-leads
+seek_some-returns-then-from-ge-END-clause-leads g t c =
+    any_leads_needed c.args.index.now c.args.target c.args.need c.args.spent.now c.weigh-weight.new.spent (sides_on c.args.tops.now c.args.nodes.now) (sides_on c.end_sides-then-from-ge-END.new.tops c.end_sides-then-from-ge-END.new.nodes) c.requires.needed

@@ -1,5 +1,5 @@
 -- How large the nodes are, and how far two sides have come.
-use Rattle.std.proofs.Common.{◌≡◌, ◌≤◌, ◌+◌, ◌^◌, ◌-◌, ◌*◌}
+use Rattle.std.proofs.Common.{◌≡◌, ◌≤◌, ◌<◌, ◌+◌, ◌^◌, ◌-◌, ◌*◌}
 use Rattle.sk_nodes.specs.Shapes.{shape_of, size_of, sides_on, sizes_in}
 use Rattle.sk_nodes.specs.Left.{unread_of, unread_in}
 use Rattle.sk_nodes.proofs.NodeLaws.{SidesSoFar}
@@ -8,6 +8,7 @@ use Rattle.sk_nodes.proofs.RareLaws.{LeadsSoFar}
 use Rattle.sk_nodes.proofs.FadingLaws.{FadesSoFar}
 use Rattle.sk_nodes.specs.Proximity.{entries_from}
 use Rattle.sk_nodes.proofs.OddLaws.{OddSoFar}
+use Rattle.sk_nodes.proofs.AnyLaws.{AnySoFar}
 use Rattle.sk_nodes.proofs.ProximityLaws.{TestSoFar}
 use Rattle.sk_nodes.proofs.moves.+seek.Given as goal
 
@@ -42,6 +43,33 @@ decreases-seek_pair-sides g l = 2 ^ 32 - l.from
 
 abbrev pub decreases-seek_odd : goal.decreases-seek_odd
 decreases-seek_odd g l = 5 * sizes_in (sides_on l.tops.now l.nodes.now) + 4
+
+abbrev pub decreases-seek_any : goal.decreases-seek_any
+decreases-seek_any g l = 5 * sizes_in (sides_on l.tops.now l.nodes.now) + 5
+
+abbrev pub decreases-seek_some : goal.decreases-seek_some
+decreases-seek_some g l = 5 * sizes_in (sides_on l.tops.now l.nodes.now) + 4
+
+abbrev pub decreases-lead : goal.decreases-lead
+decreases-lead g l = 5 * sizes_in (sides_on l.tops.now l.nodes.now) + 2
+
+abbrev pub decreases-weigh : goal.decreases-weigh
+decreases-weigh g l = 5 * sizes_in (sides_on l.tops.now l.nodes.now) + 2
+
+abbrev pub invariant-seek_some-matches : goal.invariant-seek_some-matches
+invariant-seek_some-matches g l = record {
+  far : AnySoFar l.index l.target l.need l.from l.fn.spent l.spent (sides_on l.fn.tops l.fn.nodes) (sides_on l.tops l.nodes);
+  within : l.from < 2 ^ 32;
+  paid : l.spent + unread_in l.index (sides_on l.tops l.nodes) ≤ l.fn.spent + unread_in l.index (sides_on l.fn.tops l.fn.nodes);
+  counted : l.steps + l.fn.spent ≡ l.fn.steps + l.spent;
+  later : l.fn.spent ≤ l.spent;
+}
+
+abbrev pub decreases-seek_some-matches : goal.decreases-seek_some-matches
+decreases-seek_some-matches g l = 2 ^ 32 - l.from
+
+abbrev pub decreases-seek_all : goal.decreases-seek_all
+decreases-seek_all g l = 5 * sizes_in (sides_on l.tops.now l.nodes.now) + 4
 
 abbrev pub decreases-reach_all : goal.decreases-reach_all
 decreases-reach_all g l = 5 * sizes_in (sides_on l.tops.now l.nodes.now) + 3

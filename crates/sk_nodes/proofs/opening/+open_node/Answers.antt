@@ -23,6 +23,8 @@ use Rattle.std.proofs.Common.{List, [], ◌∷◌}
 use Rattle.sk_nodes.specs.Opened.{count_in}
 use Rattle.sk_nodes.proofs.CountLaws.{counted}
 use Rattle.sk_nodes.proofs.OpenedFadingLaws.{term_alone, split_decays, one_alone, one_not_two, many_not_one, odd_not_or, parts_or}
+use Rattle.sk_nodes.specs.Any.{OpensTerms}
+use Rattle.sk_nodes.proofs.AnyOpenLaws.{one_opens, opens_both, terms_nest, terms_follow, many_not_two, or_leads_not}
 use Rattle.sk_nodes.proofs.opening.+open_node.Goals as goal
 
 pub open_sides-returns-clause-opens : goal.open_sides-returns-clause-opens
@@ -198,3 +200,36 @@ open_parts-returns-in-Some-odd_parts-clause-begun g t c term e = absurd (many_no
 
 pub open_parts-returns-in-Some-odd_parts-clause-fading : goal.open_parts-returns-in-Some-odd_parts-clause-fading
 open_parts-returns-in-Some-odd_parts-clause-fading g t c x y is e = absurd (odd_not_or c.args.form (count_in (queries_view c.args.parts.now)) c.in-Some-odd_parts.ensures.odd is)
+
+-- ---- an or of many sides
+
+pub open_sides-returns-in-Some-clause-terms : goal.open_sides-returns-in-Some-clause-terms
+open_sides-returns-in-Some-clause-terms g t c lists e =
+    let i = c.args.index.now in
+    one_term (queries_view c.args.parts.now) (query_view c.in-Some.part.now) lists (λ ts. OpensTerms i (sides_on c.in_ok-tops.tops.items c.in_ok-tops.nodes.items) ts c.args.spent.now c.open_node.new.spent) c.in-Some.ensures.alone e
+    (λ term is. one_opens i c.in_ok-top.top (shape_of c.in_ok-top.node) _ (term ∷ []) c.args.spent.now c.open_node.new.spent c.in_ok-tops.ensures.sides (c.in_ok-top.ensures.alone term Form.Or is)
+    (lone_following i c.in_ok-top.top (shape_of c.in_ok-top.node) term c.args.spent.now c.open_node.new.spent (c.in_ok-top.ensures.lone term is)))
+
+pub open_sides-returns-clause-terms : goal.open_sides-returns-clause-terms
+open_sides-returns-clause-terms g t c lists e =
+    let i = c.args.index.now in
+    let split = c.odd_halves.ensures.terms lists e in
+    opens_both i (sides_on c.in_ok-tops-2.tops.items c.in_ok-tops-2.nodes.items) (sides_on c.in_ok-some_tops.some_tops.items c.in_ok-some_tops.some_nodes.items) (sides_on c.in_ok-more_tops.more_tops.items c.in_ok-more_tops.more_nodes.items)
+    lists split.first split.second _ _ _ c.in_ok-tops-2.ensures.sides split.whole (c.in_ok-some_tops.ensures.terms split.first split.front_is) (c.in_ok-more_tops.ensures.terms split.second split.back_is)
+
+pub open_parts-returns-in-Some-any_parts-clause-nest : goal.open_parts-returns-in-Some-any_parts-clause-nest
+open_parts-returns-in-Some-any_parts-clause-nest g t c lists joint e =
+    terms_nest c.args.index.now c.args.form (sides_on c.in_ok-all_tops.all_tops.items c.in_ok-all_tops.all_nodes.items) (shape_of c.any_of-node.result.1) lists _ _ _ c.in-Some-any_parts.ensures.form (c.in_ok-all_tops.ensures.terms lists (sym c.in-Some-any_parts.ensures.terms ∙ e)) c.any_of-node.ensures.stays c.any_of-node.ensures.leads
+
+pub open_parts-returns-in-Some-any_parts-clause-led : goal.open_parts-returns-in-Some-any_parts-clause-led
+open_parts-returns-in-Some-any_parts-clause-led g t c lists can e = absurd (or_leads_not c.args.form lists c.in-Some-any_parts.ensures.form can)
+
+pub open_parts-returns-in-Some-any_parts-clause-follows : goal.open_parts-returns-in-Some-any_parts-clause-follows
+open_parts-returns-in-Some-any_parts-clause-follows g t c lists so e =
+    terms_follow c.args.index.now (queries_view c.args.parts.now) (sides_on c.in_ok-all_tops.all_tops.items c.in_ok-all_tops.all_nodes.items) (shape_of c.any_of-node.result.1) lists _ _ _ c.in-Some-any_parts.ensures.many e (c.in_ok-all_tops.ensures.terms lists (sym c.in-Some-any_parts.ensures.terms ∙ e)) c.any_of-node.ensures.leads
+
+pub open_parts-returns-in-Some-any_parts-clause-begun : goal.open_parts-returns-in-Some-any_parts-clause-begun
+open_parts-returns-in-Some-any_parts-clause-begun g t c term e = let many = c.in-Some-any_parts.ensures.many in absurd (many_not_one (queries_view c.args.parts.now) term (omega (arith, many)) e)
+
+pub open_parts-returns-in-Some-any_parts-clause-fading : goal.open_parts-returns-in-Some-any_parts-clause-fading
+open_parts-returns-in-Some-any_parts-clause-fading g t c x y is e = absurd (many_not_two (queries_view c.args.parts.now) x y c.in-Some-any_parts.ensures.many e)

@@ -5,6 +5,7 @@ use Rattle.sk_query.specs.declared.form.Form.{Form}
 use Rattle.sk_nodes.specs.Opened.{count_in}
 use Rattle.sk_nodes.proofs.CountLaws.{counted}
 use Rattle.sk_nodes.proofs.OpenLaws.{joined, parts_joined, split_front, split_back, split_front_size, split_back_size, split_readings, halves_scores, halves_ceiling}
+use Rattle.sk_nodes.proofs.NestLaws.{split_terms}
 use Rattle.sk_nodes.proofs.opening.odd_halves.Goals as goal
 
 whole : (c : goal.After-split_at) → queries_view c.args.parts.now ≡ joined (queries_view c.split_at.result.0.now) (queries_view c.split_at.result.1.now)
@@ -36,3 +37,6 @@ returns-clause-ceiling c = halves_ceiling c.args._factor _ _ _ (whole c)
 
 pub returns-clause-readings : goal.returns-clause-readings
 returns-clause-readings c = split_readings Form.Xor c.args._factor _ _ _ (whole c) c.requires.parts (front_some c) (back_some c)
+
+pub returns-clause-terms : goal.returns-clause-terms
+returns-clause-terms c lists e = split_terms (queries_view c.args.parts.now) (queries_view c.split_at.result.0.now) (queries_view c.split_at.result.1.now) lists (whole c) e

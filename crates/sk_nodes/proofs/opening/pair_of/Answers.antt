@@ -24,7 +24,7 @@ pub returns-clause-nest : goal.returns-clause-nest
 returns-clause-nest g c joint first second =
     let i = c.args.index.now in
     let shape = pair_shape _ c.args.form c.seek_pair.new.ta c.seek_pair.new.tb c.in_ok-a.a c.in_ok-b.b c.seek_pair.new.a c.seek_pair.new.b refl (sym c.in_ok-a.ensures.ok) (sym c.in_ok-b.ensures.ok) in
-    paired_nest i c.args.form _ _ c.args.ta (shape_of c.args.a) c.args.tb (shape_of c.args.b) _ (stays_along i 0 0 _ _ _ _ _ _ refl shape c.seek_pair.ensures.stays) first second joint
+    paired_nest i c.args.form _ _ c.args.ta (shape_of c.args.a) c.args.tb (shape_of c.args.b) _ (stays_along i 0 0 _ _ _ _ _ _ refl shape c.seek_pair.ensures.stays) (leads_along i 0 0 _ _ _ _ _ _ refl shape c.seek_pair.ensures.leads) first second joint
 
 pub returns-clause-leads : goal.returns-clause-leads
 returns-clause-leads g c =

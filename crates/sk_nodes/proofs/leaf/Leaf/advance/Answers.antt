@@ -7,8 +7,6 @@ use Rattle.sk_nodes.specs.Leaves.{leaf_rest}
 use Rattle.sk_nodes.proofs.LeafLaws.{sought_covers, head_of-reached, leaf_moved, head_is_below, AtMost-covers}
 use Rattle.std.proofs.Common.{ap, ◌∙◌, arith}
 use Rattle.sk_chunks.specs.Postings.{Postings, is_below}
-use Rattle.sk_lists.specs.declared.cursor.Cursor.{Cursor}
-use Rattle.sk_nodes.specs.Leaves.{head_of}
 use Rattle.sk_nodes.proofs.WalkLaws.{head_below, goes_on, fewer_to, fewer_behind, one_passed}
 use Rattle.sk_nodes.proofs.leaf.Leaf.advance.Goals as goal
 

@@ -1,5 +1,5 @@
 -- A wdf that is no greater weighs no more.
-use Rattle.std.proofs.Common.{◌≡◌, ◌≤◌, ◌∙◌, unwrap_or, ap, subst, sym}
+use Rattle.std.proofs.Common.{◌≤◌, ◌∙◌, unwrap_or, ap, subst, sym}
 use Rattle.sk_lists.specs.Lists.{Runs}
 use Rattle.sk_lists.specs.Seeks.{AreWithin}
 use Rattle.sk_lists.specs.Cursor.{left}

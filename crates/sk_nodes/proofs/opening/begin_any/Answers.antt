@@ -1,0 +1,36 @@
+-- Sides that were moved on without a need give what they gave, in any order.
+use Rattle.std.proofs.Common.{◌∙◌, arith}
+use Rattle.sk_nodes.specs.Shapes.{sides_on}
+use Rattle.sk_nodes.proofs.AnyLaws.{any_gives}
+use Rattle.sk_nodes.proofs.OrderLaws.{order_stays, order_leads}
+use Rattle.sk_nodes.proofs.opening.begin_any.Goals as goal
+
+pub seek_any-requires : goal.seek_any-requires
+seek_any-requires g c =
+    let order = c.put_in_order.ensures.same c.args.index.now in
+    record {
+      sides = record { sides = order.sound c.requires.sound; fits = omega (arith, order.greatest, c.requires.fits) };
+      target = omega arith;
+      room = omega (arith, order.unread, c.requires.room);
+    }
+
+pub returns-clause-gives : goal.returns-clause-gives
+returns-clause-gives g c id =
+    any_gives c.args.index.now id (sides_on c.put_in_order.new.tops c.put_in_order.new.nodes) (sides_on c.seek_any.new.tops c.seek_any.new.nodes) c.seek_any.ensures.covers
+    ∙ (c.put_in_order.ensures.same c.args.index.now).same id
+
+pub returns-clause-ceiling : goal.returns-clause-ceiling
+returns-clause-ceiling g c = let order = c.put_in_order.ensures.same c.args.index.now in omega (arith, order.greatest, c.seek_any.ensures.falls)
+
+pub returns-clause-paid : goal.returns-clause-paid
+returns-clause-paid g c = let order = c.put_in_order.ensures.same c.args.index.now in omega (arith, order.unread, c.seek_any.ensures.paid)
+
+pub returns-clause-stays : goal.returns-clause-stays
+returns-clause-stays g c =
+    order_stays c.args.index.now 0 0 c.args.spent.now c.seek_any.new.spent (sides_on c.args.tops.now c.args.nodes.now) (sides_on c.put_in_order.new.tops c.put_in_order.new.nodes) (sides_on c.seek_any.new.tops c.seek_any.new.nodes)
+    (c.put_in_order.ensures.same c.args.index.now) c.seek_any.ensures.stays
+
+pub returns-clause-leads : goal.returns-clause-leads
+returns-clause-leads g c =
+    order_leads c.args.index.now 0 0 c.args.spent.now c.seek_any.new.spent (sides_on c.args.tops.now c.args.nodes.now) (sides_on c.put_in_order.new.tops c.put_in_order.new.nodes) (sides_on c.seek_any.new.tops c.seek_any.new.nodes)
+    (c.put_in_order.ensures.same c.args.index.now) c.seek_any.ensures.leads
