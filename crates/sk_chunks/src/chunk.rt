@@ -12,8 +12,6 @@ use std::marker::Model;
 use std::mem;
 use std::sync::ledger::Ledger;
 
-const HALF: usize = 64;
-
 /// What is known of a chunk with no entry read.
 #[derive(Clone, Copy, Debug, PartialEq)]
 pub struct ChunkHead {
@@ -176,14 +174,14 @@ impl Chunk {
         }
     }
 
-    /// Gives the second half away. The memory for it is taken first.
-    pub fn halve(&mut self) -> Result<Chunk, AllocError>
-        requires { length self.old ≡ 128 }
-        ensures ok { OnOk result (self.new ≡ take 64 self.old) }
-        ensures rest { IfOk result (λ rest. rest ≡ drop 64 self.old) }
+    /// Gives away what stands behind the first `at` entries. The memory for that is taken first.
+    pub fn split_off(&mut self, at: u32) -> Result<Chunk, AllocError>
+        requires { at ≤ length self.old }
+        ensures ok { OnOk result (self.new ≡ take at self.old) }
+        ensures rest { IfOk result (λ rest. rest ≡ drop at self.old) }
         ensures err { OnErr result (self.new ≡ self.old) }
     {
-        let entries = self.entries.split_off(HALF)?;
+        let entries = self.entries.split_off(at as usize)?;
         let rest = Chunk {
             last: last_of(entries.as_slice()),
             greatest: greatest_of(entries.as_slice(), self.greatest),

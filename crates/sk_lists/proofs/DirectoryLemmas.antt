@@ -94,45 +94,46 @@ pub record Halved (id : ℕ) (rs new : Runs) (i : ℕ) : Type 0 where
   pub room : length (get_or new i []) < 128
   pub room_behind : length (get_or new (i + 1) []) < 128
 
-pub halved_sound : (rs rs2 : Runs) (i : ℕ) (was now rest : Postings) (new : Runs) (count most : ℕ) → rs2 ≡ rs → i < length rs → was ≡ get_or rs2 i was → length (get_or rs i []) ≡ 128
-    → now ≡ take 64 was → rest ≡ drop 64 was → new ≡ insert (set rs2 i now) (i + 1) rest → IsDirectory rs count most → IsDirectory new count most
+pub halved_sound : (rs rs2 : Runs) (i : ℕ) (was now rest : Postings) (new : Runs) (count most : ℕ) → rs2 ≡ rs → i < length rs → was ≡ get_or rs2 i was → 32 ≤ length (get_or rs i [])
+    → now ≡ take 16 was → rest ≡ drop 16 was → new ≡ insert (set rs2 i now) (i + 1) rest → IsDirectory rs count most → IsDirectory new count most
 halved_sound rs rs2 i was now rest new count most same lt is full first second made old =
-    let whole : length (get_or rs i was) ≡ 128 = ap length (get_or-same rs i was [] lt) ∙ full in
+    let whole : 32 ≤ length (get_or rs i was) = omega (arith, ap length (get_or-same rs i was [] lt), full) in
     let here : was ≡ get_or rs i was = is ∙ ap (λ (s : Runs). get_or s i was) same in
-    let all : new ≡ insert (set rs i (take 64 (get_or rs i was))) (i + 1) (drop 64 (get_or rs i was))
-    = made ∙ (λ k. insert (set (same k) i ((first ∙ ap (take 64) here) k)) (i + 1) ((second ∙ ap (drop 64) here) k)) in
-    same_entries rs new count most old (ap flat all ∙ flat-cut rs i 64 was lt) (subst (λ (s : Runs). AreRuns s) (sym all) (AreRuns-cut rs i 64 was lt (omega arith) (omega (arith, whole)) old.sound))
+    let all : new ≡ insert (set rs i (take 16 (get_or rs i was))) (i + 1) (drop 16 (get_or rs i was))
+    = made ∙ (λ k. insert (set (same k) i ((first ∙ ap (take 16) here) k)) (i + 1) ((second ∙ ap (drop 16) here) k)) in
+    same_entries rs new count most old (ap flat all ∙ flat-cut rs i 16 was lt) (subst (λ (s : Runs). AreRuns s) (sym all) (AreRuns-cut rs i 16 was lt (omega arith) (omega (arith, whole)) old.sound))
   where
     get_or-same : (rs : Runs) (i : ℕ) (d e : Postings) → i < length rs → get_or rs i d ≡ get_or rs i e
     get_or-same [] i d e lt = absurd (omega arith)
     get_or-same (r ∷ rs) zero d e lt = refl
     get_or-same (r ∷ rs) (suc i) d e lt = get_or-same rs i d e (omega arith)
 
-pub halved : (id : ℕ) (rs new : Runs) (i : ℕ) → i < length rs → RunsRise 0 rs → FitsAt id rs i → length (get_or rs i []) ≡ 128
-    → new ≡ insert (set rs i (take 64 (get_or rs i []))) (i + 1) (drop 64 (get_or rs i [])) → Halved id rs new i
-halved id rs new i lt up fits full made =
+pub halved : (id : ℕ) (rs new : Runs) (i : ℕ) → i < length rs → RunsRise 0 rs → FitsAt id rs i → 32 ≤ length (get_or rs i []) → length (get_or rs i []) ≤ 128
+    → new ≡ insert (set rs i (take 16 (get_or rs i []))) (i + 1) (drop 16 (get_or rs i [])) → Halved id rs new i
+halved id rs new i lt up fits full few made =
     let run : Postings = get_or rs i [] in
-    let at : get_or new i [] ≡ take 64 run = ap (λ (s : Runs). get_or s i []) made ∙ cut-first rs i (take 64 run) (drop 64 run) [] lt in
-    let behind : get_or new (i + 1) [] ≡ drop 64 run = ap (λ (s : Runs). get_or s (i + 1) []) made ∙ cut-second rs i (take 64 run) (drop 64 run) [] lt in
-    let up2 = rise_cut 0 rs i 64 [] lt (omega arith) (omega (arith, full)) up in
+    let at : get_or new i [] ≡ take 16 run = ap (λ (s : Runs). get_or s i []) made ∙ cut-first rs i (take 16 run) (drop 16 run) [] lt in
+    let behind : get_or new (i + 1) [] ≡ drop 16 run = ap (λ (s : Runs). get_or s (i + 1) []) made ∙ cut-second rs i (take 16 run) (drop 16 run) [] lt in
+    let up2 = rise_cut 0 rs i 16 [] lt (omega arith) (omega (arith, full)) up in
     record {
-      same = ap flat made ∙ flat-cut rs i 64 [] lt;
-      within = omega (arith, ap length made, cut-length rs i (take 64 run) (drop 64 run) lt);
-      first = λ le. subst (λ (s : Runs). FitsAt id s i) (sym made) (fits-cut id rs i 64 [] up2 fits (subst (λ (s : Postings). id ≤ top_id 0 s) at le));
-      second = λ above. subst (λ (s : Runs). FitsAt id s (i + 1)) (sym made) (fits-behind id rs i 64 [] fits (subst (λ (s : Postings). top_id 0 s < id) at above));
-      room = omega (arith, ap length at, length-take 64 run);
-      room_behind = omega (arith, ap length behind, length-drop 64 run, full);
+      same = ap flat made ∙ flat-cut rs i 16 [] lt;
+      within = omega (arith, ap length made, cut-length rs i (take 16 run) (drop 16 run) lt);
+      first = λ le. subst (λ (s : Runs). FitsAt id s i) (sym made) (fits-cut id rs i 16 [] up2 fits (subst (λ (s : Postings). id ≤ top_id 0 s) at le));
+      second = λ above. subst (λ (s : Runs). FitsAt id s (i + 1)) (sym made) (fits-behind id rs i 16 [] fits (subst (λ (s : Postings). top_id 0 s < id) at above));
+      room = omega (arith, ap length at, length-take 16 run);
+      room_behind = omega (arith, ap length behind, length-drop 16 run, few);
     }
 
 -- the same, of a run that was read and found full
-pub halved_full : (id at : ℕ) (items now mid new : Runs) (run : Postings) (count : ℕ) → items ≡ now → mid ≡ now → run ≡ get_or items at run → count ≡ length run → 128 ≤ count → length run ≤ 128
-    → at < length now → FitsAt id now at → RunsRise 0 items → new ≡ insert (set mid at (take 64 (get_or mid at []))) (at + 1) (drop 64 (get_or mid at [])) → Halved id now new at
+pub halved_full : (id at : ℕ) (items now mid new : Runs) (run : Postings) (count : ℕ) → items ≡ now → mid ≡ now → run ≡ get_or items at run → count ≡ length run → 32 ≤ count → length run ≤ 128
+    → at < length now → FitsAt id now at → RunsRise 0 items → new ≡ insert (set mid at (take 16 (get_or mid at []))) (at + 1) (drop 16 (get_or mid at [])) → Halved id now new at
 halved_full id at items now mid new run count view same is counted full few lt fits up made =
     let here : length (get_or items at []) ≡ length run = ap length (sym (get_or_default items at run [] (subst (λ (s : Runs). at < length s) (sym view) lt)) ∙ sym is) in
     let whole : mid ≡ now = same in
     halved id now new at lt (subst (λ (s : Runs). RunsRise 0 s) view up) fits
-    (subst (λ (s : Runs). length (get_or s at []) ≡ 128) view (omega (arith, here, counted, full, few)))
-    (subst (λ (s : Runs). new ≡ insert (set s at (take 64 (get_or s at []))) (at + 1) (drop 64 (get_or s at []))) whole made)
+    (subst (λ (s : Runs). 32 ≤ length (get_or s at [])) view (omega (arith, here, counted, full)))
+    (subst (λ (s : Runs). length (get_or s at []) ≤ 128) view (omega (arith, here, few)))
+    (subst (λ (s : Runs). new ≡ insert (set s at (take 16 (get_or s at []))) (at + 1) (drop 16 (get_or s at []))) whole made)
 
 -- the last id of a run that was read
 pub last_read : (items now : Runs) (at : ℕ) (run : Postings) (last : ℕ) → items ≡ now → run ≡ get_or items at run → last ≡ top_id 0 run → at < length now → last ≡ top_id 0 (get_or now at [])

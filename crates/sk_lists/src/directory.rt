@@ -12,11 +12,14 @@ use std::alloc::{AllocError, Global};
 use std::marker::Model;
 use std::mem;
 
-// A chunk has so many entries at most.
-const FULL: u32 = 128;
+/// A chunk of a list has so many entries at most, fewer than one can hold: what a need passes over, it passes over by whole
+/// chunks.
+pub(crate) const FULL: u32 = 32;
+
+const HALF: u32 = 16;
 // Neighbours that have no more entries together become one behind a removal or a halving, so that a list of n entries
-// has about n / 48 chunks at most.
-const THIN: u32 = 96;
+// has about n / 12 chunks at most.
+const THIN: u32 = 24;
 
 /// Chunks in order of their ids, none of them empty.
 #[derive(Drop)]
@@ -201,12 +204,12 @@ impl Directory {
     // Makes two chunks of a full one.
     fn halve(&mut self, at: usize) -> Result<(), AllocError>
         requires there { at < length self.old }
-        requires full { length (get_or self.old at []) ≡ 128 }
-        ensures ok { OnOk result (self.new ≡ insert (set self.old at (take 64 (get_or self.old at []))) (at + 1) (drop 64 (get_or self.old at []))) }
+        requires full { 32 ≤ length (get_or self.old at []) }
+        ensures ok { OnOk result (self.new ≡ insert (set self.old at (take 16 (get_or self.old at []))) (at + 1) (drop 16 (get_or self.old at []))) }
         ensures err { OnErr result (self.new ≡ self.old) }
     {
         self.chunks.reserve(1)?;
-        let rest = self.chunks[at].halve()?;
+        let rest = self.chunks[at].split_off(HALF)?;
         insert_reserved(&mut self.chunks, at + 1, rest);
         Ok(())
     }

@@ -5,17 +5,14 @@ ghost use Rattle.sk_runs.specs.Runs.{flat, AreRuns};
 ghost use Rattle.sk_chunks.specs.Postings.{greatest_wdf};
 ghost use Rattle.sk_lists.specs.Lists.{one_run};
 
-use crate::directory::Directory;
+use crate::directory::{Directory, FULL};
 use sk_chunks::Chunk;
 use std::alloc::{AllocError, Global};
 use std::fmt::{Debug, Error, Formatter, Write};
 use std::marker::Model;
 use std::slice;
 
-// A chunk has so many entries at most.
-const FULL: u32 = 128;
-
-/// The entries of one term, one for each document that has it, with its wdf there, in chunks of up to 128. On a list
+/// The entries of one term, one for each document that has it, with its wdf there, in chunks of up to 32. On a list
 /// that is only lent, only a cursor or the counted reading of a chunk shows them.
 #[derive(Drop)]
 pub struct List {

@@ -23,12 +23,12 @@ fn filled(alloc: Global) -> Result<Chunk, AllocError> {
 }
 
 #[test]
-fn a_full_chunk_is_halved(rt: HostRuntime) -> Result<(), Fail> {
+fn a_full_chunk_is_cut(rt: HostRuntime) -> Result<(), Fail> {
     assert_eq!(rt; entry_bytes(1, 3), [0, 0, 0, 1, 0, 0, 0, 3]);
     let mut chunk = filled(rt.alloc())?;
     assert_eq!(rt; chunk.head(), row(1, 128, 128, 128));
     assert_eq!(rt; chunk.count(), 128);
-    let mut rest = chunk.halve()?;
+    let mut rest = chunk.split_off(64)?;
     assert_eq!(rt; chunk.head(), row(1, 64, 64, 64));
     assert_eq!(rt; rest.head(), row(65, 128, 64, 128));
     assert!(rt; rest.remove(128));

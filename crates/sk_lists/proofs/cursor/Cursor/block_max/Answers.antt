@@ -1,5 +1,5 @@
 -- By the chunk that the target falls into.
-use Rattle.std.proofs.Common.{◌≡◌, ◌∙◌, get_or, ap, arith}
+use Rattle.std.proofs.Common.{◌∙◌, get_or, ap, arith}
 use Rattle.sk_lists.proofs.BlockLaws.{block_here, block_behind, block_none}
 use Rattle.sk_lists.proofs.cursor.Cursor.block_max.Goals as goal
 
