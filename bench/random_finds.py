@@ -56,10 +56,26 @@ def terms(picks):
     return {picks.choice(["and", "or", "or", "max", "and_not", "and_maybe", "filter"]): words}
 
 
+def many(picks):
+    """An or of up to 40 parts, alone or as a part of another form."""
+    either = {"or": [tree(picks, picks.choice([0, 0, 1])) for _ in range(picks.choice([3, 4, 5, 8, 20, 40]))]}
+    if picks.random() < 0.3:
+        return either
+    parts = [either, tree(picks, 1)]
+    picks.shuffle(parts)
+    return {picks.choice(["and", "or", "xor", "max", "and_not", "and_maybe", "filter"]): parts}
+
+
 def asked(picks):
     """A find by a random tree, with random options."""
-    find = {"tree": terms(picks) if picks.random() < 0.4 else tree(picks, picks.randint(0, 3))}
-    return find | options(picks, ["site", "year"])
+    chance = picks.random()
+    if chance < 0.4:
+        query = terms(picks)
+    elif chance < 0.6:
+        query = many(picks)
+    else:
+        query = tree(picks, picks.randint(0, 3))
+    return {"tree": query} | options(picks, ["site", "year"])
 
 
 def options(picks, fields):

@@ -13,7 +13,7 @@ use std::process::ExitCode;
 use std::sync::ledger::{Blank, Ledger};
 
 /// How many entries a list is given.
-const SIZES: [u32; 10] = [1, 2, 10, 64, 127, 128, 129, 300, 1_000, 2_000];
+const SIZES: [u32; 10] = [1, 2, 10, 16, 31, 32, 33, 300, 1_000, 2_000];
 
 /// In which order the ids come.
 #[derive(Clone, Copy)]

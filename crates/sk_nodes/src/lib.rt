@@ -2,12 +2,14 @@
 #![tactic(auto)]
 
 mod any;
+mod begun;
 mod leaf;
 mod moves;
 mod node;
 mod odd;
 mod opening;
 mod order;
+mod parts;
 mod proximity;
 mod ranges;
 mod skip;

@@ -19,8 +19,9 @@ ghost use Rattle.sk_nodes.specs.Flat.{OpensNest, OpensFlat};
 ghost use Rattle.sk_nodes.specs.Proximity.{AreThere};
 ghost use Rattle.sk_nodes.specs.Opened.{score_of, joint_form, Opens};
 
+use crate::begun::pair_of;
 use crate::node::Node;
-use crate::opening::{open_numbered, pair_of};
+use crate::opening::open_numbered;
 use crate::top::Top;
 use crate::words::numbers_of;
 use sk_base::{Scheme, Text};

@@ -3,7 +3,7 @@ use Rattle.std.proofs.Common.{ap, ◌∙◌}
 use Rattle.sk_nodes.specs.Shapes.{tested, shape_of}
 use Rattle.sk_nodes.proofs.NodeLaws.{shape_of-Tested}
 use Rattle.sk_nodes.proofs.ProximityLaws.{tested_gives}
-use Rattle.sk_nodes.proofs.opening.tested_of.Goals as goal
+use Rattle.sk_nodes.proofs.begun.tested_of.Goals as goal
 
 pub returns-clause-gives : goal.returns-clause-gives
 returns-clause-gives g c id =

@@ -6,7 +6,7 @@ use Rattle.sk_nodes.specs.Opened.{count_in}
 use Rattle.sk_nodes.proofs.CountLaws.{counted}
 use Rattle.sk_nodes.proofs.OpenLaws.{joined, parts_joined, split_front, split_back, split_front_size, split_back_size, split_readings, halves_scores, halves_ceiling}
 use Rattle.sk_nodes.proofs.NestLaws.{split_terms}
-use Rattle.sk_nodes.proofs.opening.odd_halves.Goals as goal
+use Rattle.sk_nodes.proofs.parts.odd_halves.Goals as goal
 
 whole : (c : goal.After-split_at) → queries_view c.args.parts.now ≡ joined (queries_view c.split_at.result.0.now) (queries_view c.split_at.result.1.now)
 whole c = parts_joined c.args.parts.now c.split_at.result.0.now c.split_at.result.1.now _ c.split_at.ensures.front c.split_at.ensures.back

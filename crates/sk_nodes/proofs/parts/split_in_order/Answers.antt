@@ -8,7 +8,7 @@ use Rattle.std.proofs.Common.{sym, subst}
 use Rattle.sk_nodes.specs.OpenedLed.{SplitsOff}
 use Rattle.sk_nodes.proofs.NestLaws.{split_terms}
 use Rattle.sk_nodes.proofs.LedLaws.{splits_led}
-use Rattle.sk_nodes.proofs.opening.split_in_order.Goals as goal
+use Rattle.sk_nodes.proofs.parts.split_in_order.Goals as goal
 
 whole : (c : goal.After-split_at) → queries_view c.args.parts.now ≡ joined (queries_view c.split_at.result.0.now) (queries_view c.split_at.result.1.now)
 whole c = parts_joined c.args.parts.now c.split_at.result.0.now c.split_at.result.1.now c.split_of.result c.split_at.ensures.front c.split_at.ensures.back

@@ -1,7 +1,7 @@
 -- Sides that were moved on without a need give what they gave.
 use Rattle.sk_nodes.specs.Shapes.{sides_on}
 use Rattle.sk_nodes.proofs.OddLaws.{odd_gives}
-use Rattle.sk_nodes.proofs.opening.begin_odd.Goals as goal
+use Rattle.sk_nodes.proofs.begun.begin_odd.Goals as goal
 
 pub returns-clause-gives : goal.returns-clause-gives
 returns-clause-gives g c id =

@@ -2,7 +2,7 @@
 use Rattle.std.proofs.Common.{sym, ◌∙◌}
 use Rattle.sk_query.specs.Trees.{queries_view}
 use Rattle.sk_nodes.proofs.OpenLaws.{odd_are, odd_scores, odd_ceiling, odd_fits}
-use Rattle.sk_nodes.proofs.opening.odd_parts.Goals as goal
+use Rattle.sk_nodes.proofs.parts.odd_parts.Goals as goal
 
 pub returns-clause-parts : goal.returns-clause-parts
 returns-clause-parts c = odd_are c.args.form c.args._factor (queries_view c.args.parts.now) _ (sym c.is_nest.ensures ∙ c.if-is_nest.false) c.requires.parts

@@ -3,7 +3,7 @@ use Rattle.std.proofs.Common.{arith}
 use Rattle.sk_query.specs.Trees.{queries_view}
 use Rattle.sk_nodes.proofs.CountLaws.{counted}
 use Rattle.sk_nodes.proofs.OpenLaws.{or_are, or_scores, or_ceiling, or_fits}
-use Rattle.sk_nodes.proofs.opening.any_parts.Goals as goal
+use Rattle.sk_nodes.proofs.parts.any_parts.Goals as goal
 
 pub returns-then-is_many-clause-many : goal.returns-then-is_many-clause-many
 returns-then-is_many-clause-many c = omega (arith, counted c.args.parts.now, c.is_many.ensures.many c.if-is_many.true)

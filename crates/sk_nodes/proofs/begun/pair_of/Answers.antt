@@ -10,7 +10,7 @@ use Rattle.sk_nodes.proofs.StopLaws.{stays_along}
 use Rattle.sk_nodes.proofs.NestLaws.{paired_nest}
 use Rattle.sk_nodes.proofs.RareLaws.{leads_along, at_along}
 use Rattle.sk_nodes.proofs.FadingLaws.{fades_along}
-use Rattle.sk_nodes.proofs.opening.pair_of.Goals as goal
+use Rattle.sk_nodes.proofs.begun.pair_of.Goals as goal
 
 pub returns-clause-gives : goal.returns-clause-gives
 returns-clause-gives g c id =

@@ -6,7 +6,7 @@ use Rattle.sk_nodes.specs.Opened.{count_in}
 use Rattle.sk_nodes.proofs.CountLaws.{counted}
 use Rattle.sk_nodes.proofs.OpenLaws.{joined, parts_joined, split_back, split_front_size, turned_fits}
 use Rattle.sk_nodes.proofs.LedLaws.{turns_led, terms_count}
-use Rattle.sk_nodes.proofs.opening.split_and.Goals as goal
+use Rattle.sk_nodes.proofs.parts.split_and.Goals as goal
 
 whole : (c : goal.After-others-1) → queries_view c.args.parts.now ≡ joined (queries_view c.split_at.result.0.now) (queries_view c.split_at.result.1.now)
 whole c = parts_joined c.args.parts.now c.split_at.result.0.now c.split_at.result.1.now 1 c.split_at.ensures.front c.split_at.ensures.back

@@ -2,7 +2,7 @@
 use Rattle.std.proofs.Common.{arith}
 use Rattle.std.proofs.lemmas.Bool.{ltb-true, ltb-false}
 use Rattle.sk_nodes.proofs.LedLaws.{static_first, static_last}
-use Rattle.sk_nodes.proofs.opening.is_longer.Goals as goal
+use Rattle.sk_nodes.proofs.parts.is_longer.Goals as goal
 
 pub returns-then-last-lt-MOST_NESTED-clause-longer : goal.returns-then-last-lt-MOST_NESTED-clause-longer
 returns-then-last-lt-MOST_NESTED-clause-longer c e lists terms =

@@ -3,7 +3,7 @@ use Rattle.std.proofs.Common.{◌∙◌, arith}
 use Rattle.sk_nodes.specs.Shapes.{sides_on}
 use Rattle.sk_nodes.proofs.AnyLaws.{any_gives}
 use Rattle.sk_nodes.proofs.OrderLaws.{order_stays, order_leads}
-use Rattle.sk_nodes.proofs.opening.begin_any.Goals as goal
+use Rattle.sk_nodes.proofs.begun.begin_any.Goals as goal
 
 pub seek_any-requires : goal.seek_any-requires
 seek_any-requires g c =

@@ -1,0 +1,223 @@
+//! Nodes that are put together, each moved on to its first match.
+ghost use Rattle.std.specs.Prelude.{◌≡◌, ◌≤◌, ◌<◌, ◌+◌, ◌^◌, ℕ, IfOk, length};
+ghost use Rattle.sk_query.specs.declared.form.Form.TheVariants as Form;
+ghost use Rattle.sk_model.specs.Combining.{combined, where_so};
+ghost use Rattle.sk_decay.specs.Sides.{paired, greatest_under};
+ghost use Rattle.sk_nodes.specs.Shapes.{pair, odd, any, no_sides, side, shape_of, sides_on};
+ghost use Rattle.sk_nodes.specs.Left.{rest, rests, unread_of, unread_in, greatest_sum};
+ghost use Rattle.sk_nodes.specs.Sound.{IsTop, IsOdd, IsTested, Sound, AreSound};
+ghost use Rattle.sk_nodes.specs.Flat.{IsNest, IsJoint, Stays, PairsNest};
+ghost use Rattle.sk_nodes.specs.Led.{IsLed, IsAtLead, Leads};
+ghost use Rattle.sk_nodes.specs.Fading.{Fades};
+ghost use Rattle.sk_nodes.specs.Odd.{followed_by};
+ghost use Rattle.sk_nodes.specs.Proximity.{holds, entries_from};
+
+use crate::moves::{seek_any, seek_odd, seek_pair, seek_tested};
+use crate::node::Node;
+use crate::order::put_in_order;
+use crate::proximity::Proximity;
+use crate::top::Top;
+use sk_index::Index;
+use sk_query::Form;
+use sk_steps::Steps;
+use std::alloc::{AllocError, Global};
+use std::sync::ledger::Ledger;
+
+/// A node of two sides, moved on to where they first meet, and its top.
+pub(crate) fn pair_of<L: Ledger>(
+    alloc: Global,
+    index: &Index,
+    form: Form,
+    mut ta: Top,
+    mut a: Node,
+    mut tb: Top,
+    mut b: Node,
+    spent: &mut u128,
+    steps: &mut Steps<L>,
+) -> Result<(Top, Node), AllocError>
+    requires first { IsTop index.now ta (shape_of a) }
+    requires second { IsTop index.now tb (shape_of b) }
+    requires first_sound { Sound index.now (shape_of a) }
+    requires second_sound { Sound index.now (shape_of b) }
+    requires fits { ta.greatest + tb.greatest < 2 ^ 63 }
+    requires room { spent.old + (unread_of index.now (shape_of a) + unread_of index.now (shape_of b)) < 2 ^ 128 }
+    ensures top { IfOk result (λ p. IsTop index.now p.0 (shape_of p.1)) }
+    ensures sound { IfOk result (λ p. Sound index.now (shape_of p.1)) }
+    ensures gives { IfOk result (λ p. (id : ℕ) → rest index.now (shape_of p.1) id ≡ paired form (rest index.now (shape_of a) id) (rest index.now (shape_of b) id)) }
+    ensures ceiling { IfOk result (λ p. p.0.greatest ≤ greatest_under form ta.greatest tb.greatest) }
+    ensures sum { IfOk result (λ p. p.0.greatest ≤ ta.greatest + tb.greatest) }
+    ensures paid { IfOk result (λ p. spent.new + unread_of index.now (shape_of p.1) ≤ spent.old + (unread_of index.now (shape_of a) + unread_of index.now (shape_of b))) }
+    ensures counted { steps.new + spent.old ≡ steps.old + spent.new }
+    ensures later { spent.old ≤ spent.new }
+    ensures nest { IfOk result (λ p. IsJoint form → IsNest form (shape_of a) → IsNest form (shape_of b) → PairsNest index.now form (shape_of a) (shape_of b) (shape_of p.1) spent.old spent.new) }
+    ensures leads { IfOk result (λ p. Leads index.now 0 0 spent.old spent.new (pair form ta (shape_of a) tb (shape_of b)) (shape_of p.1) × (IsLed index.now (pair form ta (shape_of a) tb (shape_of b)) → IsAtLead index.now p.0 (shape_of p.1))) }
+    ensures fades { IfOk result (λ p. Fades index.now 0 spent.old spent.new (pair form ta (shape_of a) tb (shape_of b)) (shape_of p.1)) }
+{
+    let mut top = Top::ended();
+    seek_pair(
+        &mut top, form, &mut ta, &mut a, &mut tb, &mut b, index, 0, 0, spent, steps,
+    );
+    let a = Box::new(alloc, a)?;
+    let b = Box::new(alloc, b)?;
+    Ok((top, Node::Pair(form, ta, a, tb, b)))
+}
+
+/// One side alone.
+pub(crate) fn one_side(
+    alloc: Global,
+    top: Top,
+    node: Node,
+) -> Result<(Vec<Top>, Vec<Node>), AllocError>
+    ensures sides { IfOk result (λ p. sides_on p.0.items p.1.items ≡ side top (shape_of node) no_sides) }
+    ensures even { IfOk result (λ p. length p.0.items ≡ length p.1.items) }
+{
+    let mut tops = Vec::new(alloc);
+    let mut nodes = Vec::new(alloc);
+    tops.push(top)?;
+    nodes.push(node)?;
+    Ok((tops, nodes))
+}
+
+/// Sides, and more behind them.
+pub(crate) fn with_more(
+    mut tops: Vec<Top>,
+    mut nodes: Vec<Node>,
+    mut more_tops: Vec<Top>,
+    mut more_nodes: Vec<Node>,
+) -> Result<(Vec<Top>, Vec<Node>), AllocError>
+    requires even { length tops.items ≡ length nodes.items }
+    requires more_even { length more_tops.items ≡ length more_nodes.items }
+    ensures sides { IfOk result (λ p. sides_on p.0.items p.1.items ≡ followed_by (sides_on tops.items nodes.items) (sides_on more_tops.items more_nodes.items)) }
+    ensures even { IfOk result (λ p. length p.0.items ≡ length p.1.items) }
+{
+    tops.append(&mut more_tops)?;
+    nodes.append(&mut more_nodes)?;
+    Ok((tops, nodes))
+}
+
+/// A node of the sides of an xor, moved on to its first match, and its top.
+pub(crate) fn odd_of<L: Ledger>(
+    index: &Index,
+    mut tops: Vec<Top>,
+    mut nodes: Vec<Node>,
+    spent: &mut u128,
+    steps: &mut Steps<L>,
+) -> (Top, Node)
+    requires sound { AreSound index.now (sides_on tops.items nodes.items) }
+    requires fits { greatest_sum (sides_on tops.items nodes.items) < 2 ^ 63 }
+    requires room { spent.old + unread_in index.now (sides_on tops.items nodes.items) < 2 ^ 128 }
+    ensures top { IsTop index.now result.0 (shape_of result.1) }
+    ensures sound { Sound index.now (shape_of result.1) }
+    ensures gives { (id : ℕ) → rest index.now (shape_of result.1) id ≡ combined Form.Xor (rests index.now (sides_on tops.items nodes.items) id) }
+    ensures ceiling { result.0.greatest ≤ greatest_sum (sides_on tops.items nodes.items) }
+    ensures paid { spent.new + unread_of index.now (shape_of result.1) ≤ spent.old + unread_in index.now (sides_on tops.items nodes.items) }
+    ensures counted { steps.new + spent.old ≡ steps.old + spent.new }
+    ensures later { spent.old ≤ spent.new }
+{
+    let mut top = Top::ended();
+    begin_odd(&mut top, &mut tops, &mut nodes, index, spent, steps);
+    (top, Node::Odd(tops, nodes))
+}
+
+/// Moves the sides of an xor on to its first match.
+fn begin_odd<L: Ledger>(
+    top: &mut Top,
+    tops: &mut [Top],
+    nodes: &mut [Node],
+    index: &Index,
+    spent: &mut u128,
+    steps: &mut Steps<L>,
+)
+    requires sound { AreSound index.now (sides_on tops.old nodes.old) }
+    requires fits { greatest_sum (sides_on tops.old nodes.old) < 2 ^ 63 }
+    requires room { spent.old + unread_in index.now (sides_on tops.old nodes.old) < 2 ^ 128 }
+    ensures top { IsTop index.now top.new (odd (sides_on tops.new nodes.new)) }
+    ensures sound { IsOdd (sides_on tops.new nodes.new) (AreSound index.now (sides_on tops.new nodes.new)) }
+    ensures gives { (id : ℕ) → rest index.now (odd (sides_on tops.new nodes.new)) id ≡ combined Form.Xor (rests index.now (sides_on tops.old nodes.old) id) }
+    ensures ceiling { top.new.greatest ≤ greatest_sum (sides_on tops.old nodes.old) }
+    ensures paid { spent.new + unread_in index.now (sides_on tops.new nodes.new) ≤ spent.old + unread_in index.now (sides_on tops.old nodes.old) }
+    ensures counted { steps.new + spent.old ≡ steps.old + spent.new }
+    ensures later { spent.old ≤ spent.new }
+{
+    seek_odd(top, tops, nodes, index, 0, 0, spent, steps);
+}
+
+/// A node of the sides of an or, moved on to its first match, and its top.
+pub(crate) fn any_of<L: Ledger>(
+    index: &Index,
+    mut tops: Vec<Top>,
+    mut nodes: Vec<Node>,
+    spent: &mut u128,
+    steps: &mut Steps<L>,
+) -> (Top, Node)
+    requires sound { AreSound index.now (sides_on tops.items nodes.items) }
+    requires fits { greatest_sum (sides_on tops.items nodes.items) < 2 ^ 63 }
+    requires room { spent.old + unread_in index.now (sides_on tops.items nodes.items) < 2 ^ 128 }
+    ensures top { IsTop index.now result.0 (shape_of result.1) }
+    ensures sound { Sound index.now (shape_of result.1) }
+    ensures gives { (id : ℕ) → rest index.now (shape_of result.1) id ≡ combined Form.Or (rests index.now (sides_on tops.items nodes.items) id) }
+    ensures ceiling { result.0.greatest ≤ greatest_sum (sides_on tops.items nodes.items) }
+    ensures paid { spent.new + unread_of index.now (shape_of result.1) ≤ spent.old + unread_in index.now (sides_on tops.items nodes.items) }
+    ensures counted { steps.new + spent.old ≡ steps.old + spent.new }
+    ensures later { spent.old ≤ spent.new }
+    ensures stays { Stays index.now 0 0 spent.old spent.new (any (sides_on tops.items nodes.items)) (shape_of result.1) }
+    ensures leads { Leads index.now 0 0 spent.old spent.new (any (sides_on tops.items nodes.items)) (shape_of result.1) }
+{
+    let mut top = Top::ended();
+    begin_any(&mut top, &mut tops, &mut nodes, index, spent, steps);
+    (top, Node::Any(tops, nodes))
+}
+
+/// Puts the sides of an or in order, and moves them on to its first match.
+fn begin_any<L: Ledger>(
+    top: &mut Top,
+    tops: &mut [Top],
+    nodes: &mut [Node],
+    index: &Index,
+    spent: &mut u128,
+    steps: &mut Steps<L>,
+)
+    requires sound { AreSound index.now (sides_on tops.old nodes.old) }
+    requires fits { greatest_sum (sides_on tops.old nodes.old) < 2 ^ 63 }
+    requires room { spent.old + unread_in index.now (sides_on tops.old nodes.old) < 2 ^ 128 }
+    ensures top { IsTop index.now top.new (any (sides_on tops.new nodes.new)) }
+    ensures sound { IsOdd (sides_on tops.new nodes.new) (AreSound index.now (sides_on tops.new nodes.new)) }
+    ensures gives { (id : ℕ) → rest index.now (any (sides_on tops.new nodes.new)) id ≡ combined Form.Or (rests index.now (sides_on tops.old nodes.old) id) }
+    ensures ceiling { top.new.greatest ≤ greatest_sum (sides_on tops.old nodes.old) }
+    ensures paid { spent.new + unread_in index.now (sides_on tops.new nodes.new) ≤ spent.old + unread_in index.now (sides_on tops.old nodes.old) }
+    ensures counted { steps.new + spent.old ≡ steps.old + spent.new }
+    ensures later { spent.old ≤ spent.new }
+    ensures stays { Stays index.now 0 0 spent.old spent.new (any (sides_on tops.old nodes.old)) (any (sides_on tops.new nodes.new)) }
+    ensures leads { Leads index.now 0 0 spent.old spent.new (any (sides_on tops.old nodes.old)) (any (sides_on tops.new nodes.new)) }
+{
+    put_in_order(tops, nodes);
+    seek_any(top, tops, nodes, index, 0, 0, spent, steps);
+}
+
+/// A test of what a node gives, moved on to the first that passes, and its top.
+pub(crate) fn tested_of<L: Ledger>(
+    alloc: Global,
+    index: &Index,
+    mut test: Proximity,
+    mut below: Top,
+    mut node: Node,
+    spent: &mut u128,
+    steps: &mut Steps<L>,
+) -> Result<(Top, Node), AllocError>
+    requires tested { IsTested index.now test below (shape_of node) (Sound index.now (shape_of node)) }
+    requires room { spent.old + (unread_of index.now (shape_of node) + entries_from index.now test.next test.numbers.items) < 2 ^ 128 }
+    ensures top { IfOk result (λ p. IsTop index.now p.0 (shape_of p.1)) }
+    ensures sound { IfOk result (λ p. Sound index.now (shape_of p.1)) }
+    ensures gives { IfOk result (λ p. (id : ℕ) → rest index.now (shape_of p.1) id ≡ where_so (holds index.now test id) (rest index.now (shape_of node) id)) }
+    ensures ceiling { IfOk result (λ p. p.0.greatest ≤ below.greatest) }
+    ensures paid { IfOk result (λ p. spent.new + unread_of index.now (shape_of p.1) ≤ spent.old + (unread_of index.now (shape_of node) + entries_from index.now test.next test.numbers.items)) }
+    ensures counted { steps.new + spent.old ≡ steps.old + spent.new }
+    ensures later { spent.old ≤ spent.new }
+{
+    let mut top = Top::ended();
+    seek_tested(
+        &mut top, &mut test, &mut below, &mut node, index, 0, 0, spent, steps,
+    );
+    let node = Box::new(alloc, node)?;
+    Ok((top, Node::Tested(test, below, node)))
+}
