@@ -21,6 +21,7 @@ use Rattle.sk_nodes.specs.declared.leaf.Leaf.{Leaf}
 use Rattle.sk_nodes.specs.Shapes.{Shape, ended, leaf, pair, odd, any, tested, shape_of, size_of, sides_on}
 use Rattle.sk_nodes.specs.Decayed.{changed_pair, decayed}
 use Rattle.sk_nodes.specs.Left.{rest, from_on, unread_of}
+use Rattle.sk_nodes.specs.Skips.{IsLight}
 use Rattle.sk_nodes.specs.Sound.{IsTop, IsPair, Sound, Replaces}
 use Rattle.sk_nodes.proofs.LeafLaws.{from_on-at, from_on-below, from_cases, covers_none}
 
@@ -263,6 +264,20 @@ pub goes_on_covers : (target need next : ℕ) (f g : ℕ → Option ℕ) → Cov
 goes_on_covers target need next f g covers below = λ id.
     elim (cases_lt id next) as (λ _. CoversAt (from_on target f id) (from_on next g id) need) [
       | inl lt ↦ subst (λ o. CoversAt (from_on target f id) o need) (below id lt ∙ sym (from_on-below next g id lt)) (covers id)
+      | inr le ↦ subst (λ o. CoversAt (from_on target f id) o need) (sym (from_on-at next g id le)) (covers id)
+    ]
+
+-- what weighs too little may go
+pub light_goes : (need : ℕ) (a b : Option ℕ) → CoversAt a b need → IsLight need b → CoversAt a None need
+light_goes need None None covers light = tt
+light_goes need None (Some w) covers light = absurd covers
+light_goes need (Some v) None covers light = covers
+light_goes need (Some v) (Some w) covers light = elim (cases_lt v need) as (λ _. v < need) [ inl lt ↦ lt | inr le ↦ absurd (omega (arith, le, covers.1 le, light)) ]
+
+pub goes_on_light : (target need next : ℕ) (f g : ℕ → Option ℕ) → Covers (from_on target f) g need → ((id : ℕ) → id < next → IsLight need (g id)) → Covers (from_on target f) (from_on next g) need
+goes_on_light target need next f g covers light = λ id.
+    elim (cases_lt id next) as (λ _. CoversAt (from_on target f id) (from_on next g id) need) [
+      | inl lt ↦ subst (λ o. CoversAt (from_on target f id) o need) (sym (from_on-below next g id lt)) (light_goes need (from_on target f id) (g id) (covers id) (light id lt))
       | inr le ↦ subst (λ o. CoversAt (from_on target f id) o need) (sym (from_on-at next g id le)) (covers id)
     ]
 

@@ -20,7 +20,8 @@ use Rattle.sk_nodes.specs.Left.{rest, from_on}
 use Rattle.sk_nodes.specs.Proximity.{stand, positions_at, holds, entries_from, AreInOrder, IsInAll, AreThere, CanTest, IsSameTest}
 use Rattle.sk_nodes.specs.Sound.{IsTop, IsTested, Sound}
 use Rattle.sk_nodes.proofs.LeafLaws.{from_on-at, from_on-none, covers_none}
-use Rattle.sk_nodes.proofs.NodeLaws.{IsHead-none, goes_on_covers, ended_top}
+use Rattle.sk_nodes.specs.Skips.{IsLight}
+use Rattle.sk_nodes.proofs.NodeLaws.{IsHead-none, light_goes, goes_on_light, ended_top}
 
 -- ---- what passes a test
 
@@ -159,7 +160,7 @@ module _ (i : Indexed) (target need from : ℕ) (p0 : Proximity) (t0 : Top) (s0 
   pub moved_ended : t2.head ≡ 2 ^ 32 → IsTested i p t2 s2 (Sound i s2)
   moved_ended end = record { test = far.test; top = top; sound = sound; within = moved_within; ahead = moved_ahead; small = far.small; known = moved_known }
 
-  module _ (q : Proximity) (same : IsSameTest p q) (next : q.next ≡ max p.next (t2.head + 1)) (lt : t2.head < 2 ^ 32) where
+  module _ (q : Proximity) (same : IsSameTest p q) (next : q.next ≤ max p.next (t2.head + 1)) (lt : t2.head < 2 ^ 32) where
     q_all : (id w : ℕ) → rest i s2 id ≡ Some w → IsInAll i id q.numbers.items
     q_all id w e = subst (λ (ns : List ℕ). IsInAll i id ns) (sym same.numbers) (moved_within id w e)
 
@@ -199,15 +200,16 @@ module _ (i : Indexed) (target need from : ℕ) (p0 : Proximity) (t0 : Top) (s0 
         less true o n h = h
         less false o n h = omega arith
 
-    -- it did not
-    failed_below : holds i p t2.head ≡ false → NoneBelow (t2.head + 1) (rest i (tested q t2 s2))
-    failed_below fails id less =
-        same_rest i p q t2 s2 id same ∙ elim (cases_lt id t2.head) as (λ _. where_so (holds i p id) (rest i s2 id) ≡ None) [
-          | inl before ↦ ap (where_so (holds i p id)) (top.head.below id before) ∙ where_none (holds i p id)
-          | inr le ↦ let here : t2.head ≡ id = omega (arith, less, le) in subst (λ n. where_so (holds i p n) (rest i s2 n) ≡ None) here (ap (λ b. where_so b (rest i s2 t2.head)) fails)
-        ]
+    -- it did not, or weighs too little
+    failed_light : IsLight need (where_so (holds i p t2.head) (Some t2.weight)) → (id : ℕ) → id < t2.head + 1 → IsLight need (rest i (tested q t2 s2) id)
+    failed_light fails id less =
+        subst (λ (o : Option ℕ). IsLight need o) (sym (same_rest i p q t2 s2 id same)) (elim (cases_lt id t2.head) as (λ _. IsLight need (where_so (holds i p id) (rest i s2 id))) [
+          | inl before ↦ subst (λ (o : Option ℕ). IsLight need o) (sym (ap (where_so (holds i p id)) (top.head.below id before) ∙ where_none (holds i p id))) tt
+          | inr le ↦ let here : t2.head ≡ id = omega (arith, less, le) in
+              subst (λ n. IsLight need (where_so (holds i p n) (rest i s2 n))) here (subst (λ (o : Option ℕ). IsLight need (where_so (holds i p t2.head) o)) (sym (top.head.at lt)) fails)
+        ])
 
-    pub failed_more : holds i p t2.head ≡ false → t2.head + 1 < 2 ^ 32 → TestSoFar i target need (t2.head + 1) p0 t0 s0 q t2 s2
+    pub failed_more : IsLight need (where_so (holds i p t2.head) (Some t2.weight)) → t2.head + 1 < 2 ^ 32 → TestSoFar i target need (t2.head + 1) p0 t0 s0 q t2 s2
     failed_more fails less = record {
       test = same_can i p q same far.test;
       top = top;
@@ -216,24 +218,25 @@ module _ (i : Indexed) (target need from : ℕ) (p0 : Proximity) (t0 : Top) (s0 
       ahead = omega (arith, next, moved_ahead);
       small = omega (arith, next, far.small, lt);
       known = λ le. absurd (omega (arith, le));
-      covers = goes_on_covers target need (t2.head + 1) (rest i (tested p0 t0 s0)) (rest i (tested q t2 s2)) q_covers (failed_below fails);
+      covers = goes_on_light target need (t2.head + 1) (rest i (tested p0 t0 s0)) (rest i (tested q t2 s2)) q_covers (failed_light fails);
       bound = less;
       same = same_again p0 p q far.same same;
       falls = omega (arith, falls, far.falls);
       smaller = omega (arith, smaller, far.smaller);
     }
 
-    failed_none : holds i p t2.head ≡ false → 2 ^ 32 ≤ t2.head + 1 → (id : ℕ) → rest i (tested q t2 s2) id ≡ None
-    failed_none fails le id =
-        elim (cases_lt id (t2.head + 1)) as (λ _. rest i (tested q t2 s2) id ≡ None) [
-          | inl less ↦ failed_below fails id less
-          | inr more ↦ ap (where_so (holds i q id)) (top.head.past id (omega (arith, le, more))) ∙ where_none (holds i q id)
+    ended_light : IsLight need (where_so (holds i p t2.head) (Some t2.weight)) → 2 ^ 32 ≤ t2.head + 1 → (id : ℕ) → IsLight need (rest i (tested q t2 s2) id)
+    ended_light fails le id =
+        elim (cases_lt id (t2.head + 1)) as (λ _. IsLight need (rest i (tested q t2 s2) id)) [
+          | inl less ↦ failed_light fails id less
+          | inr more ↦ subst (λ (o : Option ℕ). IsLight need o) (sym (ap (where_so (holds i q id)) (top.head.past id (omega (arith, le, more))) ∙ where_none (holds i q id))) tt
         ]
 
     -- and nothing lies behind it
-    pub failed_ended_covers : holds i p t2.head ≡ false → 2 ^ 32 ≤ t2.head + 1 → (u : Top) → Covers (from_on target (rest i (tested p0 t0 s0))) (rest i (tested q u ended)) need
+    pub failed_ended_covers : IsLight need (where_so (holds i p t2.head) (Some t2.weight)) → 2 ^ 32 ≤ t2.head + 1 → (u : Top) → Covers (from_on target (rest i (tested p0 t0 s0))) (rest i (tested q u ended)) need
     failed_ended_covers fails le u = λ id.
-        subst (λ o. CoversAt (from_on target (rest i (tested p0 t0 s0)) id) o need) (failed_none fails le id ∙ sym (where_none (holds i q id))) (q_covers id)
+        subst (λ o. CoversAt (from_on target (rest i (tested p0 t0 s0)) id) o need) (sym (where_none (holds i q id)))
+        (light_goes need (from_on target (rest i (tested p0 t0 s0)) id) (rest i (tested q t2 s2) id) (q_covers id) (ended_light fails le id))
 
     pub failed_ended_sound : IsTested i q (record { head = 2 ^ 32; weight = 0; greatest = 0 }) ended (Sound i ended)
     failed_ended_sound = record {

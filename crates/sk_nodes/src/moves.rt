@@ -690,7 +690,7 @@ pub(crate) fn seek_tested<L: Ledger>(
             *top = Top::ended();
             return;
         }
-        if test.holds(index, below.head, spent, steps) {
+        if test.passes(index, below, need, spent, steps) {
             *top = *below;
             return;
         }

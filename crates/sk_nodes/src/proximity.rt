@@ -1,7 +1,10 @@
 //! Terms that have to stand near, or as a phrase.
-ghost use Rattle.std.specs.Prelude.{◌≡◌, ◌≤◌, ◌<◌, ◌+◌, ◌^◌, true, max, length};
+ghost use Rattle.std.specs.Prelude.{◌≡◌, ◌≤◌, ◌<◌, ◌+◌, ◌^◌, true, false, max, length, Some};
+ghost use Rattle.sk_model.specs.Combining.{where_so};
+ghost use Rattle.sk_nodes.specs.Skips.{IsLight};
 ghost use Rattle.sk_nodes.specs.Proximity.{stand, positions_at, holds, entries_from, AreThere, IsInAll, CanTest, IsSameTest};
 
+use crate::top::Top;
 use sk_base::DocId;
 use sk_index::Index;
 use sk_near::{near, phrase};
@@ -29,6 +32,35 @@ pub(crate) struct Proximity {
 }
 
 impl Proximity {
+    /// Whether the document at a head weighs what is needed, and the terms, which it all has, stand so in it. In one that
+    /// weighs less nothing is read.
+    pub fn passes<L: Ledger>(
+        &mut self,
+        index: &Index,
+        below: &Top,
+        need: u64,
+        spent: &mut u128,
+        steps: &mut Steps<L>,
+    ) -> bool
+        requires test { CanTest index.now self.old }
+        requires head { below.now.head < 2 ^ 32 }
+        requires all { IsInAll index.now below.now.head self.old.numbers.items }
+        requires known { below.now.head < self.old.next → holds index.now self.old below.now.head ≡ true }
+        requires room { spent.old + entries_from index.now self.old.next self.old.numbers.items < 2 ^ 128 }
+        ensures holds { result ≡ true → holds index.now self.old below.now.head ≡ true }
+        ensures fails { result ≡ false → IsLight need (where_so (holds index.now self.old below.now.head) (Some below.now.weight)) }
+        ensures same { IsSameTest self.old self.new }
+        ensures next { self.new.next ≤ max self.old.next (below.now.head + 1) }
+        ensures paid { spent.new + entries_from index.now self.new.next self.old.numbers.items ≤ spent.old + entries_from index.now self.old.next self.old.numbers.items }
+        ensures counted { steps.new + spent.old ≡ steps.old + spent.new }
+        ensures later { spent.old ≤ spent.new }
+    {
+        if below.weight < need {
+            return false;
+        }
+        self.holds(index, below.head, spent, steps)
+    }
+
     /// Whether the terms stand so in the document, which has them all. It reads the positions of each term once, and
     /// those of a document before `next` not again.
     pub fn holds<L: Ledger>(

@@ -293,8 +293,8 @@ seek_tested-tests-init g t c =
       later = omega arith;
     }
 
-pub seek_tested-holds-requires-clause-all : goal.seek_tested-holds-requires-clause-all
-seek_tested-holds-requires-clause-all g t c =
+pub seek_tested-passes-requires-clause-all : goal.seek_tested-passes-requires-clause-all
+seek_tested-passes-requires-clause-all g t c =
     let i = c.args.index.now in
     moved_all i c.args.target c.args.need c.tests.from c.args.test.now c.args.below.now (shape_of c.args.node.now) c.tests.test c.tests.below (shape_of c.tests.node) c.reach.new.top (shape_of c.reach.new.node)
     c.tests.invariant.far c.reach.ensures.top c.reach.ensures.sound c.reach.ensures.reached c.reach.ensures.falls c.reach.ensures.smaller c.reach.ensures.covers (omega (arith, c.if-below-ge-END.false))
@@ -305,48 +305,48 @@ seek_tested-returns-then-below-ge-END-clause-covers g t c =
     moved_covers i c.args.target c.args.need c.tests.from c.args.test.now c.args.below.now (shape_of c.args.node.now) c.tests.test c.tests.below (shape_of c.tests.node) c.reach.new.top (shape_of c.reach.new.node)
     c.tests.invariant.far c.reach.ensures.top c.reach.ensures.sound c.reach.ensures.reached c.reach.ensures.falls c.reach.ensures.smaller c.reach.ensures.covers
 
-pub seek_tested-returns-then-holds-clause-top : goal.seek_tested-returns-then-holds-clause-top
-seek_tested-returns-then-holds-clause-top g t c =
+pub seek_tested-returns-then-passes-clause-top : goal.seek_tested-returns-then-passes-clause-top
+seek_tested-returns-then-passes-clause-top g t c =
     let i = c.args.index.now in
     passed_top i c.args.target c.args.need c.tests.from c.args.test.now c.args.below.now (shape_of c.args.node.now) c.tests.test c.tests.below (shape_of c.tests.node) c.reach.new.top (shape_of c.reach.new.node)
-    c.tests.invariant.far c.reach.ensures.top c.reach.ensures.sound c.reach.ensures.reached c.reach.ensures.falls c.reach.ensures.smaller c.reach.ensures.covers c.holds.new.self c.holds.ensures.same c.holds.ensures.next (omega (arith, c.if-below-ge-END.false)) (sym c.holds.ensures.value ∙ c.if-holds.true)
+    c.tests.invariant.far c.reach.ensures.top c.reach.ensures.sound c.reach.ensures.reached c.reach.ensures.falls c.reach.ensures.smaller c.reach.ensures.covers c.passes.new.self c.passes.ensures.same c.passes.ensures.next (omega (arith, c.if-below-ge-END.false)) (c.passes.ensures.holds c.if-passes.true)
 
-pub seek_tested-returns-then-holds-clause-sound : goal.seek_tested-returns-then-holds-clause-sound
-seek_tested-returns-then-holds-clause-sound g t c =
+pub seek_tested-returns-then-passes-clause-sound : goal.seek_tested-returns-then-passes-clause-sound
+seek_tested-returns-then-passes-clause-sound g t c =
     let i = c.args.index.now in
     passed_sound i c.args.target c.args.need c.tests.from c.args.test.now c.args.below.now (shape_of c.args.node.now) c.tests.test c.tests.below (shape_of c.tests.node) c.reach.new.top (shape_of c.reach.new.node)
-    c.tests.invariant.far c.reach.ensures.top c.reach.ensures.sound c.reach.ensures.reached c.reach.ensures.falls c.reach.ensures.smaller c.reach.ensures.covers c.holds.new.self c.holds.ensures.same c.holds.ensures.next (omega (arith, c.if-below-ge-END.false)) (sym c.holds.ensures.value ∙ c.if-holds.true)
+    c.tests.invariant.far c.reach.ensures.top c.reach.ensures.sound c.reach.ensures.reached c.reach.ensures.falls c.reach.ensures.smaller c.reach.ensures.covers c.passes.new.self c.passes.ensures.same c.passes.ensures.next (omega (arith, c.if-below-ge-END.false)) (c.passes.ensures.holds c.if-passes.true)
 
-pub seek_tested-returns-then-holds-clause-covers : goal.seek_tested-returns-then-holds-clause-covers
-seek_tested-returns-then-holds-clause-covers g t c =
+pub seek_tested-returns-then-passes-clause-covers : goal.seek_tested-returns-then-passes-clause-covers
+seek_tested-returns-then-passes-clause-covers g t c =
     let i = c.args.index.now in
     passed_covers i c.args.target c.args.need c.tests.from c.args.test.now c.args.below.now (shape_of c.args.node.now) c.tests.test c.tests.below (shape_of c.tests.node) c.reach.new.top (shape_of c.reach.new.node)
-    c.tests.invariant.far c.reach.ensures.top c.reach.ensures.sound c.reach.ensures.reached c.reach.ensures.falls c.reach.ensures.smaller c.reach.ensures.covers c.holds.new.self c.holds.ensures.same c.holds.ensures.next (omega (arith, c.if-below-ge-END.false))
+    c.tests.invariant.far c.reach.ensures.top c.reach.ensures.sound c.reach.ensures.reached c.reach.ensures.falls c.reach.ensures.smaller c.reach.ensures.covers c.passes.new.self c.passes.ensures.same c.passes.ensures.next (omega (arith, c.if-below-ge-END.false))
 
 pub seek_tested-returns-then-from-ge-END-clause-top : goal.seek_tested-returns-then-from-ge-END-clause-top
 seek_tested-returns-then-from-ge-END-clause-top g t c =
     let i = c.args.index.now in
-    subst (λ (u : Top). IsTop i u (tested c.holds.new.self c.ended-then-from-ge-END.result (shape_of Node.Nothing))) (sym c.ended-then-from-ge-END-2.ensures)
-    (subst (λ (s : Shape). IsTop i (record { head = 2 ^ 32; weight = 0; greatest = 0 }) (tested c.holds.new.self c.ended-then-from-ge-END.result s)) (sym shape_of-Nothing)
-    (none_top i c.holds.new.self c.ended-then-from-ge-END.result ended (λ id. refl)))
+    subst (λ (u : Top). IsTop i u (tested c.passes.new.self c.ended-then-from-ge-END.result (shape_of Node.Nothing))) (sym c.ended-then-from-ge-END-2.ensures)
+    (subst (λ (s : Shape). IsTop i (record { head = 2 ^ 32; weight = 0; greatest = 0 }) (tested c.passes.new.self c.ended-then-from-ge-END.result s)) (sym shape_of-Nothing)
+    (none_top i c.passes.new.self c.ended-then-from-ge-END.result ended (λ id. refl)))
 
 pub seek_tested-returns-then-from-ge-END-clause-covers : goal.seek_tested-returns-then-from-ge-END-clause-covers
 seek_tested-returns-then-from-ge-END-clause-covers g t c =
     let i = c.args.index.now in
-    subst (λ (s : Shape). Covers (from_on c.args.target (rest i (tested c.args.test.now c.args.below.now (shape_of c.args.node.now)))) (rest i (tested c.holds.new.self c.ended-then-from-ge-END.result s)) c.args.need) (sym shape_of-Nothing)
+    subst (λ (s : Shape). Covers (from_on c.args.target (rest i (tested c.args.test.now c.args.below.now (shape_of c.args.node.now)))) (rest i (tested c.passes.new.self c.ended-then-from-ge-END.result s)) c.args.need) (sym shape_of-Nothing)
     (failed_ended_covers i c.args.target c.args.need c.tests.from c.args.test.now c.args.below.now (shape_of c.args.node.now) c.tests.test c.tests.below (shape_of c.tests.node) c.reach.new.top (shape_of c.reach.new.node)
-    c.tests.invariant.far c.reach.ensures.top c.reach.ensures.sound c.reach.ensures.reached c.reach.ensures.falls c.reach.ensures.smaller c.reach.ensures.covers c.holds.new.self c.holds.ensures.same c.holds.ensures.next (omega (arith, c.if-below-ge-END.false)) (sym c.holds.ensures.value ∙ c.if-holds.false) (omega (arith, c.if-from-ge-END.true)) c.ended-then-from-ge-END.result)
+    c.tests.invariant.far c.reach.ensures.top c.reach.ensures.sound c.reach.ensures.reached c.reach.ensures.falls c.reach.ensures.smaller c.reach.ensures.covers c.passes.new.self c.passes.ensures.same c.passes.ensures.next (omega (arith, c.if-below-ge-END.false)) (c.passes.ensures.fails c.if-passes.false) (omega (arith, c.if-from-ge-END.true)) c.ended-then-from-ge-END.result)
 
 pub seek_tested-tests-preserved : goal.seek_tested-tests-preserved
 seek_tested-tests-preserved g t c =
     let i = c.args.index.now in
-    let same : entries_from i c.holds.new.self.next c.holds.new.self.numbers.items ≡ entries_from i c.holds.new.self.next c.tests.test.numbers.items = ap (entries_from i c.holds.new.self.next) c.holds.ensures.same.numbers in
+    let same : entries_from i c.passes.new.self.next c.passes.new.self.numbers.items ≡ entries_from i c.passes.new.self.next c.tests.test.numbers.items = ap (entries_from i c.passes.new.self.next) c.passes.ensures.same.numbers in
     record {
       far = failed_more i c.args.target c.args.need c.tests.from c.args.test.now c.args.below.now (shape_of c.args.node.now) c.tests.test c.tests.below (shape_of c.tests.node) c.reach.new.top (shape_of c.reach.new.node)
-          c.tests.invariant.far c.reach.ensures.top c.reach.ensures.sound c.reach.ensures.reached c.reach.ensures.falls c.reach.ensures.smaller c.reach.ensures.covers c.holds.new.self c.holds.ensures.same c.holds.ensures.next (omega (arith, c.if-below-ge-END.false)) (sym c.holds.ensures.value ∙ c.if-holds.false) (omega (arith, c.if-from-ge-END.false));
-      paid = omega (arith, same, c.reach.ensures.paid, c.holds.ensures.paid, c.tests.invariant.paid);
-      counted = omega (arith, c.reach.ensures.counted, c.holds.ensures.counted, c.tests.invariant.counted);
-      later = omega (arith, c.reach.ensures.later, c.holds.ensures.later, c.tests.invariant.later);
+          c.tests.invariant.far c.reach.ensures.top c.reach.ensures.sound c.reach.ensures.reached c.reach.ensures.falls c.reach.ensures.smaller c.reach.ensures.covers c.passes.new.self c.passes.ensures.same c.passes.ensures.next (omega (arith, c.if-below-ge-END.false)) (c.passes.ensures.fails c.if-passes.false) (omega (arith, c.if-from-ge-END.false));
+      paid = omega (arith, same, c.reach.ensures.paid, c.passes.ensures.paid, c.tests.invariant.paid);
+      counted = omega (arith, c.reach.ensures.counted, c.passes.ensures.counted, c.tests.invariant.counted);
+      later = omega (arith, c.reach.ensures.later, c.passes.ensures.later, c.tests.invariant.later);
     }
 
 pub seek-returns-in-Tested-clause-top : goal.seek-returns-in-Tested-clause-top
