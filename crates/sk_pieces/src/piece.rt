@@ -3,7 +3,7 @@ ghost use Rattle.std.specs.Prelude.{◌≡◌, ◌≤◌, ◌<◌, ◌+◌, ◌�
 ghost use Rattle.std.specs.Option.{option_map};
 ghost use Rattle.sk_sorted.specs.Entries.{AreSorted, RiseAbove, put, without, found, has, from, top_id};
 
-use crate::place::place_from;
+use crate::place::{place_from, place_without_gaps};
 use sk_sorted::Sorted;
 use std::alloc::{AllocError, Global};
 use std::fmt::{Debug, Error, Formatter, Write};
@@ -60,7 +60,11 @@ impl<T> Piece<T> {
     pub fn get(&self, id: u32) -> Option<&T>
         ensures { option_map (λ x. x.now) result ≡ found id self.now }
     {
-        self.entries.get(id)
+        let entries = self.entries.as_slice();
+        match place_without_gaps(entries, id) {
+            Some(at) => Some(&entries[at].1),
+            None => self.entries.get(id),
+        }
     }
 
     /// The place of the first entry from this place on whose id is at least `id`. It looks at ids alone.

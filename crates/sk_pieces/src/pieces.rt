@@ -1,5 +1,5 @@
 //! A list of entries in order of their ids, in pieces.
-ghost use Rattle.std.specs.Prelude.{◌≡◌, ◌+◌, ◌≤◌, ◌<◌, ◌⊎◌, ℕ, [], length, take, drop, get_or, set, true, false, IfOk, IsOk, OnOk, OnErr};
+ghost use Rattle.std.specs.Prelude.{◌≡◌, ◌+◌, ◌-◌, ◌≤◌, ◌<◌, ◌⊎◌, ℕ, [], length, take, drop, get_or, set, true, false, IfOk, IsOk, OnOk, OnErr};
 ghost use Rattle.std.specs.List.{insert};
 ghost use Rattle.std.specs.Option.{option_map};
 ghost use Rattle.std.specs.Vec.{vec_len, vec_capacity};
@@ -80,17 +80,30 @@ impl<T> Pieces<T> {
         self.pieces[at].get(id)
     }
 
-    // The first piece that ends at the id or behind it; their number where there is none.
+    // The first piece that ends at the id or behind it; their number where there is none. New entries that came in
+    // order, with no gap between their ids, fill the pieces from the first on, so it looks at that place first.
     fn place(&self, id: u32) -> usize
         ensures bound { result ≤ length self.now }
         ensures before { (k : ℕ) → k < result → top_id 0 (get_or self.now k []) < id }
         ensures at { result < length self.now → id ≤ top_id 0 (get_or self.now result []) }
         ensures sound { AreRuns self.now }
     {
-        self.pieces
-            .as_slice()
-            .partition_point(|piece| piece.last() < id)
+        let pieces = self.pieces.as_slice();
+        let guess = (id.saturating_sub(1) / FULL) as usize;
+        if is_place(pieces, guess, id) {
+            return guess;
+        }
+        pieces.partition_point(|piece| piece.last() < id)
     }
+}
+
+// Whether the piece ends at the id or behind it, and the one before it does not.
+fn is_place<T>(pieces: &[Piece<T>], at: usize, id: u32) -> bool
+    ensures within { result ≡ true → at < length pieces.now }
+    ensures before { result ≡ true → 0 < at → top_id 0 (get_or pieces.now (at - 1) []) < id }
+    ensures at { result ≡ true → id ≤ top_id 0 (get_or pieces.now at []) }
+{
+    at < pieces.len() && id <= pieces[at].last() && (at == 0 || pieces[at - 1].last() < id)
 }
 
 impl<T: Drop> Pieces<T> {
