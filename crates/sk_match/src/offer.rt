@@ -86,6 +86,9 @@ pub(crate) fn show(
     if collapser.is_none() && is_kept_out(heap, weight) {
         return Ok(());
     }
+    if collapser.is_none() && heap.turns_away(weight, value, id) {
+        return Ok(());
+    }
     let value = bytes_of(alloc, value)?;
     let key = bytes_of(alloc, key)?;
     let rank = Rank { weight, value, id };
