@@ -11,7 +11,7 @@ use Rattle.sk_model.specs.Combining.{where_so}
 use Rattle.sk_model.specs.Covers.{CoversAt, Covers}
 use Rattle.sk_model.proofs.CoverLaws.{covers_itself, covers_then}
 use Rattle.sk_index.specs.Indexed.{Indexed}
-use Rattle.sk_decay.specs.Heads.{IsHead, NoneBelow}
+use Rattle.sk_decay.specs.Heads.{IsHead}
 use Rattle.sk_nodes.specs.declared.top.Top.{Top}
 use Rattle.sk_nodes.specs.declared.proximity.Proximity.{Proximity}
 use Rattle.sk_nodes.specs.Leaves.{list_in}

@@ -7,7 +7,7 @@ use Rattle.sk_nodes.specs.Left.{rests}
 use Rattle.sk_nodes.specs.Sound.{AreSound}
 use Rattle.sk_nodes.specs.Odd.{AreFrom}
 use Rattle.sk_nodes.proofs.OddLaws.{sides_cons}
-use Rattle.sk_nodes.proofs.AnyLaws.{first_end, first_before, first_behind, first_with}
+use Rattle.sk_nodes.proofs.AnyLaws.{first_before, first_behind, first_with}
 use Rattle.sk_nodes.proofs.any.+first_of.Goals as goal
 
 pub returns-then-top-head-clause-first : goal.returns-then-top-head-clause-first
