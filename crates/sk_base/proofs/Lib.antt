@@ -1,3 +1,4 @@
 pub mod RankLaws
 mod Examples
 mod FittingLemmas
+pub mod Tests

@@ -8,6 +8,10 @@ abbrev pub load_of : List DocTerm → ℕ
 load_of [] = 0
 load_of (one ∷ more) = one.wdf + load_of more
 
+-- The wdfs, added, lie below 2^29.
+abbrev pub AreLight : List DocTerm → Type 0
+AreLight terms = load_of terms < 2 ^ 29
+
 -- A document with its id, whose wdfs, added, lie below 2^29.
 abbrev pub IsLight : ℕ × Doc → Type 0
-IsLight one = load_of one.1.terms < 2 ^ 29
+IsLight one = AreLight one.1.terms

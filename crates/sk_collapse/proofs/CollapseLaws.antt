@@ -8,6 +8,7 @@ use Rattle.std.proofs.lemmas.List.Elements.{All-from_recursion, recursion_from_A
 use Rattle.std.proofs.lemmas.List.Sums.{sum_by-cons}
 use Rattle.std.proofs.lemmas.List.Kept.{AllPairs-cons}
 use Rattle.std.specs.Cmp.Lexicographic.{bytes_decides}
+use Rattle.std.proofs.lemmas.Bool.{eq-eqb, eqb-true}
 use Rattle.sk_base.specs.declared.find.Collapse.{Collapse}
 use Rattle.sk_base.specs.declared.rank.Rank.{Rank}
 use Rattle.sk_base.specs.declared.rank.Order.{Order}
@@ -18,7 +19,7 @@ use Rattle.sk_model.proofs.KeptLaws.{kept_each, kept_of_key}
 use Rattle.sk_collapse.specs.Collapsed.{Collapsed, Group, Knows, group_of, kept_in, dropped_in}
 use Rattle.sk_collapse.specs.Verdicts.{Judges, without_rank, verdict_of}
 use Rattle.sk_collapse.specs.declared.verdict.Verdict.{Verdict}
-use Rattle.sk_collapse.proofs.PlacedLaws.{same_number, number_same, other_number, each_filter, each_take, each_drop, each_best, each_map, Apart, Leads, Strict, Distinct, leads_through, one_first, place_front, strict_best, strict_filter, strict_take, distinct_best, take_placed, take_twice, without, without_none, without_first, without_apart, without_placed}
+use Rattle.sk_collapse.proofs.PlacedLaws.{other_number, each_filter, each_take, each_drop, each_best, each_map, Apart, Leads, Strict, Distinct, leads_through, one_first, place_front, strict_best, strict_filter, strict_take, distinct_best, take_placed, take_twice, without, without_none, without_first, without_apart, without_placed}
 use Rattle.sk_collapse.proofs.KeptMore.{each_kept, strict_kept, distinct_kept, free_placed, moves, own_placed, other_placed}
 
 -- ---- ids that differ
@@ -77,7 +78,7 @@ length-without_rank z xs d m = less xs d m.0 m.1.0 m.1.1
     less [] d i l e = absurd (omega (arith, l))
     less (h ∷ t) d zero l e =
         let same : h ≡ z = sym e in
-        ap (λ b. suc (length (cond (not b) (h ∷ without_rank z.id t) (without_rank z.id t)))) (same_number h.id z.id (ap (λ (y : Rank). y.id) same))
+        ap (λ b. suc (length (cond (not b) (h ∷ without_rank z.id t) (without_rank z.id t)))) (eq-eqb h.id z.id (ap (λ (y : Rank). y.id) same))
         ∙ ap (λ ys. suc (length ys)) (without_apart z [] t (subst (λ (y : Rank). Apart y t) same d.0))
     less (h ∷ t) d (suc i) l e =
         let there : IsAmong t z = (i, (omega (arith, l), e)) in
@@ -242,8 +243,8 @@ module _ (order : Order) (most : ℕ) (key : Rank → List ℕ) (ranks : List Ra
     judged_by [] e = judged_keep e
     judged_by (z ∷ zs) e =
         elim (z.id == x.id) as (λ b. (z.id == x.id) ≡ b → Judges (cond b Verdict.Drop (Verdict.KeepFor z.id)) order key x Before After) [
-          | true ↦ λ same. judged_drop z zs e (number_same z.id x.id same)
-          | false ↦ λ other. judged_for z zs e (λ f. true≢false (sym (same_number z.id x.id f) ∙ other))
+          | true ↦ λ same. judged_drop z zs e (eqb-true z.id x.id same)
+          | false ↦ λ other. judged_for z zs e (λ f. true≢false (sym (eq-eqb z.id x.id f) ∙ other))
         ] refl
 
     distinct_before : Distinct Before
@@ -259,10 +260,10 @@ module _ (order : Order) (most : ℕ) (key : Rank → List ℕ) (ranks : List Ra
         let one : suc (length zs) ≡ suc (min most (count_key key (key x) ranks)) - most = sym (ap (λ (ys : List Rank). length ys) e) ∙ length-gone in
         elim (z.id == x.id) as (λ b. (z.id == x.id) ≡ b → length After + suc (length zs) ≡ suc (length Before)) [
           | true ↦ λ same.
-              let both : length After ≡ length Before = ap (λ (ys : List Rank). length ys) (judged_drop z zs e (number_same z.id x.id same)) in
+              let both : length After ≡ length Before = ap (λ (ys : List Rank). length ys) (judged_drop z zs e (eqb-true z.id x.id same)) in
               omega (arith, both, one)
           | false ↦ λ other.
-              let apart : z.id ≢ x.id = λ f. true≢false (sym (same_number z.id x.id f) ∙ other) in
+              let apart : z.id ≢ x.id = λ f. true≢false (sym (eq-eqb z.id x.id f) ∙ other) in
               let there = judged_for z zs e apart in
               let less : suc (length (without_rank z.id Before)) ≡ length Before = length-without_rank z Before distinct_before (gone_is z zs e apart).0.0 in
               let both : length After ≡ suc (length (without_rank z.id Before)) = ap (λ (ys : List Rank). length ys) there.5 ∙ length-place order x (without_rank z.id Before) in
@@ -409,15 +410,11 @@ take_without (suc n) id [] d = refl
 take_without (suc n) id (h ∷ t) d =
     elim (h.id == id) as (λ b. (h.id == id) ≡ b → take (suc n) (cond (not b) (h ∷ without_rank id t) (without_rank id t)) ≡ take (suc n) (cond (not b) (h ∷ without_rank id (take (suc n) t)) (without_rank id (take (suc n) t)))) [
       | true ↦ λ e.
-          let far : AllByRecursion (λ z. z.id ≢ id) t = far_from h id t (number_same h.id id e) d.0 in
+          let far : AllByRecursion (λ z. z.id ≢ id) t = far_from h id t (eqb-true h.id id e) d.0 in
           ap (take (suc n)) (without_far id t far) ∙ sym (take_twice (suc n) t)
           ∙ sym (ap (take (suc n)) (without_far id (take (suc n) t) (each_take (λ z. z.id ≢ id) (suc n) t far)))
       | false ↦ λ e. ap (λ ys. h ∷ ys) (take_without n id t d.1)
     ] refl
-
--- it comes to them: the best of all are the best of the best and it
-pub best_more_kept : (order : Order) (n : ℕ) (x : Rank) (kept : List Rank) → take n (place order x kept) ≡ take n (place order x (take n kept))
-best_more_kept order n x kept = take_placed order n x kept
 
 best_step : (n : ℕ) (x h : Rank) (ys zs : List Rank) (b : Bool) (placed others : List Rank)
     → ((m : ℕ) → n ≡ suc m → take m ys ≡ take m zs) → take n placed ≡ take n others
@@ -434,8 +431,8 @@ best_without order x y first (suc n) (h ∷ t) s d zero l e =
     let same : h ≡ y = sym e in
     let far : AllByRecursion (λ z. z.id ≢ y.id) t = far_from h y.id t (ap (λ (z : Rank). z.id) same) d.0 in
     let leads : Leads order x t = leads_through order x y t first (subst (λ (z : Rank). Leads order z t) same s.0) in
-    let gone = ap (λ b. cond (not b) (h ∷ without_rank y.id t) (without_rank y.id t)) (same_number h.id y.id (ap (λ (z : Rank). z.id) same)) in
-    let gone_front = ap (λ b. cond (not b) (h ∷ without_rank y.id (take n t)) (without_rank y.id (take n t))) (same_number h.id y.id (ap (λ (z : Rank). z.id) same)) in
+    let gone = ap (λ b. cond (not b) (h ∷ without_rank y.id t) (without_rank y.id t)) (eq-eqb h.id y.id (ap (λ (z : Rank). z.id) same)) in
+    let gone_front = ap (λ b. cond (not b) (h ∷ without_rank y.id (take n t)) (without_rank y.id (take n t))) (eq-eqb h.id y.id (ap (λ (z : Rank). z.id) same)) in
     ap (λ ys. take (suc n) (place order x ys)) (gone ∙ without_far y.id t far) ∙ ap (take (suc n)) (place_front order x t leads)
     ∙ ap (λ ys. x ∷ ys) (sym (take_twice n t))
     ∙ sym (ap (λ ys. take (suc n) (place order x ys)) (gone_front ∙ without_far y.id (take n t) (each_take (λ z. z.id ≢ y.id) n t far))
@@ -459,7 +456,7 @@ pairs_strict : (order : Order) (xs : List Rank) → Strict order xs → AllPairs
 pairs_strict order [] s = λ i j d l m. absurd (omega (arith, m))
 pairs_strict order (x ∷ xs) s = AllPairs-cons (λ x y. is_before order x y ≡ true) x xs (All-from_recursion (λ y. is_before order x y ≡ true) xs s.0) (pairs_strict order xs s.1)
 
-pairs_distinct : (xs : List Rank) → Distinct xs → AllPairs (λ x y. x.id ≢ y.id) xs
+pub pairs_distinct : (xs : List Rank) → Distinct xs → AllPairs (λ x y. x.id ≢ y.id) xs
 pairs_distinct [] s = λ i j d l m. absurd (omega (arith, m))
 pairs_distinct (x ∷ xs) s = AllPairs-cons (λ x y. x.id ≢ y.id) x xs (All-from_recursion (λ y. x.id ≢ y.id) xs s.0) (pairs_distinct xs s.1)
 

@@ -17,6 +17,7 @@ use Rattle.std.proofs.lemmas.List.Elements.{All-from_recursion, recursion_from_A
 use Rattle.std.proofs.lemmas.Map.Lookups.{exact_bytes}
 use Rattle.std.proofs.lemmas.Map.Steps.{set_value_same}
 use Rattle.std.proofs.lemmas.Map.Views.{All-values-insert_entry, All-values-set_value}
+use Rattle.sk_base.proofs.Tests.{same_tests}
 use Rattle.sk_base.specs.declared.rank.Rank.{Rank}
 use Rattle.sk_base.specs.declared.rank.Order.{Order}
 use Rattle.sk_model.specs.Page.{place}
@@ -39,7 +40,7 @@ if_err (Err b) P Q f h = f b h
 
 -- ---- hits as matches
 
-ranks_drop : (n : ℕ) (hits : List Hit) → ranks_of (drop n hits) ≡ drop n (ranks_of hits)
+pub ranks_drop : (n : ℕ) (hits : List Hit) → ranks_of (drop n hits) ≡ drop n (ranks_of hits)
 ranks_drop zero hits = refl
 ranks_drop (suc n) [] = refl
 ranks_drop (suc n) (h ∷ t) = ranks_drop n t
@@ -119,11 +120,6 @@ at k = is_at (λ j. slice_cmp nat_cmp k j.items)
 -- no group
 abbrev pub no_group : Group
 no_group = record { kept = []; dropped = 0 }
-
-same_tests : (b c : Bool) → (b ≡ true → c ≡ true) → (c ≡ true → b ≡ true) → b ≡ c
-same_tests true c f g = sym (f refl)
-same_tests false true f g = g refl
-same_tests false false f g = refl
 
 equal_is : (r : Ordering) → is_eq r ≡ true → r ≡ Equal
 equal_is Less e = absurd (true≢false (sym e))

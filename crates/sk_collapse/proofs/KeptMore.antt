@@ -1,9 +1,10 @@
 -- What is kept of one match more.
 use Rattle.std.proofs.Common.{◌≡◌, ◌≢◌, ◌<◌, ◌≤◌, ◌+◌, ◌-◌, ℕ, zero, suc, Bool, true, false, cond, ◌||◌, ◌==◌, nat_lt, List, [], ◌∷◌, length, take, drop, filter, count_by, bytes_eq, refl, sym, ap, ◌∙◌, subst, arith, true≢false}
 use Rattle.std.specs.List.{AllByRecursion}
-use Rattle.std.proofs.lemmas.Bool.Decides.{nat_tests}
 use Rattle.std.proofs.lemmas.List.Sums.{sum_by-cons}
 use Rattle.std.specs.Cmp.Lexicographic.{bytes_decides}
+use Rattle.std.proofs.lemmas.Bool.{le-ltb, lt-ltb, or_right}
+use Rattle.sk_model.proofs.KeptLaws.{bytes_sym}
 use Rattle.sk_base.specs.declared.rank.Rank.{Rank}
 use Rattle.sk_base.specs.declared.rank.Order.{Order}
 use Rattle.sk_base.specs.Before.{is_before}
@@ -11,20 +12,6 @@ use Rattle.sk_model.specs.Page.{place, is_kept, kept_behind}
 use Rattle.sk_collapse.proofs.PlacedLaws.{each_filter, each_take, each_drop, each_placed, Apart, Leads, Strict, Distinct, leads_through, place_front, place_behind, place_before, drop_nil, without, without_none, without_kept, without_first}
 
 -- ---- tests
-
-less_is : (a b : ℕ) → a < b → nat_lt a b ≡ true
-less_is a b h = grind (arith, nat_tests)
-
-not_less_is : (a b : ℕ) → b ≤ a → nat_lt a b ≡ false
-not_less_is a b h = grind (arith, nat_tests)
-
-same_tests : (b c : Bool) → (b ≡ true → c ≡ true) → (c ≡ true → b ≡ true) → b ≡ c
-same_tests true c f g = sym (f refl)
-same_tests false true f g = g refl
-same_tests false false f g = refl
-
-bytes_sym : (a b : List ℕ) → bytes_eq a b ≡ bytes_eq b a
-bytes_sym a b = same_tests (bytes_eq a b) (bytes_eq b a) (λ e. (bytes_decides b a).1 (sym ((bytes_decides a b).0 e))) (λ e. (bytes_decides a b).1 (sym ((bytes_decides b a).0 e)))
 
 bytes_same : (a : List ℕ) → bytes_eq a a ≡ true
 bytes_same a = (bytes_decides a a).1 refl
@@ -51,10 +38,6 @@ or_false : (b c : Bool) → b ≡ false → c ≡ false → (b || c) ≡ false
 or_false true c e f = e
 or_false false c e f = f
 
-or_second : (b c : Bool) → c ≡ true → (b || c) ≡ true
-or_second true c f = refl
-or_second false c f = f
-
 module _ (most : ℕ) (key : Rank → List ℕ) where
   abbrev Count : List ℕ → List (List ℕ) → ℕ
   Count j before = count_by (bytes_eq j) before
@@ -66,10 +49,10 @@ module _ (most : ℕ) (key : Rank → List ℕ) where
   test_same j b c e = or_step (IsEmpty j) (Count j b) (Count j c) most e
 
   test_yes : (j : List ℕ) (b : List (List ℕ)) → Count j b < most → is_kept most j b ≡ true
-  test_yes j b h = or_second (IsEmpty j) (nat_lt (Count j b) most) (less_is (Count j b) most h)
+  test_yes j b h = or_right (IsEmpty j) (nat_lt (Count j b) most) (lt-ltb (Count j b) most h)
 
   test_no : (j : List ℕ) (b : List (List ℕ)) → IsEmpty j ≡ false → most ≤ Count j b → is_kept most j b ≡ false
-  test_no j b some h = or_false (IsEmpty j) (nat_lt (Count j b) most) some (not_less_is (Count j b) most h)
+  test_no j b some h = or_false (IsEmpty j) (nat_lt (Count j b) most) some (le-ltb (Count j b) most h)
 
   test_empty : (j : List ℕ) (b : List (List ℕ)) → IsEmpty j ≡ true → is_kept most j b ≡ true
   test_empty j b e = ap (λ i. i || nat_lt (Count j b) most) e

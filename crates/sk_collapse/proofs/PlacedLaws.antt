@@ -2,27 +2,19 @@
 use Rattle.std.proofs.Common.{◌≡◌, ◌≢◌, ℕ, zero, suc, Bool, true, false, cond, not, ◌==◌, List, [], ◌∷◌, take, drop, filter, refl, sym, ap, ◌∙◌, arith, true≢false}
 use Rattle.std.specs.List.{AllByRecursion}
 use Rattle.std.proofs.lemmas.Bool.Decides.{nat_tests}
-use Rattle.std.specs.Ordering.{ordering_reverse, is_lt}
-use Rattle.std.specs.declared.cmp.Ordering.{Ordering}
-use Rattle.std.specs.declared.cmp.Ordering.TheVariants.{Less, Equal, Greater}
+use Rattle.std.proofs.lemmas.Bool.{eq-eqb}
 use Rattle.sk_base.specs.declared.rank.Rank.{Rank}
 use Rattle.sk_base.specs.declared.rank.Order.{Order}
 use Rattle.sk_base.specs.Before.{rank_cmp, is_before}
 use Rattle.sk_base.proofs.RankLaws.{rank_total, ids_tie}
 use Rattle.sk_model.specs.Page.{place, best_first}
-use Rattle.sk_model.proofs.OrderLaws.{before_order}
+use Rattle.sk_model.proofs.OrderLaws.{before_order, tied}
 use Rattle.sk_collapse.specs.Verdicts.{without_rank}
 
 -- ---- tests
 
-pub same_number : (a b : ℕ) → a ≡ b → (a == b) ≡ true
-same_number a b e = grind (arith, nat_tests)
-
 pub other_number : (a b : ℕ) → a ≢ b → (a == b) ≡ false
 other_number a b e = grind (arith, nat_tests)
-
-pub number_same : (a b : ℕ) → (a == b) ≡ true → a ≡ b
-number_same a b e = grind (arith, nat_tests)
 
 -- ---- lists of which something holds of each
 
@@ -79,11 +71,6 @@ Leads order x xs = AllByRecursion (λ y. is_before order x y ≡ true) xs
 abbrev pub Strict : Order → List Rank → Type 0
 Strict order [] = Unit {0}
 Strict order (x ∷ xs) = Leads order x xs × Strict order xs
-
-tied : (r s : Ordering) → r ≡ ordering_reverse s → is_lt r ≡ false → is_lt s ≡ false → r ≡ Equal
-tied r Less e f g = absurd (true≢false g)
-tied r Equal e f g = e
-tied r Greater e f g = absurd (true≢false (sym (ap is_lt e) ∙ f))
 
 module _ (order : Order) where
   -- of two ids one comes before the other
@@ -211,7 +198,7 @@ pub without_kept : (gone : List Rank) (h : Rank) (ys : List Rank) → Apart h go
 without_kept gone h ys a = ap (λ b. cond (not b) (h ∷ without gone ys) (without gone ys)) (stays gone h a)
 
 pub without_self : (h : Rank) (gone ys : List Rank) → without (h ∷ gone) (h ∷ ys) ≡ without (h ∷ gone) ys
-without_self h gone ys = ap (λ b. cond (not b) (h ∷ without (h ∷ gone) ys) (without (h ∷ gone) ys)) (same_number h.id h.id refl)
+without_self h gone ys = ap (λ b. cond (not b) (h ∷ without (h ∷ gone) ys) (without (h ∷ gone) ys)) (eq-eqb h.id h.id refl)
 
 pub without_apart : (h : Rank) (gone ys : List Rank) → Apart h ys → without (h ∷ gone) ys ≡ ys
 without_apart h gone [] a = refl

@@ -7,12 +7,8 @@ use Rattle.std.proofs.lemmas.List.{get_or_append_left, get_or_push, length_push}
 use Rattle.std.proofs.lemmas.List.Sums.{position_or_len_is, fails_before_first}
 use Rattle.std.proofs.lemmas.List.Quantifiers.{position-Some}
 use Rattle.std.proofs.lemmas.Slice.Eq.{bytes_eq-Decides}
+use Rattle.std.proofs.lemmas.Bool.{false_from_ne_true}
 use Rattle.sk_dict.specs.Terms.{term_at, number_of, with_term}
-
--- a test that does not hold
-not_true : (b : Bool) → (b ≡ true → ⊥) → b ≡ false
-not_true true h = absurd (h refl)
-not_true false h = refl
 
 module _ (terms : List (List ℕ)) (key : List ℕ) where
   -- whether a term is the key
@@ -21,7 +17,7 @@ module _ (terms : List (List ℕ)) (key : List ℕ) where
 
   -- a term that is not the key
   other : (n : ℕ) → term_at terms n ≢ key → is_key (get_or terms n []) ≡ false
-  other n ne = not_true (is_key (get_or terms n [])) (λ h. ne ((bytes_eq-Decides (get_or terms n []) key).0 h))
+  other n ne = false_from_ne_true (is_key (get_or terms n [])) (λ h. ne ((bytes_eq-Decides (get_or terms n []) key).0 h))
 
   -- no term is the key
   pub number_of-absent : ((n : ℕ) → n < length terms → term_at terms n ≢ key) → number_of key terms ≡ None

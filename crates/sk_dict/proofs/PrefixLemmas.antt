@@ -1,35 +1,25 @@
 -- The terms that begin with a prefix stand together in the order.
-use Rattle.std.proofs.Common.{◌≡◌, ℕ, Bool, true, false, ◌&&◌, Option, None, Some, is_some, IfSome, List, [], ◌∷◌, nat_eq, sym, ap, subst, ◌∙◌, refl, inl, inr}
+use Rattle.std.proofs.Common.{◌≡◌, ℕ, Bool, true, false, Option, None, Some, is_some, IfSome, List, [], ◌∷◌, nat_eq, sym, ap, subst, ◌∙◌, refl, inl, inr}
 use Rattle.std.specs.Ordering.{nat_cmp, ordering_then}
 use Rattle.std.specs.FinMap.{nat_cmp-IsAntisymmetric}
 use Rattle.std.specs.declared.cmp.Ordering.{Ordering}
 use Rattle.std.specs.declared.cmp.Ordering.TheVariants.{Less, Equal, Greater}
-use Rattle.std.proofs.lemmas.Bool.{cases_eq}
+use Rattle.std.proofs.lemmas.Bool.{cases_eq, and_from, and_parts}
 use Rattle.std.proofs.lemmas.Bool.Decides.{Decides-eqb}
 use Rattle.std.proofs.lemmas.Cmp.{nat_cmp_total, tied_itself}
 use Rattle.sk_dict.specs.Terms.{term_at, term_cmp, Precedes, begins_with, IsFollower, IsNext, HasNoNext}
 use Rattle.sk_dict.specs.Searches.{passed, stands_before, IsFirst, AllPassed, start_of}
 use Rattle.sk_dict.proofs.OrderLemmas.{turned, turned_back}
 
--- both tests hold
-both : (a b : Bool) → a ≡ true → b ≡ true → (a && b) ≡ true
-both true b e f = f
-both false b e f = e
-
--- and each of them
-each_of : (a b : Bool) → (a && b) ≡ true → (a ≡ true) × (b ≡ true)
-each_of true b h = (refl, h)
-each_of false b h = cc
-
 -- what a term and a prefix of one byte more have in common
 begins_more : (c x : ℕ) (cs xs : List ℕ) → begins_with (x ∷ xs) (c ∷ cs) ≡ true → (c ≡ x) × (begins_with xs cs ≡ true)
 begins_more c x cs xs h =
-    let parts : (nat_eq c x ≡ true) × (begins_with xs cs ≡ true) = each_of (nat_eq c x) (begins_with xs cs) h in
+    let parts : (nat_eq c x ≡ true) × (begins_with xs cs ≡ true) = and_parts (nat_eq c x) (begins_with xs cs) h in
     ((Decides-eqb c x).0 parts.0, parts.1)
 
 -- and back
 begins_from : (c x : ℕ) (cs xs : List ℕ) → c ≡ x → begins_with xs cs ≡ true → begins_with (x ∷ xs) (c ∷ cs) ≡ true
-begins_from c x cs xs e h = both (nat_eq c x) (begins_with xs cs) ((Decides-eqb c x).1 e) h
+begins_from c x cs xs e h = and_from (nat_eq c x) (begins_with xs cs) ((Decides-eqb c x).1 e) h
 
 -- a text begins with itself
 begins_itself : (p : List ℕ) → begins_with p p ≡ true

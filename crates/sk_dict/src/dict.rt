@@ -93,7 +93,7 @@ impl Dict {
         }
     }
 
-    // The number of the term, where it is the one that is guessed.
+    /// The number of the term, where it is the one that is guessed.
     fn guessed(&self, term: &[u8]) -> Option<usize>
         ensures value { IfSome result (λ n. number_of term.now self.now ≡ Some n) }
         ensures there { IfSome result (λ n. n < length self.now) }
@@ -106,7 +106,7 @@ impl Dict {
         }
     }
 
-    // The number of the term, by its place in the order of all.
+    /// The number of the term, by its place in the order of all.
     fn searched(&self, term: &[u8]) -> Option<usize>
         ensures value { result ≡ number_of term.now self.now }
         ensures there { IfSome result (λ n. n < length self.now) }
@@ -146,7 +146,7 @@ impl Dict {
         Ok(found)
     }
 
-    // The first term at the key, or behind it.
+    /// The first term at the key, or behind it.
     fn first(&self, key: &[u8], behind: bool) -> Option<usize>
         ensures { MatchOption result (AllPassed self.now key.now behind) (λ n. IsFirst self.now key.now behind n) }
     {
@@ -157,7 +157,7 @@ impl Dict {
         number_at(&self.blocks, place)
     }
 
-    // Where the search for the next term begins.
+    /// Where the search for the next term begins.
     fn start<'a>(&'a self, prefix: &'a [u8], after: Option<usize>) -> &'a [u8]
         requires { IfSome after (λ a. a < length self.now) }
         ensures { result.now ≡ start_of self.now prefix.now after }
@@ -168,7 +168,7 @@ impl Dict {
         }
     }
 
-    // Gives the next number to a term that is not there.
+    /// Gives the next number to a term that is not there.
     fn add_new(&mut self, term: &[u8]) -> Result<usize, AllocError>
         requires { number_of term.now self.old ≡ None }
         ensures ok { IfOk result (λ n. n ≡ length self.old) }

@@ -52,7 +52,7 @@ impl Guesses {
     }
 }
 
-// The FNV-1a hash, its high half mixed into the low one.
+/// The FNV-1a hash, its high half mixed into the low one.
 fn hash_of(term: &[u8]) -> u64 {
     let mut hash = 0xcbf2_9ce4_8422_2325_u64;
     'bytes: for byte in term {

@@ -11,7 +11,7 @@ use crate::block::{Block, FULL};
 use crate::terms::{Terms, head_of};
 use std::alloc::{AllocError, Global};
 
-// Where a full block is cut.
+/// Where a full block is cut.
 const HALF: usize = 256;
 
 /// A place in the order: before the number in this offset of this block.
@@ -21,7 +21,7 @@ pub(crate) struct Place {
     pub offset: usize,
 }
 
-// The last block whose first term is passed, or the first block.
+/// The last block whose first term is passed, or the first block.
 fn find_block(terms: &Terms, blocks: &[Block], key: &[u8], head: u64, behind: bool) -> usize
     requires rising { IsRising terms.now (concat blocks.now) }
     requires known { Each (IsKnown terms.now) (concat blocks.now) }
@@ -46,7 +46,7 @@ fn find_block(terms: &Terms, blocks: &[Block], key: &[u8], head: u64, behind: bo
     low
 }
 
-// How many of the numbers have a term that is passed.
+/// How many of the numbers have a term that is passed.
 fn find_slot(terms: &Terms, numbers: &[usize], key: &[u8], head: u64, behind: bool) -> usize
     requires rising { IsRising terms.now numbers.now }
     requires known { Each (IsKnown terms.now) numbers.now }
@@ -145,7 +145,7 @@ pub(crate) fn numbers_with(
     }
 }
 
-// Cuts the block in two.
+/// Cuts the block in two.
 fn cut(blocks: &mut Vec<Block>, block: usize, half: usize) -> Result<(), AllocError>
     requires there { block < length blocks.old.items }
     requires some { 0 < half }
@@ -159,7 +159,7 @@ fn cut(blocks: &mut Vec<Block>, block: usize, half: usize) -> Result<(), AllocEr
     Ok(())
 }
 
-// The place again, in a block that has room: a full one is cut.
+/// The place again, in a block that has room: a full one is cut.
 fn make_room(blocks: &mut Vec<Block>, place: Place) -> Result<Place, AllocError>
     requires there { place.block < length blocks.old.items }
     requires within { place.offset ≤ length (in_block blocks.old.items place.block) }
@@ -179,7 +179,7 @@ fn make_room(blocks: &mut Vec<Block>, place: Place) -> Result<Place, AllocError>
     })
 }
 
-// Puts the number into the block.
+/// Puts the number into the block.
 fn put_at(blocks: &mut Vec<Block>, place: Place, number: usize) -> Result<(), AllocError>
     requires there { place.block < length blocks.old.items }
     requires within { place.offset ≤ length (in_block blocks.old.items place.block) }

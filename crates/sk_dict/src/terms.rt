@@ -30,7 +30,7 @@ impl Model for Terms {
     ghost invariant = { λ t. IsPacked t.bytes.items t.ends.items t.heads.items };
 }
 
-// A byte, or 0 past the end.
+/// A byte, or 0 past the end.
 fn byte_at(bytes: &[u8], i: usize) -> u8
     ensures { result ≡ slice_index bytes.now i }
 {
@@ -50,7 +50,7 @@ pub(crate) fn head_of(bytes: &[u8]) -> u64
     head
 }
 
-// Whether the term stands before the key, or at the key where what is wanted stands behind it.
+/// Whether the term stands before the key, or at the key where what is wanted stands behind it.
 fn is_before(term: &[u8], key: &[u8], behind: bool) -> bool
     ensures { result ≡ stands_before key.now behind term.now }
 {
@@ -61,7 +61,7 @@ fn is_before(term: &[u8], key: &[u8], behind: bool) -> bool
     }
 }
 
-// Where the term with this number begins; behind the last, where that one ends.
+/// Where the term with this number begins; behind the last, where that one ends.
 fn start(ends: &[usize], number: usize) -> usize
     requires { number ≤ length ends.now }
     ensures { result ≡ start_at 0 ends.now number }

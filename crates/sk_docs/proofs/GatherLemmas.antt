@@ -7,6 +7,7 @@ use Rattle.std.proofs.lemmas.List.Elements.{All-nil, All-head, All-tail, All-con
 use Rattle.std.proofs.lemmas.List.Quantifiers.{all_pairs_push}
 use Rattle.std.proofs.lemmas.List.Sums.{AllPass-from_list_all}
 use Rattle.std.specs.Prelude.{Option, Some}
+use Rattle.std.proofs.lemmas.Bool.{and_parts}
 use Rattle.sk_text.specs.declared.word.Word.{Word}
 use Rattle.sk_text.specs.Words.{words}
 use Rattle.sk_base.specs.declared.doc_entry.DocTerm.{DocTerm}
@@ -154,13 +155,9 @@ text_ends prefix step before start now rest all far done =
 
 -- ---- the fields
 
-both : (a b : Bool) → (a && b) ≡ true → (a ≡ true) × (b ≡ true)
-both true b e = (refl, e)
-both false b e = absurd (true≢false (sym e))
-
 pub step_of_kind : (prefix : List ℕ) (step : ℕ) → is_kind (FieldKind.Text prefix step) ≡ true → step ≤ 256
 step_of_kind prefix step h =
-    let last = (both (is_prefix prefix && nat_le 1 step) (nat_le step 256) h).1 in
+    let last = (and_parts (is_prefix prefix && nat_le 1 step) (nat_le step 256) h).1 in
     grind (arith, nat_tests)
 
 pub of_field : (kind : FieldKind) (before : ℕ) (value : Option FieldValue) → is_kind kind ≡ true → OfField before (occurrences_of kind before value)
@@ -255,7 +252,7 @@ fields_go_on values start now new place before field rest all sound here far put
 pub kind_is_sound : (fields : List Field) (i : ℕ) (d : Field) → list_all is_field fields ≡ true → i < length fields → is_kind (get_or fields i d).kind ≡ true
 kind_is_sound fields i d sound lt =
     let field = get_or fields i d in
-    (both (is_name field.name) (is_kind field.kind) (AllPass-from_list_all is_field fields sound i d lt)).1
+    (and_parts (is_name field.name) (is_kind field.kind) (AllPass-from_list_all is_field fields sound i d lt)).1
 
 -- ---- filters
 

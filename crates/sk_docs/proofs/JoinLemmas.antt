@@ -19,10 +19,10 @@ use Rattle.sk_base.specs.Order.{Precedes}
 use Rattle.sk_base.specs.Documents.{AreTerms}
 use Rattle.sk_base.specs.Loads.{load_of}
 use Rattle.sk_model.specs.Documents.{joined, noted, terms_of, mentions_of}
-use Rattle.sk_model.proofs.TermLaws.{terms_rise}
+use Rattle.sk_model.proofs.TermLaws.{terms_rise, turned}
 use Rattle.sk_docs.specs.Joined.{LieBefore, Follows, CanJoin}
 use Rattle.sk_docs.proofs.PairLemmas.{pairs_head, pairs_tail, pairs_before, pairs_that_tie}
-use Rattle.sk_docs.proofs.TermLemmas.{own, turned, same_terms, load-append, load-terms_of, load_is}
+use Rattle.sk_docs.proofs.TermLemmas.{own, same_terms, load-append, load-terms_of, load_is}
 
 -- ---- the sort
 

@@ -6,7 +6,7 @@ use Rattle.std.proofs.lemmas.List.Sums.{sum_by-cons}
 use Rattle.std.proofs.lemmas.Map.Lookups.{exact_bytes}
 use Rattle.std.specs.Prelude.{Option, Some, None, is_some, unwrap_or}
 use Rattle.std.specs.Cmp.Lexicographic.{slice_cmp, nat_list_cmp_total, bytes_decides}
-use Rattle.std.specs.Ordering.{match_ordering, nat_cmp, ordering_reverse}
+use Rattle.std.specs.Ordering.{match_ordering, nat_cmp}
 use Rattle.std.specs.declared.cmp.Ordering.{Ordering}
 use Rattle.std.specs.declared.cmp.Ordering.TheVariants.{Less, Equal, Greater}
 use Rattle.sk_base.specs.declared.doc_entry.DocTerm.{DocTerm}
@@ -14,7 +14,7 @@ use Rattle.sk_base.specs.Order.{Precedes}
 use Rattle.sk_base.specs.Documents.{AreTerms, has_term, wdf_of, positions_of}
 use Rattle.sk_base.specs.Loads.{load_of}
 use Rattle.sk_model.specs.Documents.{joined, noted, terms_of, mentions_of}
-use Rattle.sk_model.proofs.TermLaws.{less_differs, terms_rise, has_mentioned, wdf_of_mentions, positions_of_mentions}
+use Rattle.sk_model.proofs.TermLaws.{less_differs, terms_rise, has_mentioned, wdf_of_mentions, positions_of_mentions, turned}
 use Rattle.sk_docs.proofs.PairLemmas.{pairs_head, pairs_tail}
 
 -- ---- two lists of terms that answer alike are one
@@ -50,9 +50,6 @@ all_behind s t ts h rising =
     (All-cons (λ (x : DocTerm). Precedes s.term x.term) t ts h
     (All-weaker (λ (x : DocTerm). Precedes t.term x.term) (λ x. Precedes s.term x.term) (λ x. nat_list_cmp_total.trans s.term t.term x.term h) ts
     (pairs_head (λ (a b : DocTerm). Precedes a.term b.term) t ts rising)))
-
-pub turned : (a b : List ℕ) → slice_cmp nat_cmp a b ≡ Greater → Precedes b a
-turned a b h = nat_list_cmp_total.antisymm b a ∙ ap ordering_reverse h
 
 rest_step : (u : List ℕ) (s t : DocTerm) (ss ts : List DocTerm) (b : Bool) → bytes_eq s.term u ≡ b → s.term ≡ t.term → AreTerms (s ∷ ss) → AreTerms (t ∷ ts)
     → entry u (s ∷ ss) ≡ entry u (t ∷ ts) → entry u ss ≡ entry u ts

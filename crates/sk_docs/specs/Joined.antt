@@ -5,7 +5,7 @@ use Rattle.std.specs.Cmp.Lexicographic.{slice_cmp}
 use Rattle.std.specs.declared.cmp.Ordering.TheVariants.{Less}
 use Rattle.sk_base.specs.declared.doc_entry.DocTerm.{DocTerm}
 use Rattle.sk_base.specs.Documents.{AreTerms}
-use Rattle.sk_base.specs.Loads.{load_of}
+use Rattle.sk_base.specs.Loads.{AreLight, load_of}
 
 -- Each place of the second lies behind all places of the first.
 abbrev pub LieBefore : DocTerm → DocTerm → Type 0
@@ -19,7 +19,7 @@ pub record Follows (a b : DocTerm) : Type 0 where
 -- The places rise along the mentions, and their wdfs are not too great in all.
 pub record AreMentions (mentions : List DocTerm) : Type 0 where
   pub rise : AllPairs LieBefore mentions
-  pub light : load_of mentions < 2 ^ 29
+  pub light : AreLight mentions
 
 -- The terms stand in order, the mention follows all of them, and its wdf can be added to each.
 pub record CanJoin (terms : List DocTerm) (mention : DocTerm) : Type 0 where

@@ -18,11 +18,13 @@ ghost use Rattle.sk_model.specs.Documents.{
 };
 ghost use Rattle.sk_docs.specs.Gathered.{CanGather, after, occurrences_among, bytes_of_given};
 ghost use Rattle.sk_docs.specs.Joined.{AreMentions};
-ghost use Rattle.sk_base.specs.Loads.{load_of};
+ghost use Rattle.sk_base.specs.Loads.{AreLight};
 
 use crate::mentions::Mentions;
 use crate::taking::taken;
-use sk_base::{DocTerms, Entry, Field, FieldKind, FieldValue, Text, into_prefixed, prefixed};
+use sk_base::{
+    DocTerms, Entry, Field, FieldKind, FieldValue, MOST_TERM, Text, into_prefixed, prefixed,
+};
 use sk_text::{Word, words};
 use std::alloc::{AllocError, Global};
 
@@ -33,7 +35,7 @@ pub fn terms(alloc: Global, fields: &[Field], values: &[Entry]) -> Result<DocTer
     requires rising { AllPairs (λ a b. a.field < b.field) values.now }
     requires small { bytes_of_values values.now ≤ most_bytes }
     ensures value { IfOk result (λ terms. terms ≡ terms_of (mentions fields.now values.now)) }
-    ensures light { IfOk result (λ terms. load_of terms < 2 ^ 29) }
+    ensures light { IfOk result (λ terms. AreLight terms) }
 {
     let mut gathered = Mentions::new(alloc);
     note_texts(alloc, &mut gathered, fields, values)?;
@@ -140,7 +142,7 @@ fn note_word(
     ensures { OnOk result (gathered.new ≡ after gathered.old (occurrences_among prefix.now step before (word ∷ []))) }
 {
     let text = word.term.into_string();
-    if text.len() > 64 {
+    if text.len() > MOST_TERM {
         return Ok(());
     }
     let term = into_prefixed(alloc, prefix, text)?;

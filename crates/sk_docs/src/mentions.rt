@@ -1,6 +1,6 @@
 //! The mentions of a record, in the order in which they are met, and the terms that they make.
 ghost use Rattle.std.specs.Prelude.{◌≡◌, ◌<◌, ◌+◌, ◌^◌, [], ◌∷◌, ◌++◌, AllPairs, IfOk, OnOk};
-ghost use Rattle.sk_base.specs.Loads.{load_of};
+ghost use Rattle.sk_base.specs.Loads.{AreLight, load_of};
 ghost use Rattle.sk_model.specs.Documents.{noted, terms_of};
 ghost use Rattle.sk_docs.specs.Gathered.{CanGather, after};
 ghost use Rattle.sk_docs.specs.Joined.{AreMentions, CanJoin, Follows};
@@ -80,7 +80,7 @@ fn sort(mentions: &mut Vec<Mention>) -> Result<(), AllocError>
 /// Joins neighbours of one term.
 fn join_all(alloc: Global, mentions: Vec<Mention>) -> Result<DocTerms, AllocError>
     requires follow { AllPairs Follows mentions.items }
-    requires light { load_of mentions.items < 2 ^ 29 }
+    requires light { AreLight mentions.items }
     ensures { IfOk result (λ terms. terms ≡ terms_of mentions.items) }
 {
     let mut terms = Vec::new(alloc);

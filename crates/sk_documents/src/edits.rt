@@ -83,7 +83,7 @@ impl<K: Keeper> Documents<K> {
         Ok((documents, Reply::Done(ids.len() as u32)))
     }
 
-    // The document under the next id, where one is left.
+    /// The document under the next id, where one is left.
     fn put_next(self, doc: Doc) -> Result<(Documents<K>, Reply), AllocError>
         requires light { (id : ℕ) → IsLight (id, doc) }
         ensures live { IfOk result (λ p. p.0.live ≡ with_next self.live doc) }
@@ -98,7 +98,7 @@ impl<K: Keeper> Documents<K> {
         Ok((documents, Reply::Id(id)))
     }
 
-    // The document in the place of the first that has the term, and of all others that have it.
+    /// The document in the place of the first that has the term, and of all others that have it.
     fn put_first(self, term: &[u8], doc: Doc) -> Result<(Documents<K>, Reply), AllocError>
         requires light { (id : ℕ) → IsLight (id, doc) }
         ensures live { IfOk result (λ p. p.0.live ≡ with_first self.live doc term.now (first_with term.now self.live.documents)) }
@@ -115,7 +115,7 @@ impl<K: Keeper> Documents<K> {
         Ok((documents, Reply::Id(id)))
     }
 
-    // The document in the place of the one with the id, or as a new one.
+    /// The document in the place of the one with the id, or as a new one.
     fn put(self, id: DocId, doc: Doc) -> Result<Documents<K>, AllocError>
         requires id { 1 ≤ id }
         requires light { (id : ℕ) → IsLight (id, doc) }
@@ -127,7 +127,7 @@ impl<K: Keeper> Documents<K> {
         documents.insert(id, doc)
     }
 
-    // The document under an id that no document has.
+    /// The document under an id that no document has.
     fn insert(self, id: DocId, doc: Doc) -> Result<Documents<K>, AllocError>
         requires id { 1 ≤ id }
         requires free { document_at id self.live.documents ≡ None }
@@ -151,7 +151,7 @@ impl<K: Keeper> Documents<K> {
         })
     }
 
-    // Removes the document with the id, and answers whether there was one. Want of memory stops nothing.
+    /// Removes the document with the id, and answers whether there was one. Want of memory stops nothing.
     fn remove(&mut self, id: DocId) -> bool
         ensures live { self.new.live ≡ record { documents = without_id id self.old.live.documents; highest = self.old.live.highest } }
         ensures there { result ≡ is_some (document_at id self.old.live.documents) }
@@ -162,8 +162,8 @@ impl<K: Keeper> Documents<K> {
         self.keeper.remove(id)
     }
 
-    // Removes the documents that have the term, the last first, so that little of a list of the keeper's moves, and
-    // answers their ids.
+    /// Removes the documents that have the term, the last first, so that little of a list of the keeper's moves, and
+    /// answers their ids.
     fn remove_all(&mut self, term: &[u8]) -> Result<Vec<DocId>, AllocError>
         ensures live { IfOk result (λ ids. self.new.live ≡ record { documents = without_term term.now self.old.live.documents; highest = self.old.live.highest }) }
         ensures ids { IfOk result (λ ids. ids.items ≡ ids_with term.now self.old.live.documents) }
@@ -176,7 +176,7 @@ impl<K: Keeper> Documents<K> {
         Ok(ids)
     }
 
-    // Removes the documents with these ids, the last first.
+    /// Removes the documents with these ids, the last first.
     fn remove_each(&mut self, ids: &[DocId])
         ensures live { self.new.live ≡ record { documents = without_ids ids.now self.old.live.documents; highest = self.old.live.highest } }
         ensures schema { self.new.fields ≡ self.old.fields }

@@ -66,7 +66,7 @@ impl Store for Session {
         }
     }
 
-    // Nothing is taken apart: a run is the last thing that the process does, and the memory goes with that.
+    /// Nothing is taken apart: a run is the last thing that the process does, and the memory goes with that.
     fn close(self, _alloc: Global) -> Result<Response<FindAnswer>, AllocError> {
         mem::forget(self);
         Ok(Response::Skipped)

@@ -10,11 +10,10 @@ use crate::kinds::{
     is_close, is_item, is_joining, is_mark, is_mark_first, is_not, is_not_first, is_open,
     is_unit_first, is_word_first, leaves_of,
 };
-use sk_base::Field;
+use sk_base::{Field, MOST_LEAVES};
 use sk_grammar::{FaultKind, Kind, Token};
 
-const MOST_LEAVES: usize = 1_024;
-
+/// How many brackets and marks stand one inside another at most.
 const MOST_DEPTH: usize = 100;
 
 /// A bracket that closes none.

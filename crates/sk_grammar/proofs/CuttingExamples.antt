@@ -1,5 +1,5 @@
 -- Texts and their tokens, worked out by hand from the rows.
-use Rattle.std.proofs.Common.{◌≡◌, ℕ, List, [], ◌∷◌, Option, Some, None, map, refl, codes}
+use Rattle.std.proofs.Common.{◌≡◌, ℕ, List, [], ◌∷◌, Some, None, map, refl, codes}
 use Rattle.std.specs.Prelude.{encode_utf8_all}
 use Rattle.ucd_table.specs.Rows.{value_in}
 use Rattle.ucd_category.specs.GeneralCategory.{general_category}

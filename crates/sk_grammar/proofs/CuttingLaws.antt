@@ -1,5 +1,5 @@
 -- Each text has exactly one cutting.
-use Rattle.std.proofs.Common.{◌≡◌, ◌≤◌, ◌<◌, ℕ, zero, suc, pred, ◌+◌, List, [], ◌∷◌, ◌++◌, length, take, drop, Option, Some, None, refl, sym, ap, ◌∙◌, subst, arith}
+use Rattle.std.proofs.Common.{◌≡◌, ◌≤◌, ℕ, zero, suc, pred, List, [], ◌∷◌, length, take, drop, Option, Some, None, refl, sym, subst, arith}
 use Rattle.sk_base.specs.declared.schema.Field.{Field}
 use Rattle.sk_grammar.specs.Pieces.{Piece, piece_at}
 use Rattle.sk_grammar.specs.Cutting.{last_of, AreLaid, IsCut, pieces_behind, pieces_of}

@@ -1,9 +1,10 @@
 -- Each piece has a character at least, and no more than there are.
-use Rattle.std.proofs.Common.{◌≡◌, ◌≤◌, ◌<◌, ℕ, zero, suc, ◌+◌, ◌-◌, min, Bool, true, false, ◌&&◌, ◌==◌, not, if◌then◌else◌, List, [], ◌∷◌, encode_utf8_all, length, take, drop, Option, Some, None, IfSome, option_map, unwrap_or, refl, sym, ap, arith, length-drop, cond}
+use Rattle.std.proofs.Common.{◌≡◌, ◌≤◌, ℕ, zero, suc, ◌+◌, ◌-◌, Bool, true, false, ◌&&◌, ◌==◌, if◌then◌else◌, List, [], ◌∷◌, encode_utf8_all, length, take, drop, Option, Some, None, IfSome, option_map, unwrap_or, refl, arith, length-drop}
 use Rattle.std.proofs.lemmas.List.Sums.{prefix_len-le-length}
 use Rattle.std.specs.List.{prefix_len, slice_get}
 use Rattle.std.specs.Option.{option_and_then}
 use Rattle.std.specs.Char.{is_whitespace}
+use Rattle.sk_base.proofs.Tests.{second_so}
 use Rattle.sk_base.specs.declared.schema.Field.{Field}
 use Rattle.sk_base.specs.declared.schema.FieldKind.{FieldKind}
 use Rattle.sk_base.specs.declared.schema.FieldKind.TheVariants as FieldKind
@@ -12,8 +13,8 @@ use Rattle.sk_base.specs.Fields.{place_of}
 use Rattle.sk_text.specs.Characters.{is_word_char, belongs}
 use Rattle.sk_grammar.specs.declared.token.Kind.{Kind}
 use Rattle.sk_grammar.specs.declared.token.Kind.TheVariants as Kind
-use Rattle.sk_grammar.specs.Characters.{is_joiner, past_joiner, group_len, inner_len, quote_len, is_good, runs_on, run_len, terms_in, inner}
-use Rattle.sk_grammar.specs.Pieces.{Piece, token_piece, separator, longer, quote_piece, is_starred, is_one, first_term, group_kind, group_of_len, group_piece, text_piece, filter_piece, range_piece, value_piece, colon_piece, named_piece, field_piece, mark_piece, takes_mark, is_marked, last_piece, piece_at}
+use Rattle.sk_grammar.specs.Characters.{is_joiner, past_joiner, group_len, quote_len, is_good, runs_on, run_len, terms_in}
+use Rattle.sk_grammar.specs.Pieces.{Piece, token_piece, longer, is_starred, is_one, first_term, group_kind, group_of_len, group_piece, text_piece, filter_piece, range_piece, value_piece, colon_piece, field_piece, mark_piece, takes_mark, is_marked, last_piece, piece_at}
 
 -- The piece has a character at least, and no more than so many.
 pub record Takes (n : ℕ) (p : Piece) : Type 0 where
@@ -70,10 +71,6 @@ starred_some : (cs : List ℕ) → is_starred cs ≡ true → 1 ≤ length cs
 starred_some [] e = absurd (cc)
 starred_some (c ∷ cs) e = omega arith
 
-both_true : (a b : Bool) → (a && b) ≡ true → b ≡ true
-both_true true b e = e
-both_true false b e = absurd (cc)
-
 -- The star stands within what is left.
 star_within : (n m k : ℕ) → 1 ≤ k → k ≡ m - n → n + 1 ≤ m
 star_within n m k some e = omega arith
@@ -81,7 +78,7 @@ star_within n m k some e = omega arith
 of_len_takes : (field : Option ℕ) (n : ℕ) (cs : List ℕ) → 1 ≤ n → n ≤ length cs → Takes (length cs) (group_of_len field n cs)
 of_len_takes field n cs some whole =
     if_takes (length cs) (is_one (terms_in (take n cs)) && is_starred (drop n cs)) (token_piece (Kind.Wild field (first_term (terms_in (take n cs)))) (n + 1)) (token_piece (group_kind field (encode_utf8_all (take n cs)) (terms_in (take n cs))) n)
-    (λ e. record { some = omega arith; whole = star_within n (length cs) (length (drop n cs)) (starred_some (drop n cs) (both_true (is_one (terms_in (take n cs))) (is_starred (drop n cs)) e)) (length-drop n cs) })
+    (λ e. record { some = omega arith; whole = star_within n (length cs) (length (drop n cs)) (starred_some (drop n cs) (second_so (is_one (terms_in (take n cs))) (is_starred (drop n cs)) e)) (length-drop n cs) })
     (λ e. record { some = some; whole = whole })
 
 group_takes : (field : Option ℕ) (c : ℕ) (cs : List ℕ) → is_word_char c ≡ true → Takes (suc (length cs)) (group_piece field (c ∷ cs))

@@ -2,9 +2,10 @@
 use Rattle.std.proofs.Common.{◌≡◌, ◌≢◌, ℕ, ◌+◌, Bool, true, false, ◌&&◌, ◌||◌, if◌then◌else◌, List, [], ◌∷◌, sum_by, bytes_eq, Option, None, Some, inl, inr, refl, sym, ap, ◌∙◌, arith}
 use mathlib.Core.Bool.{true≢false}
 use Rattle.std.specs.List.{AllPairs, AllByRecursion, list_any}
-use Rattle.std.proofs.lemmas.Bool.{cases_eq}
+use Rattle.std.proofs.lemmas.Bool.{cases_eq, or_right}
 use Rattle.std.proofs.lemmas.List.Sums.{sum_by-cons}
 use Rattle.std.proofs.lemmas.Slice.Eq.{bytes_eq-Decides}
+use Rattle.sk_base.proofs.Tests.{same_tests}
 use Rattle.sk_sorted.proofs.EntryLaws.{found-here, found-other, AllByRecursion-found}
 use Rattle.sk_base.specs.declared.doc_entry.DocTerm.{DocTerm}
 use Rattle.sk_base.specs.Documents.{AreTerms, has_term, wdf_of}
@@ -20,7 +21,7 @@ use Rattle.sk_index.specs.Listed.{Listed, list_of, IsListed}
 use Rattle.sk_index.specs.Wild.{over, counted, sum_behind}
 use Rattle.sk_index.proofs.ListedLemmas.{AreTerms-tail, once_at}
 use Rattle.sk_index.proofs.NumberLemmas.{wdf_of-none}
-use Rattle.sk_index.proofs.WildLemmas.{Holds, only, over-same, over-none, over-sum, over-only, both_ways, sum_behind-next, sum_behind-none, sum_behind-terms_with, holds_all, length_of-none, greatest_of-none}
+use Rattle.sk_index.proofs.WildLemmas.{Holds, only, over-same, over-none, over-sum, over-only, sum_behind-next, sum_behind-none, sum_behind-terms_with, holds_all, length_of-none, greatest_of-none}
 
 -- a sum over the walk
 pub walk-sum : (f : List ℕ → ℕ) (terms : List (List ℕ)) (prefix : List ℕ) (after : Option ℕ) (ns : List ℕ) → AllPairs (λ s t. s ≢ t) terms → IsWalk terms prefix after ns
@@ -29,11 +30,6 @@ walk-sum f terms prefix after [] different w = sym (sum_behind-none f terms pref
 walk-sum f terms prefix after (n ∷ ns) different w =
     sum_by-cons (λ n. f (term_at terms n)) n ns ∙ ap (λ k. f (term_at terms n) + k) (walk-sum f terms prefix (Some n) ns different w.1)
     ∙ sym (sum_behind-next f terms prefix after n different w.0)
-
--- the first of two tests, or the second
-second : (b c : Bool) → c ≡ true → (b || c) ≡ true
-second true c e = refl
-second false c e = e
 
 -- the terms of one document
 module _ (prefix : List ℕ) (terms : List (List ℕ)) (different : AllPairs (λ s t. s ≢ t) terms) where
@@ -46,7 +42,7 @@ module _ (prefix : List ℕ) (terms : List (List ℕ)) (different : AllPairs (λ
       nothing false = refl
   wild_over (x ∷ xs) rising holds =
       let at = holds x.term (ap (λ b. b || has_term x.term xs) ((bytes_eq-Decides x.term x.term).1 refl)) in
-      (λ i. sym (over-only x.term own terms at.0 different at.1 at.2) i + wild_over xs (AreTerms-tail x xs rising) (λ t h. holds t (second (bytes_eq x.term t) (has_term t xs) h)) i)
+      (λ i. sym (over-only x.term own terms at.0 different at.1 at.2) i + wild_over xs (AreTerms-tail x xs rising) (λ t h. holds t (or_right (bytes_eq x.term t) (has_term t xs) h)) i)
       ∙ sym (over-sum (only x.term own) (λ t. if begins_with t prefix then wdf_of t xs else 0) terms)
       ∙ over-same (λ t. only x.term own t + (if begins_with t prefix then wdf_of t xs else 0)) (λ t. if begins_with t prefix then wdf_of t (x ∷ xs) else 0) terms
       (λ m lt. joined (bytes_eq x.term (term_at terms m)) (begins_with (term_at terms m) prefix) (wdf_of (term_at terms m) xs) (λ pro. wdf_of-none (term_at terms m) xs (once_at x xs (term_at terms m) rising pro)))
@@ -80,7 +76,7 @@ module _ (prefix : List ℕ) (terms : List (List ℕ)) (different : AllPairs (λ
       by : (c : Bool) → bytes_eq x.term t ≡ c → (c || has_term t xs) ≡ true → (has_term t xs ≡ true → list_any (λ one. begins_with one.term prefix) xs ≡ true)
           → (begins_with x.term prefix || list_any (λ one. begins_with one.term prefix) xs) ≡ true
       by true e h rest = ap (λ c. c || list_any (λ one. begins_with one.term prefix) xs) (ap (λ w. begins_with w prefix) ((bytes_eq-Decides x.term t).0 e) ∙ b)
-      by false e h rest = second (begins_with x.term prefix) (list_any (λ one. begins_with one.term prefix) xs) (rest h)
+      by false e h rest = or_right (begins_with x.term prefix) (list_any (λ one. begins_with one.term prefix) xs) (rest h)
 
   -- which is one of these
   one_begins : (xs : List DocTerm) → list_any (λ one. begins_with one.term prefix) xs ≡ true → (t : List ℕ) × (begins_with t prefix ≡ true) × (has_term t xs ≡ true)
@@ -91,7 +87,7 @@ module _ (prefix : List ℕ) (terms : List (List ℕ)) (different : AllPairs (λ
           → (list_any (λ one. begins_with one.term prefix) xs ≡ true → (t : List ℕ) × (begins_with t prefix ≡ true) × (has_term t xs ≡ true))
           → (t : List ℕ) × (begins_with t prefix ≡ true) × (has_term t (x ∷ xs) ≡ true)
       by true e h rest = (x.term, e, ap (λ b. b || has_term x.term xs) ((bytes_eq-Decides x.term x.term).1 refl))
-      by false e h rest = let r = rest h in (r.0, r.1, second (bytes_eq x.term r.0) (has_term r.0 xs) r.2)
+      by false e h rest = let r = rest h in (r.0, r.1, or_right (bytes_eq x.term r.0) (has_term r.0 xs) r.2)
 
   -- where the document has one of the walk it has one that begins so
   walk_matches : (xs : List DocTerm) (after : Option ℕ) (ns : List ℕ) → IsWalk terms prefix after ns → list_any (λ n. has_term (term_at terms n) xs) ns ≡ true
@@ -108,7 +104,7 @@ module _ (prefix : List ℕ) (terms : List (List ℕ)) (different : AllPairs (λ
   pub matches-walk : (xs : List DocTerm) (ns : List ℕ) → Holds terms (λ t. has_term t xs) → IsWalk terms prefix None ns
       → list_any (λ one. begins_with one.term prefix) xs ≡ list_any (λ n. has_term (term_at terms n) xs) ns
   matches-walk xs ns holds w =
-      both_ways (list_any (λ one. begins_with one.term prefix) xs) (list_any (λ n. has_term (term_at terms n) xs) ns)
+      same_tests (list_any (λ one. begins_with one.term prefix) xs) (list_any (λ n. has_term (term_at terms n) xs) ns)
       (λ h.
       let one = one_begins xs h in
       let at = holds one.0 one.2 in
@@ -123,7 +119,7 @@ some_has-found t id d (one ∷ more) some h = elim (cases_eq one.0 id) [
       let here : Some one.1 ≡ Some d = sym (found-here id one more same) ∙ some in
       let is : one.1 ≡ d = cc in
       ap (λ b. b || some_has t more) (ap (λ (x : Document). has_term t x.terms) is ∙ h)
-  | inr apart ↦ second (has_term t one.1.terms) (some_has t more) (some_has-found t id d more (sym (found-other id one more apart) ∙ some) h)
+  | inr apart ↦ or_right (has_term t one.1.terms) (some_has t more) (some_has-found t id d more (sym (found-other id one more apart) ∙ some) h)
 ]
 
 -- what is said of all terms with a prefix, by the walk that gave them

@@ -1,8 +1,9 @@
 -- The terms of a document in one list of numbers: what was put together is read back, and each term is found by its place.
-use Rattle.std.proofs.Common.{◌≡◌, ℕ, zero, suc, ◌+◌, ◌-◌, ◌*◌, ◌<◌, ◌≤◌, ◌==◌, ◌&&◌, if◌then◌else◌, Bool, true, false, List, [], ◌∷◌, ◌++◌, length, get_or, drop, slice_range, sym, ap, subst, ◌∙◌, refl, arith}
+use Rattle.std.proofs.Common.{◌≡◌, ℕ, zero, suc, ◌+◌, ◌-◌, ◌*◌, ◌<◌, ◌≤◌, ◌==◌, if◌then◌else◌, Bool, true, false, List, [], ◌∷◌, ◌++◌, length, get_or, drop, slice_range, sym, ap, subst, ◌∙◌, refl, arith}
 use Rattle.std.proofs.lemmas.Bool.{eqb-true}
 use Rattle.std.proofs.lemmas.List.{drop_at, get_or-drop, length-append, length-drop}
 use Rattle.std.proofs.lemmas.List.Elements.{All-from_recursion}
+use Rattle.sk_base.proofs.Tests.{first_so, second_so}
 use Rattle.sk_base.specs.Order.{ArePositions}
 use Rattle.sk_index.specs.declared.packed_terms.PackedTerm.{PackedTerm}
 use Rattle.sk_index.specs.Packed.{NumberedTerm, no_term, numbered_at, cut, RiseTo, ArePlaced, IsPacked, heads_of, wdfs_of, are_plain, kept_wdfs, words_of, count_in, terms_in, end_of, begin_in, behind, end_in, frozen_terms, frozen, IsFrozen}
@@ -125,21 +126,12 @@ end-heads : (from : ℕ) (terms : List PackedTerm) (to : ℕ) (rest : List ℕ) 
 end-heads from [] to rest r = r
 end-heads from (one ∷ more) to rest r = end-heads one.end more to rest r.1
 
-and_left : (a b : Bool) → (a && b) ≡ true → a ≡ true
-and_left true b both = refl
-and_left false b both = both
-
-and_right : (a b : Bool) → (a && b) ≡ true → b ≡ true
-and_right true b both = both
-and_right false true both = refl
-and_right false false both = both
-
 -- the terms by their heads alone
 terms-plain : (from : ℕ) (terms : List PackedTerm) (rest : List ℕ) → are_plain from terms ≡ true → terms_in (length terms) from (heads_of terms ++ rest) [] ≡ terms
 terms-plain from [] rest plain = refl
 terms-plain from (one ∷ more) rest plain =
-    let here : one.wdf ≡ one.end - from = eqb-true one.wdf (one.end - from) (and_left (one.wdf == (one.end - from)) (are_plain one.end more) plain) in
-    let next : are_plain one.end more ≡ true = and_right (one.wdf == (one.end - from)) (are_plain one.end more) plain in
+    let here : one.wdf ≡ one.end - from = eqb-true one.wdf (one.end - from) (first_so (one.wdf == (one.end - from)) (are_plain one.end more) plain) in
+    let next : are_plain one.end more ≡ true = second_so (one.wdf == (one.end - from)) (are_plain one.end more) plain in
     ap (λ (k : ℕ). let x : PackedTerm = record { number = one.number; wdf = k; end = one.end } in x ∷ terms_in (length more) one.end (heads_of more ++ rest) []) (sym here)
     ∙ ap (λ (ts : List PackedTerm). one ∷ ts) (terms-plain one.end more rest next)
 

@@ -1,4 +1,4 @@
-mod ListedLemmas
+pub mod ListedLemmas
 mod PackedLemmas
 mod FrozenLemmas
 mod SlottedLemmas

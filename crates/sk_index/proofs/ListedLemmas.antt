@@ -1,5 +1,5 @@
 -- What an edit of one list, and of several, is to the lists of all terms.
-use Rattle.std.proofs.Common.{◌≡◌, ℕ, zero, suc, ◌+◌, ◌<◌, Bool, true, false, cond, if◌then◌else◌, ◌||◌, List, [], ◌∷◌, ◌++◌, length, get_or, drop, set, bytes_eq, Option, None, Some, unwrap_or, ◌≤◌, refl, sym, ap, subst, ◌∙◌, arith}
+use Rattle.std.proofs.Common.{◌≡◌, ℕ, zero, suc, ◌+◌, ◌<◌, Bool, true, false, if◌then◌else◌, ◌||◌, List, [], ◌∷◌, ◌++◌, length, get_or, drop, set, bytes_eq, Option, None, Some, unwrap_or, ◌≤◌, refl, sym, ap, subst, ◌∙◌, arith}
 use mathlib.Core.Bool.{true≢false}
 use Rattle.std.specs.List.{AllPairs}
 use Rattle.std.specs.Cmp.{tied_itself}
@@ -11,7 +11,7 @@ use Rattle.sk_base.specs.declared.doc_entry.DocTerm.{DocTerm}
 use Rattle.sk_base.specs.Order.{Precedes}
 use Rattle.sk_base.specs.Documents.{AreTerms, has_term, wdf_of}
 use Rattle.sk_dict.specs.Terms.{term_at, number_of, number_for, with_term}
-use Rattle.sk_dict.proofs.NumberLaws.{number_of-Some, number_of-term_at, number_of-kept, number_of-added, absent_from-number_of}
+use Rattle.sk_dict.proofs.NumberLaws.{number_of-Some, number_of-term_at, number_of-added, absent_from-number_of}
 use Rattle.sk_sorted.specs.Entries.{put, without}
 use Rattle.sk_runs.specs.Runs.{flat}
 use Rattle.sk_chunks.specs.Postings.{Postings}
@@ -142,7 +142,7 @@ two_tests f g true false old mid once e = e
 two_tests f g false true old mid once e = ap g e
 two_tests f g false false old mid once e = e
 
-choice_of : {A B : Type 0} (h : A → B) (b : Bool) (x y : A) → (if b then h x else h y) ≡ h (if b then x else y)
+pub choice_of : {A B : Type 0} (h : A → B) (b : Bool) (x y : A) → (if b then h x else h y) ≡ h (if b then x else y)
 choice_of h true x y = refl
 choice_of h false x y = refl
 

@@ -9,6 +9,7 @@ use Rattle.std.specs.declared.cmp.Ordering.TheVariants.{Less, Equal, Greater}
 use Rattle.std.specs.Ordering.{is_lt}
 use Rattle.std.proofs.lemmas.List.Sums.{sum_by-cons, sum_by-append}
 use Rattle.std.proofs.lemmas.Slice.Eq.{bytes_eq-Decides}
+use Rattle.sk_base.proofs.Tests.{same_tests}
 use Rattle.sk_base.specs.declared.doc_entry.DocTerm.{DocTerm}
 use Rattle.sk_base.specs.Documents.{AreTerms, has_term}
 use Rattle.sk_base.specs.Numbers.{Docs, length_of, greatest_of, some_has, term_in, terms_with}
@@ -59,13 +60,6 @@ over-only x f (t ∷ ts) zero different lt is =
 over-only x f (t ∷ ts) (suc n) different lt is =
     omega (arith, only-other x f t (λ same. different 0 (suc n) [] (omega arith) lt (same ∙ sym is)), over-only x f ts n (λ i j d below within. different (suc i) (suc j) d (omega arith) (omega arith)) (omega arith) is)
 
--- either of two tests that follow from each other
-pub both_ways : (b c : Bool) → (b ≡ true → c ≡ true) → (c ≡ true → b ≡ true) → b ≡ c
-both_ways true true f g = refl
-both_ways true false f g = sym (f refl)
-both_ways false true f g = g refl
-both_ways false false f g = refl
-
 -- the first stands before the second
 pub less_is : (o : Ordering) → is_lt o ≡ true → o ≡ Less
 less_is Less e = refl
@@ -112,7 +106,7 @@ counted-next f terms prefix after n next m lt = by (bytes_eq (term_at terms n) (
 
     there : (bytes_eq (term_at terms n) t ≡ false) → (b : Bool) → begins_with t prefix ≡ b → (if b && is_behind terms after t then f t else 0) ≡ (if b && is_behind terms (Some n) t then f t else 0)
     there apart false e = refl
-    there apart true e = ap (λ c. if c then f t else 0) (both_ways (is_behind terms after t) (is_behind terms (Some n) t)
+    there apart true e = ap (λ c. if c then f t else 0) (same_tests (is_behind terms after t) (is_behind terms (Some n) t)
         (λ h. ap is_lt (next.first m (record { there = lt; begins = e; behind = behind_is terms after t h }) (λ same. true≢false (sym ((bytes_eq-Decides (term_at terms n) t).1 (ap (term_at terms) (sym same))) ∙ apart))))
         (λ h. behind_from terms after t (behind_through terms after (term_at terms n) t next.follows.behind (behind_is terms (Some n) t h))))
 

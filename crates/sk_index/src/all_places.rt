@@ -69,7 +69,7 @@ impl<'a> Operands for AllPlaces<'a> {
     }
 }
 
-// Writes the place of each term with these numbers.
+/// Writes the place of each term with these numbers.
 fn look_up<L: Ledger>(
     lists: &TermLists,
     packed: &PackedTerms,

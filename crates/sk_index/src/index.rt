@@ -194,7 +194,7 @@ impl Index {
         AllPlaces::read(self.term_lists(), self.terms_of(id), numbers, places, steps)
     }
 
-    // The terms of the document, none where it is not live.
+    /// The terms of the document, none where it is not live.
     fn terms_of(&self, id: DocId) -> &PackedTerms
         ensures value { HavePositions (named_all self.now.terms result.now) (document_at id self.now.live.documents) }
         ensures rising { AreTerms (named_all self.now.terms result.now) }
@@ -203,7 +203,7 @@ impl Index {
         self.documents.keeper().terms_of(id)
     }
 
-    // The lists of the terms.
+    /// The lists of the terms.
     pub(crate) fn term_lists(&self) -> &TermLists
         ensures value { result.now ≡ record { terms = self.now.terms; lists = self.now.lists } }
         ensures entries { AreListsOf self.now.live.documents result.now }
@@ -212,7 +212,7 @@ impl Index {
         self.documents.keeper().terms()
     }
 
-    // The lists of the slots.
+    /// The lists of the slots.
     pub(crate) fn slot_lists(&self) -> &SlotLists
         ensures value { result.now ≡ self.now.slots }
         ensures entries { AreSlotsOf self.now.live.documents result.now }

@@ -141,7 +141,7 @@ impl PackedTerms {
     }
 }
 
-// How many terms the words have.
+/// How many terms the words have.
 fn count(words: &[u32]) -> usize
     ensures value { result ≡ count_in words.now }
     ensures small { result < 2 ^ 32 }
@@ -153,7 +153,7 @@ fn count(words: &[u32]) -> usize
     }
 }
 
-// The number of the i-th term.
+/// The number of the i-th term.
 fn number(words: &[u32], i: usize) -> usize
     requires { 2 * i + 2 < length words.now }
     ensures { result ≡ slice_index words.now (2 * i + 1) }
@@ -161,7 +161,7 @@ fn number(words: &[u32], i: usize) -> usize
     words[2 * i + 1] as usize
 }
 
-// Where the positions of the i-th term begin.
+/// Where the positions of the i-th term begin.
 fn start(words: &[u32], i: usize) -> usize
     requires { 2 * i < length words.now }
     ensures value { result ≡ begin_in 0 (drop 1 words.now) i }
@@ -170,7 +170,7 @@ fn start(words: &[u32], i: usize) -> usize
     if i == 0 { 0 } else { words[2 * i] as usize }
 }
 
-// Where they end.
+/// Where they end.
 fn end(words: &[u32], i: usize) -> usize
     requires { 2 * i + 2 < length words.now }
     ensures { result ≡ slice_index words.now (2 * i + 2) }
@@ -178,7 +178,7 @@ fn end(words: &[u32], i: usize) -> usize
     words[2 * i + 2] as usize
 }
 
-// What stands behind the heads.
+/// What stands behind the heads.
 fn behind(words: &[u32]) -> &[u32]
     requires { 2 * count_in words.now < length words.now }
     ensures { result.now ≡ behind words.now }
@@ -187,7 +187,7 @@ fn behind(words: &[u32]) -> &[u32]
     &words[first..]
 }
 
-// The terms in one vector.
+/// The terms in one vector.
 fn words_of(alloc: Global, terms: &[PackedTerm], positions: &[u32]) -> Result<Vec<u32>, AllocError>
     ensures { IfOk result (λ words. words.items ≡ words_of terms.now positions.now) }
 {
@@ -206,7 +206,7 @@ fn words_of(alloc: Global, terms: &[PackedTerm], positions: &[u32]) -> Result<Ve
     Ok(words)
 }
 
-// How many words so many terms and positions take.
+/// How many words so many terms and positions take.
 fn room(terms: usize, positions: usize, plain: bool) -> usize {
     let each = if plain { 2 } else { 3 };
     terms
@@ -215,7 +215,7 @@ fn room(terms: usize, positions: usize, plain: bool) -> usize {
         .saturating_add(1)
 }
 
-// Whether each wdf is the number of the term's positions.
+/// Whether each wdf is the number of the term's positions.
 fn are_plain(terms: &[PackedTerm]) -> bool
     ensures { result ≡ are_plain 0 terms.now }
 {

@@ -16,7 +16,7 @@ use std::cmp::Ordering;
 use std::marker::Model;
 use std::sync::ledger::Ledger;
 
-// Among so many terms one is found sooner by its number than by halves.
+/// Among so many terms one is found sooner by its number than by halves.
 const FEW: usize = 128;
 
 /// The places of a term in a document. Contracts see the term's number and the document's id; only `Index::places`
@@ -74,7 +74,7 @@ pub(crate) fn place_in(packed: &PackedTerms, lists: &TermLists, number: usize) -
     }
 }
 
-// The first place of the number, or the number of terms.
+/// The first place of the number, or the number of terms.
 fn place_by_number(packed: &PackedTerms, number: usize) -> usize
     ensures within { result ≤ length packed.now }
     ensures before { (k : ℕ) → k < result → (numbered_at packed.now k).number ≢ number }
@@ -89,7 +89,7 @@ fn place_by_number(packed: &PackedTerms, number: usize) -> usize
     count
 }
 
-// The place of the term, or the number of terms.
+/// The place of the term, or the number of terms.
 fn place_by_text(packed: &PackedTerms, lists: &TermLists, term: &[u8]) -> usize
     requires known { AreKnown (length lists.now.terms) packed.now }
     requires rising { AreTerms (named_all lists.now.terms packed.now) }
@@ -104,7 +104,7 @@ fn place_by_text(packed: &PackedTerms, lists: &TermLists, term: &[u8]) -> usize
     }
 }
 
-// The place, if the term stands there, or the number of terms.
+/// The place, if the term stands there, or the number of terms.
 fn place_if(packed: &PackedTerms, place: usize, lists: &TermLists, term: &[u8]) -> usize
     requires there { place < length packed.now }
     requires known { AreKnown (length lists.now.terms) packed.now }
@@ -118,7 +118,7 @@ fn place_if(packed: &PackedTerms, place: usize, lists: &TermLists, term: &[u8]) 
     }
 }
 
-// How many of the terms stand before the term.
+/// How many of the terms stand before the term.
 fn place_of(packed: &PackedTerms, lists: &TermLists, term: &[u8]) -> usize
     requires known { AreKnown (length lists.now.terms) packed.now }
     requires rising { AreTerms (named_all lists.now.terms packed.now) }

@@ -4,10 +4,7 @@ ghost use Rattle.sk_base.specs.Numbers.{live_of, length_of, greatest_of, wild_le
 
 use crate::Index;
 use crate::term_lists::Figure;
-use sk_base::Stats;
-
-// No wdf is greater.
-const MOST_WDF: u32 = 536870911;
+use sk_base::{MOST_WDF, Stats};
 
 impl Stats for Index {
     ghost documents = { λ i. i.live.documents };

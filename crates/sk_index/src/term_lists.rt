@@ -164,7 +164,7 @@ impl TermLists {
         }
     }
 
-    // The number of the term, whose list has the document.
+    /// The number of the term, whose list has the document.
     fn put(&mut self, id: DocId, term: &[u8], wdf: u32) -> Result<usize, AllocError>
         requires { 1 ≤ id }
         ensures puts { OnOk result (Puts id term.now wdf self.old self.new) }
@@ -204,7 +204,7 @@ impl TermLists {
         self.lists[number].remove(id);
     }
 
-    // The number of the term, which is given the next one and an empty list where it has none.
+    /// The number of the term, which is given the next one and an empty list where it has none.
     fn number_for(&mut self, term: &[u8]) -> Result<usize, AllocError>
         ensures found { IfOk result (λ n. number_of term.now self.new.terms ≡ Some n) }
         ensures there { IfOk result (λ n. n < length self.new.terms) }
@@ -221,7 +221,7 @@ impl TermLists {
     }
 }
 
-// How many positions the terms have together. More than 32 bits count is want of memory.
+/// How many positions the terms have together. More than 32 bits count is want of memory.
 fn count_positions(terms: &[DocTerm]) -> Result<usize, AllocError> {
     let mut count = 0;
     'terms: for one in terms {

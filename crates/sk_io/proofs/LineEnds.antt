@@ -1,10 +1,11 @@
 -- Where the first line's end stands.
-use Rattle.std.proofs.Common.{◌≡◌, ◌≢◌, ◌≤◌, ◌<◌, ◌+◌, ◌-◌, ◌==◌, ℕ, suc, Bool, true, false, not, cond, List, [], ◌∷◌, ◌++◌, Option, None, Some, MatchOption, length, take, drop, refl, sym, ap, ◌∙◌, subst, append_assoc, arith, length-drop, inl, inr, ◌⊎◌, ◌↔◌, nat_lt, is_some, IsTrue, true≢false}
+use Rattle.std.proofs.Common.{◌≡◌, ◌≢◌, ◌≤◌, ◌+◌, ◌-◌, ◌==◌, ℕ, suc, Bool, true, false, not, cond, List, [], ◌∷◌, ◌++◌, Option, None, Some, MatchOption, length, take, drop, refl, sym, ap, ◌∙◌, subst, append_assoc, arith, length-drop, inl, inr, ◌⊎◌, ◌↔◌, nat_lt, is_some, IsTrue, true≢false}
 use Rattle.std.specs.List.{position, position_or_len}
 use Rattle.std.proofs.lemmas.List.{take-append-drop, drop-drop, length-take}
 use Rattle.std.proofs.lemmas.Slice.{between_to_end}
 use Rattle.std.proofs.Math.Seq.{take-add, take-append-add}
 use Rattle.std.proofs.lemmas.Bool.Decides.{nat_tests}
+use Rattle.std.proofs.lemmas.Bool.{lt-ltb}
 use Rattle.sk_io.specs.LineText.{NoLineEnd, HasLineEnd}
 use Rattle.sk_io.specs.Steps.{EndsAt}
 
@@ -56,10 +57,6 @@ front : (xs : List ℕ) → IsFront xs (position_or_len (λ b. b == 10) xs)
 front [] = inr (tt, refl)
 front (x ∷ xs) = front_cons x (position_or_len (λ b. b == 10) xs) xs (x == 10) refl (front xs)
 
--- the test of a number below another
-lt_true : (m n : ℕ) → m < n → nat_lt m n ≡ true
-lt_true m n h = grind (arith, nat_tests)
-
 -- the test of equal numbers
 lt_false : (m n : ℕ) → m ≡ n → nat_lt m n ≡ false
 lt_false m n h = grind (arith, nat_tests)
@@ -67,7 +64,7 @@ lt_false m n h = grind (arith, nat_tests)
 -- what the number of bytes before the first end answers
 found_by : (xs : List ℕ) (n : ℕ) (r : Option ℕ) → r ≡ cond (nat_lt n (length xs)) (Some n) None → IsFront xs n → MatchOption r (NoLineEnd xs) (EndsAt xs)
 found_by xs n r e (inl h) =
-    let is : r ≡ Some n = e ∙ ap (λ b. cond b (Some n) None) (lt_true n (length xs) h.inside) in
+    let is : r ≡ Some n = e ∙ ap (λ b. cond b (Some n) None) (lt-ltb n (length xs) h.inside) in
     subst (λ o. MatchOption o (NoLineEnd xs) (EndsAt xs)) (sym is) h
 found_by xs n r e (inr h) =
     let is : r ≡ None = e ∙ ap (λ b. cond b (Some n) None) (lt_false n (length xs) h.1) in

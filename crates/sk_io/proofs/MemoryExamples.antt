@@ -1,5 +1,5 @@
 -- Calls of a source and of a sink in memory, worked out by hand.
-use Rattle.std.proofs.Common.{◌≡◌, ℕ, ◌||◌, Bool, true, false, cond, List, [], ◌∷◌, Option, Some, None, length, take, refl, codes}
+use Rattle.std.proofs.Common.{◌≡◌, ℕ, ◌||◌, false, cond, List, [], ◌∷◌, Option, Some, None, take, refl, codes}
 use Rattle.sk_io.specs.Memory.{Feed, feed_fails, portion, fed, starved, Tray, tray_fails, is_over, share, served, spilt, closed, unclosed}
 
 -- How many bytes each call gives, for buffers of these lengths, and none where the call fails.

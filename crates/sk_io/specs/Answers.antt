@@ -8,12 +8,12 @@ use Rattle.sk_io.specs.Causes.{Rose}
 use Rattle.sk_io.specs.LineText.{most_line, NoLineEnd, IsLine}
 use Rattle.sk_io.specs.Reading.{Reader, reach, StreamIs, Outcome, ended, whole, too_long, stopped}
 
--- as many bytes were taken off the room as off what the source had left
+-- As many bytes were taken off the room as off what the source had left.
 abbrev pub Charged : Reader → Option (List ℕ) → Reader → Option (List ℕ) → Type 0
 Charged old left new left' =
     (rest rest' : List ℕ) → left ≡ Some rest → left' ≡ Some rest' → new.room + length rest ≡ old.room + length rest'
 
--- no line is left, and the source's end was reached
+-- No line is left, and the source's end was reached.
 pub record Ends (old : Reader) (left : Option (List ℕ)) (new : Reader) (left' : Option (List ℕ)) : Type 0 where
   pub goes : new.stopped ≡ None
   pub ended : new.ended ≡ true
@@ -29,7 +29,7 @@ pub record LineOf (line : List ℕ) (new : Reader) (left' : Option (List ℕ)) (
   pub goes_on : StreamIs new left' after
   pub last : s ≡ line → new.ended ≡ true
 
--- the first line was given
+-- The first line was given.
 pub record Gives (old : Reader) (left : Option (List ℕ)) (new : Reader) (left' : Option (List ℕ)) (line : List ℕ) : Type 0 where
   pub goes : new.stopped ≡ None
   pub short : length line ≤ most_line
@@ -37,13 +37,13 @@ pub record Gives (old : Reader) (left : Option (List ℕ)) (new : Reader) (left'
   pub first : (s : List ℕ) → StreamIs old left s → LineOf line new left' s
   pub charged : Charged old left new left'
 
--- the first line of s is longer than a line may be, and the stream goes on behind it
+-- The first line of s is longer than a line may be, and the stream goes on behind it.
 pub record LongLineOf (new : Reader) (left' : Option (List ℕ)) (s : List ℕ) : Type 0 where
   pub line : List ℕ
   pub long : most_line < length line
   pub first : LineOf line new left' s
 
--- the first line, which is too long, was passed over
+-- The first line, which is too long, was passed over.
 pub record PassesOver (old : Reader) (left : Option (List ℕ)) (new : Reader) (left' : Option (List ℕ)) : Type 0 where
   pub goes : new.stopped ≡ None
   pub falls : reach new < reach old
@@ -58,7 +58,7 @@ pub record OpenLineOf (left' : Option (List ℕ)) (s : List ℕ) : Type 0 where
   pub is : s ≡ open_line ++ rest
   pub told : left' ≡ Some rest
 
--- the reader stopped, in the middle of a line or before one
+-- The reader stopped, in the middle of a line or before one.
 pub record Stops (old : Reader) (left : Option (List ℕ)) (new : Reader) (left' : Option (List ℕ)) (why : LineStop) : Type 0 where
   pub stopped_for : new.stopped ≡ Some why
   pub full : why ≡ TooMuch → new.room ≡ 0
@@ -66,37 +66,37 @@ pub record Stops (old : Reader) (left : Option (List ℕ)) (new : Reader) (left'
   pub open_line : (s : List ℕ) → StreamIs old left s → OpenLineOf left' s
   pub charged : Charged old left new left'
 
--- the stop that was answered before is answered again, and nothing is touched
+-- The stop that was answered before is answered again, and nothing is touched.
 pub record StopsAgain (old : Reader) (left : Option (List ℕ)) (new : Reader) (left' : Option (List ℕ)) (answer : Outcome) (why : LineStop) : Type 0 where
   pub again : answer ≡ stopped why
   pub same : new ≡ old
   pub untouched : left' ≡ left
 
--- what a reader that has not stopped did, by its answer
+-- What a reader that has not stopped did, by its answer.
 abbrev pub ReadsOn : Reader → Option (List ℕ) → Reader → Option (List ℕ) → Outcome → Type 0
 ReadsOn old left new left' ended = Ends old left new left'
 ReadsOn old left new left' (whole line) = Gives old left new left' line
 ReadsOn old left new left' too_long = PassesOver old left new left'
 ReadsOn old left new left' (stopped why) = Stops old left new left' why
 
--- what a call of `next` did, by its answer; a reader that reached the end stays there
+-- What a call of `next` did, by its answer; a reader that reached the end stays there.
 pub record Reads (old : Reader) (left : Option (List ℕ)) (new : Reader) (left' : Option (List ℕ)) (answer : Outcome) : Type 0 where
   pub again : (why : LineStop) → old.stopped ≡ Some why → StopsAgain old left new left' answer why
   pub goes_on : old.stopped ≡ None → ReadsOn old left new left' answer
   pub stays : old.ended ≡ true → new.ended ≡ true
 
--- the count of faults does not fall, and the stop `Failed` comes only where it rose, or again
+-- The count of faults does not fall, and the stop `Failed` comes only where it rose, or again.
 pub record StopHasCause {T : Type 0} (stop : Option LineStop) (before now : ℕ) (result : Result T LineStop) : Type 0 where
   pub later : before ≤ now
   pub failed : IsErrOf result Failed → Rose before now ⊎ (stop ≡ Some Failed)
 
--- a whole line is at most most_line bytes
+-- A whole line is at most most_line bytes.
 abbrev pub IsShort : Option Line → Type 0
 IsShort None = Unit {0}
 IsShort (Some (Whole line)) = length line.now ≤ most_line
 IsShort (Some TooLong) = Unit {0}
 
--- a line was given
+-- A line was given.
 abbrev pub IsGiven : Result (Option Line) LineStop → Type 0
 IsGiven (Ok None) = ⊥
 IsGiven (Ok (Some line)) = Unit {0}

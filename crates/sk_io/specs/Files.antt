@@ -2,6 +2,6 @@
 use Rattle.std.specs.Prelude.{ℕ}
 use Rattle.sk_io.specs.declared.file.LazyFile.{LazyFile}
 
--- how often a source over a file has failed
+-- How often a source over a file has failed.
 abbrev pub file_faults : {R F D : Type 0} → LazyFile R F D → ℕ
 file_faults s = s.failed

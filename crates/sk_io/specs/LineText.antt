@@ -5,12 +5,12 @@ use Rattle.std.specs.Prelude.{◌≡◌, ◌≢◌, ℕ, ◌<◌, ◌⊎◌, Lis
 abbrev pub most_line : ℕ
 most_line = 1048576
 
--- no byte is a line's end
+-- No byte is a line's end.
 abbrev pub NoLineEnd : List ℕ → Type 0
 NoLineEnd [] = Unit {0}
 NoLineEnd (b ∷ bs) = (b ≢ 10) × NoLineEnd bs
 
--- some byte is a line's end
+-- Some byte is a line's end.
 abbrev pub HasLineEnd : List ℕ → Type 0
 HasLineEnd bytes = NoLineEnd bytes → ⊥
 

@@ -3,26 +3,26 @@ use Rattle.std.specs.Prelude.{ℕ, Bool}
 use Rattle.sk_io.specs.declared.standard.StdSource.{StdSource}
 use Rattle.sk_io.specs.declared.standard.StdSink.{StdSink}
 
--- the reader of a source
+-- The reader of a source.
 abbrev pub source_reader : {T : Type 0} → StdSource T → T
 source_reader s = s.reader
 
--- how often a source has failed
+-- How often a source has failed.
 abbrev pub source_faults : {T : Type 0} → StdSource T → ℕ
 source_faults s = s.failed
 
--- the writer of a sink
+-- The writer of a sink.
 abbrev pub sink_writer : {T : Type 0} → StdSink T → T
 sink_writer s = s.writer
 
--- how often a sink has failed
+-- How often a sink has failed.
 abbrev pub sink_faults : {T : Type 0} → StdSink T → ℕ
 sink_faults s = s.failed
 
--- how often a sink was to finish
+-- How often a sink was to finish.
 abbrev pub sink_finishes : {T : Type 0} → StdSink T → ℕ
 sink_finishes s = s.finished
 
--- whether a sink's last call was a flush that did not fail
+-- Whether a sink's last call was a flush that did not fail.
 abbrev pub sink_settled : {T : Type 0} → StdSink T → Bool
 sink_settled s = s.done

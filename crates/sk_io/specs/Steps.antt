@@ -11,7 +11,7 @@ use Rattle.sk_io.specs.Causes.{Rose}
 use Rattle.sk_io.specs.LineText.{most_line, NoLineEnd}
 use Rattle.sk_io.specs.Reading.{Reader, pending, reach, StreamIs, Outcome, ended, whole, too_long, stopped}
 
--- the first line's end stands at `at`
+-- The first line's end stands at `at`.
 pub record EndsAt (bytes : List ℕ) (at : ℕ) : Type 0 where
   pub no_end : NoLineEnd (take at bytes)
   pub inside : at < length bytes
@@ -35,7 +35,7 @@ pub record TakesMore (old new : List ℕ) (left left' : Option (List ℕ)) (most
   pub told : Consumes left left' taken
   pub at_end : n ≡ 0 → IsAtEnd left'
 
--- the reader has not stopped, and no byte that it holds was given
+-- The reader has not stopped, and no byte that it holds was given.
 pub record IsOpen (r : Reader) : Type 0 where
   pub none_given : r.given ≡ 0
   pub goes : r.stopped ≡ None
@@ -52,7 +52,7 @@ pub record Fills (old : Reader) (left : Option (List ℕ)) (new : Reader) (left'
   pub ended : n ≡ 0 → new.ended ≡ true
   pub at_end : new.ended ≡ true → IsAtEnd left' ⊎ (old.ended ≡ true)
 
--- no byte more could be taken
+-- No byte more could be taken.
 pub record Halts (old : Reader) (left : Option (List ℕ)) (new : Reader) (left' : Option (List ℕ)) (why : LineStop) : Type 0 where
   pub is : new ≡ record old { stopped = Some why }
   pub full : why ≡ TooMuch → old.room ≡ 0
@@ -64,19 +64,19 @@ pub record GoesOnBehind (over : List ℕ) (new : Reader) (left' : Option (List �
   pub is : s ≡ over ++ rest
   pub stream : StreamIs new left' rest
 
--- the source tells what it has left, and as much was taken off it as off the room
+-- The source tells what it has left, and as much was taken off it as off the room.
 pub record Tells (old new : Reader) (left' : Option (List ℕ)) (rest : List ℕ) : Type 0 where
   pub rest' : List ℕ
   pub told : left' ≡ Some rest'
   pub charged : new.room + length rest ≡ old.room + length rest'
 
--- the bytes `over` were passed over, and nothing else
+-- The bytes `over` were passed over, and nothing else.
 pub record Passes (old : Reader) (left : Option (List ℕ)) (new : Reader) (left' : Option (List ℕ)) (over : List ℕ) : Type 0 where
   pub count : reach new + length over ≡ reach old
   pub behind : (s : List ℕ) → StreamIs old left s → GoesOnBehind over new left' s
   pub tells : (rest : List ℕ) → left ≡ Some rest → Tells old new left' rest
 
--- the reader stopped in a line of which `over` was passed over
+-- The reader stopped in a line of which `over` was passed over.
 pub record Halted (old : Reader) (left : Option (List ℕ)) (new : Reader) (left' : Option (List ℕ)) (why : LineStop) : Type 0 where
   pub over : List ℕ
   pub passes : Passes old left new left' over
@@ -85,41 +85,41 @@ pub record Halted (old : Reader) (left : Option (List ℕ)) (new : Reader) (left
   pub stopped_for : new.stopped ≡ Some why
   pub full : why ≡ TooMuch → new.room ≡ 0
 
--- no line's end is left, neither here nor in the source
+-- No line's end is left, neither here nor in the source.
 pub record NoneLeft (new : Reader) : Type 0 where
   pub no_end : NoLineEnd new.held
   pub short : length new.held ≤ most_line
   pub more_room : 0 < new.room
   pub ended : new.ended ≡ true
 
--- a line that is longer than a line may be, so far
+-- A line that is longer than a line may be, so far.
 pub record IsFar (new : Reader) : Type 0 where
   pub no_end : NoLineEnd new.held
   pub long : most_line < length new.held
 
--- the first line's end is held, and what follows it has a place
+-- The first line's end is held, and what follows it has a place.
 pub record EndIsHeld (new : Reader) (at : ℕ) : Type 0 where
   pub ends : EndsAt new.held at
   pub fits : at + 1 < 2 ^ 64
 
--- where the first line ends
+-- Where the first line ends.
 abbrev pub IsSought : Reader → LineEnd → Type 0
 IsSought new (At at) = EndIsHeld new at
 IsSought new Far = IsFar new
 IsSought new Nowhere = NoneLeft new
 
--- the end of the first line was sought, and all that was taken is held
+-- The end of the first line was sought, and all that was taken is held.
 pub record Sought (old : Reader) (left : Option (List ℕ)) (new : Reader) (left' : Option (List ℕ)) (end : LineEnd) : Type 0 where
   pub is_open : IsOpen new
   pub passes : Passes old left new left' []
   pub sought : IsSought new end
 
--- nothing is held, and the source's end was reached
+-- Nothing is held, and the source's end was reached.
 pub record IsOver (new : Reader) : Type 0 where
   pub none_held : pending new ≡ []
   pub ended : new.ended ≡ true
 
--- the rest of a line was passed over: up to its end, or to the end of the source
+-- The rest of a line was passed over: up to its end, or to the end of the source.
 pub record Skips (old : Reader) (left : Option (List ℕ)) (new : Reader) (left' : Option (List ℕ)) : Type 0 where
   pub goes : new.stopped ≡ None
   pub line : List ℕ
@@ -127,32 +127,32 @@ pub record Skips (old : Reader) (left : Option (List ℕ)) (new : Reader) (left'
   pub long : length old.held ≤ length line
   pub passes : Passes old left new left' (line ++ 10 ∷ []) ⊎ (Passes old left new left' line × IsOver new)
 
--- the count of faults does not fall, and the stop `Failed` comes only where it rose
+-- The count of faults does not fall, and the stop `Failed` comes only where it rose.
 pub record FailHasCause {T : Type 0} (before now : ℕ) (result : Result T LineStop) : Type 0 where
   pub later : before ≤ now
   pub failed : IsErrOf result Failed → Rose before now
 
--- what was found, by the length of a line
+-- What was found, by the length of a line.
 abbrev pub found_outcome : Reader → Result Found LineStop → Outcome
 found_outcome new (Ok End) = ended
 found_outcome new (Ok (Whole n)) = whole (take n new.held)
 found_outcome new (Ok TooLong) = too_long
 found_outcome new (Err why) = stopped why
 
--- a line that was found is held, and no longer than a line may be
+-- A line that was found is held, and no longer than a line may be.
 abbrev pub IsWithin : Reader → Found → Type 0
 IsWithin new End = Unit {0}
 IsWithin new (Whole n) = (n ≤ length new.held) × (n ≤ most_line)
 IsWithin new TooLong = Unit {0}
 
--- an end was found
+-- An end was found.
 abbrev pub EndIsFound : Result LineEnd LineStop → Type 0
 EndIsFound (Ok (At at)) = Unit {0}
 EndIsFound (Ok Far) = ⊥
 EndIsFound (Ok Nowhere) = ⊥
 EndIsFound (Err why) = ⊥
 
--- a line was found
+-- A line was found.
 abbrev pub LineIsFound : Result Found LineStop → Type 0
 LineIsFound (Ok End) = ⊥
 LineIsFound (Ok (Whole n)) = Unit {0}

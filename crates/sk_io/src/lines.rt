@@ -143,7 +143,7 @@ impl Lines {
         }
     }
 
-    // Drops the line that was given last.
+    /// Drops the line that was given last.
     fn drop_given(&mut self)
         ensures { self.new ≡ record self.old { held = pending self.old; given = 0 } }
     {
@@ -151,7 +151,7 @@ impl Lines {
         self.given = 0;
     }
 
-    // Drops all that is held.
+    /// Drops all that is held.
     fn drop_held(&mut self)
         ensures { self.new ≡ record self.old { held = []; given = 0 } }
     {
@@ -160,7 +160,7 @@ impl Lines {
         self.given = 0;
     }
 
-    // Marks the first bytes as given.
+    /// Marks the first bytes as given.
     fn give(&mut self, n: usize)
         requires { n ≤ length self.old.held }
         ensures { self.new ≡ record self.old { given = n } }
@@ -168,7 +168,7 @@ impl Lines {
         self.given = n;
     }
 
-    // Takes some bytes more, or none at the source's end.
+    /// Takes some bytes more, or none at the source's end.
     fn fill<S: Source>(&mut self, source: &mut S) -> Result<usize, LineStop>
         requires is_open { IsOpen self.old }
         requires space { length self.old.held ≤ MAX_LINE }
@@ -197,7 +197,7 @@ impl Lines {
         }
     }
 
-    // Takes bytes until the first line's end is held, or the line is too long, or none is left.
+    /// Takes bytes until the first line's end is held, or the line is too long, or none is left.
     fn read_end<S: Source>(&mut self, source: &mut S) -> Result<LineEnd, LineStop>
         requires { IsOpen self.old }
         ensures ok { IfOk result (Sought self.old (S.left source.old) self.new (S.left source.new)) }
@@ -222,7 +222,7 @@ impl Lines {
         }
     }
 
-    // Passes over the rest of a line, of which no end is held.
+    /// Passes over the rest of a line, of which no end is held.
     fn skip_line<S: Source>(&mut self, source: &mut S) -> Result<(), LineStop>
         requires is_open { IsOpen self.old }
         requires no_end { NoLineEnd self.old.held }

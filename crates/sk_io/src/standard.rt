@@ -27,7 +27,7 @@ impl<T: Read + Drop> StdSource<T> {
     }
 }
 
-// One read, tried again where it was interrupted.
+/// One read, tried again where it was interrupted.
 pub(crate) fn read_some<T: Read>(reader: &mut T, buf: &mut [u8]) -> Result<usize, Failed>
     ensures bound { ReadsAtMost result buf.new }
     ensures bytes { ReadConsumes (T.remaining reader.old) (T.remaining reader.new) result buf.new }
@@ -85,7 +85,7 @@ impl<T: Write + Drop> StdSink<T> {
     }
 }
 
-// One write, tried again where it was interrupted.
+/// One write, tried again where it was interrupted.
 fn write_some<T: Write>(writer: &mut T, piece: &[u8]) -> Result<usize, Failed>
     ensures bound { WritesAtMost result piece.now }
     ensures some { IfOk result (λ n. 0 < length piece.now → 0 < n) }

@@ -78,7 +78,7 @@ impl Window {
     }
 }
 
-// Where the held bytes end at the buffer's end, moves them to the front.
+/// Where the held bytes end at the buffer's end, moves them to the front.
 fn make_room(buffer: &mut [u8], start: usize, end: usize) -> (usize, usize)
     requires ordered { start ≤ end }
     requires inside { end ≤ length buffer.old }
@@ -97,7 +97,7 @@ fn make_room(buffer: &mut [u8], start: usize, end: usize) -> (usize, usize)
     (0, end - start)
 }
 
-// Moves the bytes from `start` on to the front.
+/// Moves the bytes from `start` on to the front.
 fn move_to_front(buffer: &mut [u8], start: usize)
     requires inside { start ≤ length buffer.old }
     requires apart { length buffer.old ≤ 2 * start }
@@ -108,7 +108,7 @@ fn move_to_front(buffer: &mut [u8], start: usize)
     front[..len].copy_from_slice(back);
 }
 
-// Takes bytes of the source into the buffer, from `end` on.
+/// Takes bytes of the source into the buffer, from `end` on.
 fn take_behind<S: Source>(
     source: &mut S,
     buffer: &mut [u8],
@@ -126,7 +126,7 @@ fn take_behind<S: Source>(
     Ok(n)
 }
 
-// The place of the first line's end.
+/// The place of the first line's end.
 fn first_end(bytes: &[u8]) -> Option<usize>
     ensures { result ≡ position (λ b. b == 10) bytes.now }
 {

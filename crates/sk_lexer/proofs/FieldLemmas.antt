@@ -1,5 +1,5 @@
 -- How long the pieces of fields are.
-use Rattle.std.proofs.Common.{◌≡◌, ◌≤◌, ◌<◌, ℕ, suc, ◌+◌, ◌^◌, List, [], ◌∷◌, length, drop, encode_utf8_all, Option, Some, None, Result, Ok, Err, IfOk, IfSome, option_map, refl, sym, subst, arith}
+use Rattle.std.proofs.Common.{◌≡◌, ◌≤◌, ◌<◌, ℕ, ◌+◌, ◌^◌, List, length, drop, Option, Some, None, Result, Ok, Err, IfOk, IfSome, option_map, sym, subst, arith}
 use Rattle.std.proofs.lemmas.Str.{length-le-encodes}
 use Rattle.std.specs.declared.alloc.AllocError.{AllocError}
 use Rattle.sk_grammar.specs.Cutting.{byte_len}

@@ -1,5 +1,5 @@
 -- How long runs of characters are.
-use Rattle.std.proofs.Common.{◌≡◌, ◌≤◌, ◌<◌, ℕ, zero, suc, ◌+◌, ◌*◌, ◌-◌, min, Bool, true, false, not, cond, ◌&&◌, if◌then◌else◌, List, [], ◌∷◌, ◌++◌, length, take, drop, encode_utf8, encode_utf8_all, length-append, Option, Some, None, option_map, unwrap_or, position, nat_lt, refl, sym, ap, ◌∙◌, arith}
+use Rattle.std.proofs.Common.{◌≡◌, ◌≤◌, ℕ, ◌+◌, ◌-◌, Bool, true, false, not, cond, List, [], ◌∷◌, ◌++◌, length, take, drop, encode_utf8, encode_utf8_all, length-append, Some, None, unwrap_or, position, nat_lt, refl, ap, arith}
 use Rattle.std.proofs.lemmas.Bool.Decides.{nat_tests}
 use Rattle.std.proofs.lemmas.List.Sums.{prefix_len-le-length}
 use Rattle.std.proofs.lemmas.List.{take-append-drop}
@@ -8,8 +8,6 @@ use Rattle.std.proofs.lemmas.Str.{length-encode}
 use Rattle.std.specs.Char.{len_utf8}
 use Rattle.std.specs.List.{prefix_len}
 use Rattle.sk_grammar.specs.Cutting.{byte_len}
-use Rattle.sk_base.specs.Names.{is_name_byte}
-use Rattle.sk_grammar.specs.Characters.{inner_len, runs_on, run_len}
 
 within : (n m : ℕ) → n ≤ m → unwrap_or (cond (nat_lt n m) (Some n) None) m ≡ n
 within n m h = elim (nat_lt n m) as (λ b. nat_lt n m ≡ b → unwrap_or (cond b (Some n) None) m ≡ n) [

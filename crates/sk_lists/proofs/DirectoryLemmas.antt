@@ -1,23 +1,19 @@
 -- What an edit of one chunk is to all of them.
-use Rattle.std.proofs.Common.{◌≡◌, ℕ, zero, suc, ◌+◌, ◌<◌, ◌≤◌, ◌^◌, max, List, [], ◌∷◌, ◌++◌, length, take, drop, get_or, set, nat_lt, true, false, is_some, Option, Some, None, refl, sym, ap, subst, ◌∙◌, arith}
+use Rattle.std.proofs.Common.{◌≡◌, ℕ, zero, suc, ◌+◌, ◌<◌, ◌≤◌, ◌^◌, max, List, [], ◌∷◌, ◌++◌, length, take, drop, get_or, set, true, false, is_some, Option, Some, None, refl, sym, ap, subst, ◌∙◌, arith}
 use mathlib.Core.Bool.{true≢false}
 use Rattle.std.specs.List.{insert, remove}
-use Rattle.std.specs.List.Sorted.{IsPartitionedBy}
 use Rattle.std.proofs.lemmas.Bool.Decides.{nat_tests}
 use Rattle.std.proofs.lemmas.List.{length-append, length-take, length-drop, set-get_or, get_or_default, get_or-set_same, append_assoc, take_more, map-append}
 use Rattle.sk_sorted.specs.Entries.{RiseAbove, LieBelow, put, without, has, found, ids_of, top_id}
-use Rattle.sk_sorted.proofs.EntryLaws.{LieBelow-put, LieBelow-without, length_fits, put-last, without-absent}
+use Rattle.sk_sorted.proofs.EntryLaws.{LieBelow-put, length_fits, put-last, without-absent}
 use Rattle.sk_runs.specs.Runs.{flat, RunsRise, AreRuns, FitsAt}
-use Rattle.sk_runs.proofs.RunLaws.{put_in_run, without_in_run, found_in_run, rise_put, rise_without, rise_cut, flat-cut, rise_joined, flat-join, fits-cut, fits-behind, cut-first, cut-second, cut-length, before-removed, put-back, next-rises, tops_rise, all_below, flat-drop, flat-remove, rise_remove, flat-last, rise_last, AreRuns-sorted}
+use Rattle.sk_runs.proofs.RunLaws.{put_in_run, without_in_run, found_in_run, rise_cut, flat-cut, flat-join, fits-cut, fits-behind, cut-first, cut-second, cut-length, before-removed, put-back, next-rises, all_below, flat-drop, flat-remove, flat-last, rise_last, AreRuns-sorted}
+use Rattle.sk_runs.proofs.EditLaws.{length_set, AreRuns-put, AreRuns-without, AreRuns-gone, AreRuns-cut, AreRuns-join}
 use Rattle.sk_chunks.specs.Postings.{Postings, greatest_wdf}
 use Rattle.sk_chunks.proofs.GreatestLaws.{greatest-append}
 use Rattle.sk_lists.specs.Lists.{Runs, IsDirectory}
 
 -- ---- the place
-
--- runs that end below the id stand before the others
-pub tops_parted : (id : ℕ) (rs : Runs) → RunsRise 0 rs → IsPartitionedBy (λ (r : Postings). nat_lt (top_id 0 r) id) rs
-tops_parted id rs up i j d le lt e = let rise : top_id 0 (get_or rs i d) ≤ top_id 0 (get_or rs j d) = tops_rise 0 rs i j d up le lt in grind (arith, nat_tests, rise, e)
 
 -- ---- the greatest wdf
 
@@ -41,44 +37,7 @@ greatest_set (r ∷ rs) (suc i) s lt = let more : greatest_wdf (flat (set rs i s
 
 -- ---- the number of entries
 
-pub length_set : (rs : Runs) (i : ℕ) (s d : Postings) → i < length rs → length (flat (set rs i s)) + length (get_or rs i d) ≡ length (flat rs) + length s
-length_set [] i s d lt = absurd (omega arith)
-length_set (r ∷ rs) zero s d lt = omega (arith, length-append r (flat rs), length-append s (flat rs))
-length_set (r ∷ rs) (suc i) s d lt = omega (arith, length-append r (flat rs), length-append r (flat (set rs i s)), length_set rs i s d (omega arith))
-
 -- ---- what stays
-
-pub AreRuns-put : (id x : ℕ) (rs : Runs) (i : ℕ) (d : Postings) → 1 ≤ id → id < 2 ^ 32 → FitsAt id rs i → AreRuns rs → AreRuns (set rs i (put id x (get_or rs i d)))
-AreRuns-put id x rs i d begun small fits are = record {
-  rise = rise_put 0 id x rs i d (omega arith) are.rise fits;
-  small = subst (LieBelow (2 ^ 32)) (sym (put_in_run 0 id x rs i d are.rise fits)) (LieBelow-put (2 ^ 32) id x (flat rs) small are.small);
-}
-
-pub AreRuns-without : (id : ℕ) (rs : Runs) (i : ℕ) (d : Postings) → i < length rs → FitsAt id rs i → 0 < length (without id (get_or rs i d)) → AreRuns rs → AreRuns (set rs i (without id (get_or rs i d)))
-AreRuns-without id rs i d lt fits some are = record {
-  rise = rise_without 0 id rs i d lt are.rise some;
-  small = subst (LieBelow (2 ^ 32)) (sym (without_in_run 0 id rs i d are.rise fits)) (LieBelow-without (2 ^ 32) id (flat rs) are.small);
-}
-
-pub AreRuns-gone : (id : ℕ) (rs : Runs) (i : ℕ) (d : Postings) → i < length rs → FitsAt id rs i → without id (get_or rs i d) ≡ [] → AreRuns rs → AreRuns (remove rs i)
-AreRuns-gone id rs i d lt fits none are =
-    let gone : flat (remove rs i) ≡ without id (flat rs) = flat-remove rs i lt ∙ ap (λ (s : Postings). flat (set rs i s)) (sym none) ∙ without_in_run 0 id rs i d are.rise fits in
-    record {
-      rise = rise_remove 0 rs i are.rise;
-      small = subst (LieBelow (2 ^ 32)) (sym gone) (LieBelow-without (2 ^ 32) id (flat rs) are.small);
-    }
-
-pub AreRuns-cut : (rs : Runs) (i n : ℕ) (d : Postings) → i < length rs → 0 < n → n < length (get_or rs i d) → AreRuns rs → AreRuns (insert (set rs i (take n (get_or rs i d))) (i + 1) (drop n (get_or rs i d)))
-AreRuns-cut rs i n d lt some less are = record {
-  rise = rise_cut 0 rs i n d lt some less are.rise;
-  small = subst (LieBelow (2 ^ 32)) (sym (flat-cut rs i n d lt)) are.small;
-}
-
-pub AreRuns-join : (rs : Runs) (i : ℕ) (d : Postings) → i + 1 < length rs → AreRuns rs → AreRuns (set (remove rs (i + 1)) i (get_or rs i d ++ get_or rs (i + 1) d))
-AreRuns-join rs i d lt are = record {
-  rise = rise_joined 0 rs i d lt are.rise;
-  small = subst (LieBelow (2 ^ 32)) (sym (flat-join rs i d lt)) are.small;
-}
 
 -- a directory whose entries are the same
 same_entries : (rs new : Runs) (count most : ℕ) → IsDirectory rs count most → flat new ≡ flat rs → AreRuns new → IsDirectory new count most
@@ -191,14 +150,6 @@ length_put : (id x : ℕ) (ps : Postings) → length ps ≤ length (put id x ps)
 length_put id x [] = omega arith
 length_put id x (p ∷ ps) = grind (arith, nat_tests, length_put id x ps)
 
--- what was read twice at a place is the same
-pub same_read : (rs : Runs) (at : ℕ) (x y : Postings) → at < length rs → x ≡ get_or rs at x → y ≡ get_or rs at y → x ≡ y
-same_read rs at x y lt e f = e ∙ get_or_default rs at x [] lt ∙ sym (get_or_default rs at y [] lt) ∙ sym f
-
--- what is read where something was written
-pub read_set : (rs : Runs) (at : ℕ) (new x : Postings) → at < length rs → x ≡ get_or (set rs at new) at x → x ≡ new
-read_set rs at new x lt e = e ∙ get_or-set_same rs at new x lt
-
 module _ (id at : ℕ) (items now : Runs) (count most : ℕ) (view : items ≡ now) (old : IsDirectory items count most) (there : at < length now) (fits : FitsAt id now at) (was : Postings) (is : was ≡ get_or items at was) where
   within : at < length items
   within = subst (λ (s : Runs). at < length s) (sym view) there
@@ -282,31 +233,11 @@ module _ (id at : ℕ) (items now : Runs) (count most : ℕ) (view : items ≡ n
           most_is = ap greatest_wdf same ∙ sym greatest;
         }
 
--- a list without entries
-pub nil_is : (ps : Postings) → length ps ≡ 0 → ps ≡ []
-nil_is [] e = refl
-nil_is (p ∷ ps) e = absurd (omega (arith, e))
-
--- what is taken out is one entry
-pub length_out : (id : ℕ) (ps : Postings) → has id ps ≡ true → length (without id ps) + 1 ≡ length ps
-length_out id [] there = cc
-length_out id (p ∷ ps) there = grind (arith, nat_tests, length_out id ps)
-
 -- ---- a run behind all others
 
 pub nowhere_behind : (id : ℕ) (es : Postings) → LieBelow id es → has id es ≡ false
 nowhere_behind id [] below = refl
 nowhere_behind id (e ∷ es) below = grind (arith, nat_tests, nowhere_behind id es, below.0, below.1)
-
-pub nowhere : (id : ℕ) (rs : Runs) → AreRuns rs → ((k : ℕ) → k < length rs → top_id 0 (get_or rs k []) < id) → has id (flat rs) ≡ false
-nowhere id rs are behind = nowhere_behind id (flat rs) (all_below 0 id rs are.rise behind)
-
-pub nothing_without : (id : ℕ) (rs : Runs) → AreRuns rs → ((k : ℕ) → k < length rs → top_id 0 (get_or rs k []) < id) → without id (flat rs) ≡ flat rs
-nothing_without id rs are behind = without-absent id (flat rs) (none_found (found id (flat rs)) (nowhere id rs are behind))
-  where
-    none_found : (o : Option ℕ) → is_some o ≡ false → o ≡ None
-    none_found None e = refl
-    none_found (Some x) e = absurd (true≢false e)
 
 module _ (id wdf : ℕ) (items now : Runs) (count most : ℕ) (view : items ≡ now) (old : IsDirectory items count most) (behind : (k : ℕ) → k < length now → top_id 0 (get_or now k []) < id) where
   under : LieBelow id (flat items)

@@ -1,6 +1,5 @@
 -- A seek, put together of what it passed over by heads and of what it read.
 use Rattle.std.proofs.Common.{◌≡◌, ◌≢◌, ℕ, zero, suc, ◌+◌, ◌-◌, ◌<◌, ◌≤◌, [], ◌∷◌, ◌++◌, length, take, drop, get_or, nat_lt, if◌then◌else◌, false, Option, Some, None, inl, inr, refl, sym, ap, subst, ◌∙◌, arith, le_refl}
-use Rattle.std.proofs.lemmas.Bool.{cases_lt}
 use Rattle.std.proofs.lemmas.Bool.Decides.{nat_tests}
 use Rattle.std.proofs.lemmas.List.{append_assoc, append-nil, take-append-drop, length-append, length-take, length-take-le, length-drop, drop-drop, drop_all, drop_more, drop-append-le, take-append-le, get_or-take, get_or-drop}
 use Rattle.std.proofs.Math.Seq.{drop-append_seam, drop-append-add, drop-length}

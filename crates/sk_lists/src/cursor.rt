@@ -161,7 +161,7 @@ impl Cursor {
         BlockMax::of(list.chunk(at))
     }
 
-    // Reads on in the chunk, up to the first entry at the target or behind it.
+    /// Reads on in the chunk, up to the first entry at the target or behind it.
     fn read_on<L: Ledger>(&mut self, chunk: &Chunk, target: u32, steps: &mut Steps<L>) -> u32
         requires begins { self.old.read < length chunk.now }
         requires reaches { target ≤ top_id 0 chunk.now }
@@ -185,7 +185,7 @@ impl Cursor {
     }
 }
 
-// Whether a seek reads in this chunk; where not, it may pass over it.
+/// Whether a seek reads in this chunk; where not, it may pass over it.
 fn stops_in(chunk: &Chunk, target: u32, need_wdf: u32) -> bool
     ensures skips { result ≡ false → IsSkipped target need_wdf chunk.now }
     ensures stops { result ≡ true → target ≤ top_id 0 chunk.now }
@@ -193,7 +193,7 @@ fn stops_in(chunk: &Chunk, target: u32, need_wdf: u32) -> bool
     target <= chunk.last() && need_wdf <= chunk.greatest()
 }
 
-// The first chunk from this one on that a seek may not pass over; their number where there is none.
+/// The first chunk from this one on that a seek may not pass over; their number where there is none.
 #[inline(never)]
 fn find(list: &List, run: usize, target: u32, need_wdf: u32) -> usize
     requires { run ≤ length list.now }
@@ -212,8 +212,8 @@ fn find(list: &List, run: usize, target: u32, need_wdf: u32) -> usize
     count
 }
 
-// The first chunk from this one on that ends at the target or behind it; their number where there is none. It looks about
-// twice as far each time and then halves what is left, so it looks at some two heads for each bit of the distance.
+/// The first chunk from this one on that ends at the target or behind it; their number where there is none. It looks about
+/// twice as far each time and then halves what is left, so it looks at some two heads for each bit of the distance.
 fn first_reaching(list: &List, run: usize, target: u32) -> usize
     requires { run ≤ length list.now }
     ensures bound { (run ≤ result) × (result ≤ length list.now) }
@@ -232,7 +232,7 @@ fn first_reaching(list: &List, run: usize, target: u32) -> usize
     first_between(list, from, count, target)
 }
 
-// The first chunk between two places that ends at the target or behind it; the later place where there is none.
+/// The first chunk between two places that ends at the target or behind it; the later place where there is none.
 fn first_between(list: &List, start: usize, end: usize, target: u32) -> usize
     requires order { start ≤ end }
     requires within { end ≤ length list.now }

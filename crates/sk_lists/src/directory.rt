@@ -17,8 +17,8 @@ use std::mem;
 pub(crate) const FULL: u32 = 32;
 
 const HALF: u32 = 16;
-// Neighbours that have no more entries together become one behind a removal or a halving, so that a list of n entries
-// has about n / 12 chunks at most.
+/// Neighbours that have no more entries together become one behind a removal or a halving, so that a list of n entries
+/// has about n / 12 chunks at most.
 const THIN: u32 = 24;
 
 /// Chunks in order of their ids, none of them empty.
@@ -141,7 +141,7 @@ impl Directory {
         self.chunks[at].put_ids(ids)
     }
 
-    // The first chunk that ends at the id or behind it; their number where there is none.
+    /// The first chunk that ends at the id or behind it; their number where there is none.
     fn place(&self, id: u32) -> usize
         ensures bound { result ≤ length self.now }
         ensures before { (k : ℕ) → k < result → top_id 0 (get_or self.now k []) < id }
@@ -153,7 +153,7 @@ impl Directory {
             .partition_point(|chunk| chunk.last() < id)
     }
 
-    // An entry behind all others: into the last chunk, or a new one where that is full or there is none.
+    /// An entry behind all others: into the last chunk, or a new one where that is full or there is none.
     fn append(&mut self, id: u32, wdf: u32) -> Result<(), AllocError>
         requires id { 1 ≤ id }
         requires behind { (k : ℕ) → k < length self.old → top_id 0 (get_or self.old k []) < id }
@@ -173,7 +173,7 @@ impl Directory {
         Ok(())
     }
 
-    // Where the entry goes: a full chunk that does not have it is halved first.
+    /// Where the entry goes: a full chunk that does not have it is halved first.
     fn make_room(&mut self, at: usize, id: u32) -> Result<usize, AllocError>
         requires there { at < length self.old }
         requires fits { FitsAt id self.old at }
@@ -201,7 +201,7 @@ impl Directory {
         self.chunks[at].has(id)
     }
 
-    // Makes two chunks of a full one.
+    /// Makes two chunks of a full one.
     fn halve(&mut self, at: usize) -> Result<(), AllocError>
         requires there { at < length self.old }
         requires full { 32 ≤ length (get_or self.old at []) }
@@ -214,7 +214,7 @@ impl Directory {
         Ok(())
     }
 
-    // Puts the entry into the chunk at the place.
+    /// Puts the entry into the chunk at the place.
     fn put_in(&mut self, at: usize, id: u32, wdf: u32) -> Result<(), AllocError>
         requires id { 1 ≤ id }
         requires there { at < length self.old }
@@ -232,7 +232,7 @@ impl Directory {
         Ok(())
     }
 
-    // Takes the entry out of the chunk at the place, which goes where it was the only one.
+    /// Takes the entry out of the chunk at the place, which goes where it was the only one.
     fn take_out(&mut self, at: usize, id: u32) -> bool
         requires there { at < length self.old }
         requires fits { FitsAt id self.old at }
@@ -251,7 +251,7 @@ impl Directory {
         true
     }
 
-    // Makes one chunk of the one at the place and the next, where they have few entries. Without memory they stay two.
+    /// Makes one chunk of the one at the place and the next, where they have few entries. Without memory they stay two.
     fn join(&mut self, at: usize)
         ensures { flat self.new ≡ flat self.old }
     {
@@ -280,7 +280,7 @@ fn insert_reserved(chunks: &mut Vec<Chunk>, at: usize, chunk: Chunk)
     }
 }
 
-// The greatest wdf of all chunks, where that of the one at the place was `most`, and that of all was `greatest`.
+/// The greatest wdf of all chunks, where that of the one at the place was `most`, and that of all was `greatest`.
 fn greatest_behind(chunks: &[Chunk], at: usize, most: u32, greatest: u32) -> u32
     requires there { at < length chunks.now }
     requires was { (o : ℕ) × ((greatest ≡ max o most) × (greatest_wdf (flat chunks.now) ≡ max o (greatest_wdf (get_or chunks.now at [])))) }
@@ -296,7 +296,7 @@ fn greatest_behind(chunks: &[Chunk], at: usize, most: u32, greatest: u32) -> u32
     greatest_of(chunks, greatest)
 }
 
-// The greatest wdf, by a look at the chunks that stops at the first that has the most that one can have.
+/// The greatest wdf, by a look at the chunks that stops at the first that has the most that one can have.
 fn greatest_of(chunks: &[Chunk], bound: u32) -> u32
     requires { greatest_wdf (flat chunks.now) ≤ bound }
     ensures { result ≡ greatest_wdf (flat chunks.now) }

@@ -20,7 +20,7 @@ pub struct List {
     form: Form,
 }
 
-// A short list is one chunk, without a vector of chunks.
+/// A short list is one chunk, without a vector of chunks.
 #[derive(Drop)]
 enum Form {
     One(Chunk),

@@ -2,8 +2,9 @@
 use Rattle.std.proofs.Common.{◌≡◌, ◌≤◌, ◌<◌, ◌+◌, ◌-◌, ◌/◌, ◌⊎◌, ◌^◌, ℕ, zero, suc, Bool, true, false, cond, ◌&&◌, ◌||◌, ◌==◌, nat_le, nat_lt, min, List, [], ◌∷◌, length, take, drop, map, Option, None, Some, is_none, unwrap_or, refl, sym, ap, ◌∙◌, subst, arith, inl, inr, true≢false}
 use Rattle.std.specs.List.{AllByRecursion, AllZip}
 use Rattle.std.specs.List.Sorted.{IsSortedBy}
-use Rattle.std.proofs.lemmas.Bool.Decides.{nat_tests}
 use Rattle.std.proofs.lemmas.List.{take_all, length-take, length-drop}
+use Rattle.std.proofs.lemmas.Bool.{and_parts, leb-false, leb-true, ltb-false, ltb-true}
+use Rattle.sk_collapse.proofs.GroupLemmas.{ranks_drop}
 use Rattle.sk_base.specs.declared.find.Collapse.{Collapse}
 use Rattle.sk_base.specs.declared.find.Find.{Find}
 use Rattle.sk_base.specs.declared.find.Options.{Options}
@@ -30,7 +31,7 @@ use Rattle.sk_nodes.specs.Decays.{Decays}
 use Rattle.sk_report.specs.Reports.{ReportsFor}
 use Rattle.sk_model.proofs.CountLaws.{found_within}
 use Rattle.sk_model.proofs.KeptLaws.{kept_few}
-use Rattle.sk_model.proofs.OrderLaws.{both_so, length-best_first}
+use Rattle.sk_model.proofs.OrderLaws.{length-best_first}
 use Rattle.sk_model.proofs.StaticLaws.{static_live}
 use Rattle.sk_index.specs.Indexed.{Indexed}
 use Rattle.sk_nodes.specs.Built.{gives, left}
@@ -41,29 +42,17 @@ use Rattle.sk_collapse.proofs.CollapseLaws.{knows_dropped}
 use Rattle.sk_seen.specs.Walks.{page_end, held_by, IsFull, IsPassed, Ended}
 use Rattle.sk_seen.specs.Pages.{CollapsesBy, Pages}
 use Rattle.sk_seen.specs.Needs.{is_settled}
-use Rattle.sk_seen.specs.Told.{TellsHit, IsUpper}
+use Rattle.sk_seen.specs.Tells.{TellsHit, IsUpper}
 use Rattle.sk_seen.proofs.WalkLaws.{weighed, ended_at_end, all_at_end, ended_below, all_below, ended_settled}
 use Rattle.sk_seen.proofs.NeedLaws.{settled_is}
-use Rattle.sk_seen.proofs.ToldLaws.{in_order, dropped_alike, beside, counts_told, told}
-use Rattle.sk_match.specs.Hits.{dropped_of, ranked_of, kept_of}
+use Rattle.sk_seen.proofs.TellsLaws.{in_order, dropped_alike, beside, counts_told, told}
+use Rattle.sk_match.specs.Hits.{dropped_of, ranked_of, kept_count}
 use Rattle.sk_match.specs.Searches.{Stands, is_done, is_whole}
 use Rattle.sk_match.specs.declared.turns.Search.{Search}
 
 no_first : (ps : List (ℕ × ℕ)) → is_none (first_id ps) ≡ true → ps ≡ []
 no_first [] e = refl
 no_first (p ∷ ps) e = absurd (true≢false (sym e))
-
-less : (a b : ℕ) → nat_lt a b ≡ true → a < b
-less a b e = grind (arith, nat_tests)
-
-no_less : (a b : ℕ) → nat_lt a b ≡ false → b ≤ a
-no_less a b e = grind (arith, nat_tests)
-
-most_is : (a b : ℕ) → nat_le a b ≡ true → a ≤ b
-most_is a b e = grind (arith, nat_tests)
-
-not_most : (a b : ℕ) → nat_le a b ≡ false → b < a
-not_most a b e = grind (arith, nat_tests)
 
 -- when a search is done
 pub done_at_end : (i : Indexed) (s : Search) → None ≡ first_id (left i s.tree) → is_done i s ≡ true
@@ -98,11 +87,6 @@ range_is xs hits a first same at =
     ∙ ap (λ k. drop k xs) at
     ∙ ap (λ ys. drop (min (length ys) first) ys) same
 
-ranks_drop : (n : ℕ) (hits : List Hit) → ranks_of (drop n hits) ≡ drop n (ranks_of hits)
-ranks_drop zero hits = refl
-ranks_drop (suc n) [] = refl
-ranks_drop (suc n) (h ∷ hits) = ranks_drop n hits
-
 all_drop : {X : Type 0} (P : X → Type 0) (n : ℕ) (xs : List X) → AllByRecursion P xs → AllByRecursion P (drop n xs)
 all_drop P zero xs h = h
 all_drop P (suc n) [] h = tt
@@ -116,7 +100,7 @@ module _ (order : Order) (saw newest : List Rank) (same : best_first order saw �
   key_same : (key : Rank → List ℕ) (k : List ℕ) → count_key key k saw ≡ count_key key k newest
   key_same key k = sym (in_order key k order saw) ∙ ap (count_key key k) same ∙ in_order key k order newest
 
-  kept_told : (o : Option Collapse) (key : Rank → List ℕ) (c : Option Collapsed) (seen : ℕ) → CollapsesBy o order key newest c → seen ≡ length saw → kept_of c seen ≡ length (kept order o key saw)
+  kept_told : (o : Option Collapse) (key : Rank → List ℕ) (c : Option Collapsed) (seen : ℕ) → CollapsesBy o order key newest c → seen ≡ length saw → kept_count c seen ≡ length (kept order o key saw)
   kept_told None key None seen h e = e ∙ sym (length-best_first order saw)
   kept_told None key (Some c) seen h e = absurd h
   kept_told (Some o) key None seen h e = absurd h
@@ -152,13 +136,13 @@ module _ (i : Indexed) (s : Search) (find : Find) (query : Query.Tree) (stands :
   abbrev pages : Pages find docs stands.walk.last saw s.heap s.collapser
   pages = stands.pages
 
-  pub kept_is : kept_of s.collapser s.seen ≡ length (kept_by find docs saw)
+  pub kept_is : kept_count s.collapser s.seen ≡ length (kept_by find docs saw)
   kept_is = kept_told find.order saw pages.newest pages.same find.collapse key s.collapser s.seen pages.collapse stands.seen
 
   pub dropped_is : (k : List ℕ) → dropped_of s.collapser k ≡ dropped_by find docs k saw
   dropped_is = dropped_told find.order saw pages.newest pages.same find.collapse key s.collapser pages.collapse
 
-  pub kept_seen : kept_of s.collapser s.seen ≤ s.seen
+  pub kept_seen : kept_count s.collapser s.seen ≤ s.seen
   kept_seen = let few = kept_few find.order find.collapse key saw in omega (arith, kept_is, few, stands.seen)
 
   cut_same : s.options.cutoff ≡ find.options.cutoff
@@ -221,24 +205,24 @@ module _ (i : Indexed) (s : Search) (find : Find) (query : Query.Tree) (stands :
 
     pub whole_is : is_whole i s ceiling ≡ true → found_by query find docs ≡ saw
     whole_is e =
-        let b = both_so (nat_le s.need s.options.cutoff) (is_none (first_id (left i s.tree)) || nat_lt ceiling s.options.cutoff) e in
-        let low = most_is s.need s.options.cutoff b.0 in
+        let b = and_parts (nat_le s.need s.options.cutoff) (is_none (first_id (left i s.tree)) || nat_lt ceiling s.options.cutoff) e in
+        let low = leb-true s.need s.options.cutoff b.0 in
         whole_by (which (is_none (first_id (left i s.tree))) refl b.1) (omega (arith, low, cut_same))
       where
         which : (b : Bool) → is_none (first_id (left i s.tree)) ≡ b → (b || nat_lt ceiling s.options.cutoff) ≡ true → (weighed give docs ≡ []) ⊎ (ceiling < find.options.cutoff)
         which true f g = inl (no_first (left i s.tree) f)
-        which false f g = let l = less ceiling s.options.cutoff g in inr (omega (arith, l, cut_same))
+        which false f g = let l = ltb-true ceiling s.options.cutoff g in inr (omega (arith, l, cut_same))
 
     high_need : find.options.cutoff < s.need → (wanted find ≤ length saw) × (find.options.cutoff ≤ ceil query find.options.scheme 1 docs)
     high_need high = (many (nat_le (wanted find) (length saw)) refl, enough (nat_le find.options.cutoff s.greatest) refl)
       where
         many : (b : Bool) → nat_le (wanted find) (length saw) ≡ b → wanted find ≤ length saw
-        many true e = most_is (wanted find) (length saw) e
-        many false e = let low = stands.walk.few (not_most (wanted find) (length saw) e) in absurd (omega (arith, low, high))
+        many true e = leb-true (wanted find) (length saw) e
+        many false e = let low = stands.walk.few (leb-false (wanted find) (length saw) e) in absurd (omega (arith, low, high))
 
         enough : (b : Bool) → nat_le find.options.cutoff s.greatest ≡ b → find.options.cutoff ≤ ceil query find.options.scheme 1 docs
-        enough true e = let l = most_is find.options.cutoff s.greatest e in omega (arith, l, stands.greatest)
-        enough false e = let low = stands.low (not_most find.options.cutoff s.greatest e) in absurd (omega (arith, low, high))
+        enough true e = let l = leb-true find.options.cutoff s.greatest e in omega (arith, l, stands.greatest)
+        enough false e = let low = stands.low (leb-false find.options.cutoff s.greatest e) in absurd (omega (arith, low, high))
 
     pub partly : is_whole i s ceiling ≡ false → (wanted find ≤ length saw) × (find.options.cutoff ≤ ceil query find.options.scheme 1 docs)
     partly e = step (nat_le s.need s.options.cutoff) (is_none (first_id (left i s.tree))) (nat_lt ceiling s.options.cutoff) refl refl refl e
@@ -253,14 +237,14 @@ module _ (i : Indexed) (s : Search) (find : Find) (query : Query.Tree) (stands :
 
         step : (a b c : Bool) → nat_le s.need s.options.cutoff ≡ a → is_none (first_id (left i s.tree)) ≡ b → nat_lt ceiling s.options.cutoff ≡ c → (a && (b || c)) ≡ false
             → (wanted find ≤ length saw) × (find.options.cutoff ≤ ceil query find.options.scheme 1 docs)
-        step false b c f g h so = let high = not_most s.need s.options.cutoff f in high_need (omega (arith, high, cut_same))
+        step false b c f g h so = let high = leb-false s.need s.options.cutoff f in high_need (omega (arith, high, cut_same))
         step true true c f g h so = absurd (true≢false so)
         step true false true f g h so = absurd (true≢false so)
-        step true false false f g h so = settled_end g (no_less ceiling s.options.cutoff h) how
+        step true false false f g h so = settled_end g (ltb-false ceiling s.options.cutoff h) how
 
     -- ---- its numbers
 
-    pub dropped_fits : s.seen - kept_of s.collapser s.seen ≤ s.most
+    pub dropped_fits : s.seen - kept_count s.collapser s.seen ≤ s.most
     dropped_fits =
         let long = (beside query find docs saw end).long in
         let within = found_within query find 1 docs stands.sound in
@@ -272,15 +256,15 @@ module _ (i : Indexed) (s : Search) (find : Find) (query : Query.Tree) (stands :
         let few = length_fits docs stands.built.tree.documents in
         omega (arith, live, few, stands.most)
 
-    pub upper_told : (upper : ℕ) (whole : Bool) → is_whole i s ceiling ≡ whole → upper ≡ cond whole (kept_of s.collapser s.seen) (s.most - (s.seen - kept_of s.collapser s.seen)) → IsUpper query find docs saw upper
+    pub upper_told : (upper : ℕ) (whole : Bool) → is_whole i s ceiling ≡ whole → upper ≡ cond whole (kept_count s.collapser s.seen) (s.most - (s.seen - kept_count s.collapser s.seen)) → IsUpper query find docs saw upper
     upper_told upper true e u = inl (whole_is e, u ∙ kept_is)
     upper_told upper false e u =
         let p = partly e in
         inr (p.0, p.1, u ∙ (λ j. stands.most j - (stands.seen j - kept_is j)))
 
-    pub lower_upper : (upper : ℕ) → IsUpper query find docs saw upper → kept_of s.collapser s.seen ≤ upper
+    pub lower_upper : (upper : ℕ) → IsUpper query find docs saw upper → kept_count s.collapser s.seen ≤ upper
     lower_upper upper u =
-        let counts = counts_told query find docs saw end 1 (kept_of s.collapser s.seen) upper stands.sound kept_is u in
+        let counts = counts_told query find docs saw end 1 (kept_count s.collapser s.seen) upper stands.sound kept_is u in
         let low = counts.at_least in
         let high = counts.at_most in
         omega (arith, low, high)
@@ -288,7 +272,7 @@ module _ (i : Indexed) (s : Search) (find : Find) (query : Query.Tree) (stands :
     pub finished : (report : Report) (spent : ℕ) → spent ≤ leaf_readings query docs
         → ((point most : ℕ) → Stops i s.tree point most → spent ≤ most) → ((most : ℕ) → Rare i s.tree most → spent ≤ most) → ((point greatest most : ℕ) → Decays i s.tree point greatest most → spent ≤ most)
         → report.hits ≡ map (ranked_of docs s.collapser) (drop (min (length s.heap.hits) s.options.first) s.heap.hits)
-        → report.lower ≡ kept_of s.collapser s.seen
+        → report.lower ≡ kept_count s.collapser s.seen
         → IsUpper query find docs saw report.upper
         → report.estimate ≡ report.lower + (report.upper - report.lower) / 2
         → report.greatest ≡ s.greatest

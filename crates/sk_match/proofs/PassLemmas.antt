@@ -1,7 +1,7 @@
 -- A tree that goes past a document.
-use Rattle.std.proofs.Common.{◌≡◌, ◌<◌, ◌+◌, ◌^◌, ℕ, false, cond, nat_le, [], ◌∷◌, Option, None, sym, subst, arith}
+use Rattle.std.proofs.Common.{◌≡◌, ◌+◌, ◌^◌, ℕ, cond, nat_le, [], ◌∷◌, Option, None, sym, subst, arith}
 use Rattle.std.specs.List.{AllByRecursion}
-use Rattle.std.proofs.lemmas.Bool.Decides.{nat_tests}
+use Rattle.std.proofs.lemmas.Bool.{lt-leb}
 use Rattle.sk_base.specs.Numbers.{Docs}
 use Rattle.sk_sorted.specs.Entries.{LieBelow, AreSorted}
 use Rattle.sk_model.specs.Covers.{Covers, CoversAt}
@@ -20,14 +20,11 @@ each P f (d ∷ docs) = (f d, each P f docs)
 pub passed_by_seek : (i : Indexed) (id need : ℕ) (old new : Tree) → Covers (from_on (id + 1) (gives i old)) (gives i new) need → PassesOver i id old new need
 passed_by_seek i id need old new over = each (λ d. CoversAt (from_on (id + 1) (gives i old) d.0) (gives i new d.0) need) (λ d. over d.0) i.live.documents
 
-not_behind : (a b : ℕ) → b < a → nat_le a b ≡ false
-not_behind a b l = grind (arith, nat_tests)
-
 closed : (give give2 : ℕ → Option ℕ) (id need : ℕ) (docs : Docs) → id ≡ 4294967295 → LieBelow (2 ^ 32) docs → AllByRecursion (λ (d : ℕ × Document). give2 d.0 ≡ None) docs
     → AllByRecursion (λ (d : ℕ × Document). CoversAt (cond (nat_le (id + 1) d.0) (give d.0) None) (give2 d.0) need) docs
 closed give give2 id need [] last low quiet = tt
 closed give give2 id need (d ∷ docs) last low quiet = (
-  subst (λ b. CoversAt (cond b (give d.0) None) (give2 d.0) need) (sym (not_behind (id + 1) d.0 (omega (arith, last, low.0)))) (subst (λ o. CoversAt None o need) (sym quiet.0) tt),
+  subst (λ b. CoversAt (cond b (give d.0) None) (give2 d.0) need) (sym (lt-leb (id + 1) d.0 (omega (arith, last, low.0)))) (subst (λ o. CoversAt None o need) (sym quiet.0) tt),
   closed give give2 id need docs last low.1 quiet.1,
 )
 

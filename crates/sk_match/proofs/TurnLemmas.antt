@@ -4,8 +4,9 @@ use Rattle.std.specs.List.{AllByRecursion, cons_option}
 use Rattle.std.specs.Option.{option_and_then, IsSomeAnd}
 use Rattle.std.specs.List.Sorted.{IsSortedBy}
 use Rattle.std.proofs.lemmas.Bool.Decides.{nat_tests}
-use Rattle.std.proofs.lemmas.List.{length-append}
+use Rattle.std.proofs.lemmas.List.{length-append, append_assoc}
 use Rattle.std.proofs.lemmas.List.Elements.{All-from_recursion, recursion_from_All}
+use Rattle.std.proofs.lemmas.Bool.{and_parts, le-leb, lt-leb, ltb-false, ltb-true}
 use Rattle.sk_base.specs.declared.find.Collapse.{Collapse}
 use Rattle.sk_base.specs.declared.find.Find.{Find}
 use Rattle.sk_base.specs.declared.find.Options.{Options}
@@ -31,10 +32,9 @@ use Rattle.sk_model.specs.Settled.{settled, stop_point, decay_point}
 use Rattle.sk_model.specs.Sharp.{is_plain, flat_lists, ups, rare_lists, rare_readings, terms_in, decay_readings}
 use Rattle.sk_model.specs.Matches.{value_by, key_for, key_of, found_by}
 use Rattle.sk_model.proofs.OrderLaws as OrderLaws
-use Rattle.sk_model.proofs.OrderLaws.{both_so}
 use Rattle.sk_index.specs.Indexed.{Indexed}
 use Rattle.sk_nodes.specs.Built as Nodes
-use Rattle.sk_nodes.specs.Built.{weighed_ids, gives, left, scored, IsTree, Built}
+use Rattle.sk_nodes.specs.Built.{weighed_ids, gives, left, scored, Built}
 use Rattle.sk_nodes.specs.Flat.{IsAtLeast}
 use Rattle.sk_nodes.specs.Stops.{Stops, MayMove}
 use Rattle.sk_nodes.specs.Rare.{Rare}
@@ -52,8 +52,8 @@ use Rattle.sk_seen.specs.Pages.{CollapsesBy, Offers, Pages}
 use Rattle.sk_seen.specs.Needs.{wanted_by, is_above, is_settled, need_for}
 use Rattle.sk_seen.proofs.ShownLaws.{shown_beside}
 use Rattle.sk_seen.proofs.WalkLaws as Walks
-use Rattle.sk_seen.proofs.WalkLaws.{AtHead, weighed, taken, ranked, scores, the_head, walked, started}
-use Rattle.sk_seen.proofs.PageLaws.{page_start, page_offered, page_later, fresh}
+use Rattle.sk_seen.proofs.WalkLaws.{AtHead, weighed, taken, ranked, scores, the_head, walked, started, all_append}
+use Rattle.sk_seen.proofs.PageLaws.{page_start, page_offered, page_later, fresh, all_filter}
 use Rattle.sk_seen.proofs.NeedLaws.{need_max, need_on, need_right, need_few}
 use Rattle.sk_seen.specs.Calm.{IsCalm}
 use Rattle.sk_seen.proofs.StopLaws.{calm_need, asks_more, given_there, done_after, first_lowest, calm_max, calm_later, calm_less}
@@ -61,14 +61,6 @@ use Rattle.sk_seen.proofs.SharpLaws.{plain_is}
 use Rattle.sk_match.specs.Hits.{value_at}
 use Rattle.sk_match.specs.Searches.{IsOn, Accounts, Stands, Sees, IsSameBut, IsSamePage, PassesOver, KeepsStops, KeepsDecays}
 use Rattle.sk_match.specs.declared.turns.Search.{Search}
-
-all_filter : {X : Type 0} (P : X → Type 0) (p : X → Bool) (xs : List X) → AllByRecursion P xs → AllByRecursion P (filter p xs)
-all_filter P p [] h = tt
-all_filter P p (x ∷ xs) h =
-    elim (p x) as (λ b. AllByRecursion P (cond b (x ∷ filter p xs) (filter p xs))) [
-      | true ↦ (h.0, all_filter P p xs h.1)
-      | false ↦ all_filter P p xs h.1
-    ]
 
 -- ids differ from those of fewer hits
 pub differ_without : (id other : ℕ) (hits : List Hit) → All (λ (h : Hit). h.rank.id ≢ other) hits → All (λ (h : Hit). h.rank.id ≢ other) (filter (λ (h : Hit). not (h.rank.id == id)) hits)
@@ -84,8 +76,8 @@ rises f low [] up = tt
 rises f low (one ∷ docs) up = step (f one) low one.0 (weighed_ids f docs) up.0 (rises f one.0 docs up.1)
   where
     step : (o : Option ℕ) (low id : ℕ) (ps : List (ℕ × ℕ)) → low < id → RiseAbove id ps → RiseAbove low (cons_option (option_map (λ w. (id, w)) o) ps)
-    step None low id ps less up = RiseAbove-lower low id ps (omega (arith, less)) up
-    step (Some w) low id ps less up = (less, up)
+    step None low id ps ltb-true up = RiseAbove-lower low id ps (omega (arith, ltb-true)) up
+    step (Some w) low id ps ltb-true up = (ltb-true, up)
 
 not_first : (id w : ℕ) (ps qs : List (ℕ × ℕ)) → RiseAbove id ps → ps ≡ (id, w) ∷ qs → ⊥
 not_first id w [] qs up e = let long : 0 ≡ suc (length qs) = ap length e in absurd (omega (arith, long))
@@ -136,7 +128,7 @@ opened i s find query fits built all none need seen read options order collapse 
     let pages : Pages find docs walk_on.last [] s.heap s.collapser = page_later find docs 0 walk_on.last [] s.heap s.collapser (omega arith) (page_start find docs s.heap s.collapser heap (knows (key_of find.collapse docs))) in
     record {
       built = built;
-      sound = (both_so (is_sound 1 query) (nat_le (leaves_of query) 1024) (both_so (is_sound 1 query && nat_le (leaves_of query) 1024) (nat_le (depth_of query) 1000) fits).0).0;
+      sound = (and_parts (is_sound 1 query) (nat_le (leaves_of query) 1024) (and_parts (is_sound 1 query && nat_le (leaves_of query) 1024) (nat_le (depth_of query) 1000) fits).0).0;
       options = options;
       order = order;
       collapse = collapse;
@@ -157,18 +149,6 @@ opened i s find query fits built all none need seen read options order collapse 
 first_same : (ps : List (ℕ × ℕ)) → Nodes.first_weight ps ≡ Walks.first_weight ps
 first_same [] = refl
 first_same (p ∷ ps) = refl
-
-less : (a b : ℕ) → nat_lt a b ≡ true → a < b
-less a b e = grind (arith, nat_tests)
-
-no_less : (a b : ℕ) → nat_lt a b ≡ false → b ≤ a
-no_less a b e = grind (arith, nat_tests)
-
-most_is : (a b : ℕ) → a ≤ b → nat_le a b ≡ true
-most_is a b l = grind (arith, nat_tests)
-
-not_most : (a b : ℕ) → b < a → nat_le a b ≡ false
-not_most a b l = grind (arith, nat_tests)
 
 -- no more match than there are
 found_few : (query : Query.Tree) (find : Find) (docs : Docs) → length (found_by query find docs) ≤ length docs
@@ -191,10 +171,6 @@ found_at : (h : ℕ) (xs ys : Docs) (one : ℕ × Document) → AllByRecursion (
 found_at h [] ys one low is = found-here h one ys is
 found_at h (x ∷ xs) ys one low is = found-other h x (xs ++ one ∷ ys) (λ e. absurd (omega (arith, low.0, e))) ∙ found_at h xs ys one low.1 is
 
-all_both : {X : Type 0} (P : X → Type 0) (xs ys : List X) → AllByRecursion P xs → AllByRecursion P ys → AllByRecursion P (xs ++ ys)
-all_both P [] ys h g = g
-all_both P (x ∷ xs) ys h g = (h.0, all_both P xs ys h.1 g)
-
 all_less : (last h : ℕ) (ds : Docs) → last < h → AllByRecursion (λ (d : ℕ × Document). d.0 ≤ last) ds → AllByRecursion (λ (d : ℕ × Document). d.0 < h) ds
 all_less last h [] up all = tt
 all_less last h (d ∷ ds) up all = (omega (arith, up, all.0), all_less last h ds up all.1)
@@ -214,10 +190,6 @@ kept_out held None hit none few sorted light under = record { verdict = Verdict.
     same (Some n) e h =
         let full = full_by held n e (omega (arith, h)) in
         sym (falls_out held hit (omega (arith, full, few)) (need_keeps_out held n hit.rank sorted e h under))
-
-assoc : {X : Type 0} (xs ys zs : List X) → (xs ++ ys) ++ zs ≡ xs ++ (ys ++ zs)
-assoc [] ys zs = refl
-assoc (x ∷ xs) ys zs = ap (λ ws. x ∷ ws) (assoc xs ys zs)
 
 more_keys : (c : Option Collapse) (n : ℕ) → key_readings c (n + 1) ≡ key_readings c n + key_readings c 1
 more_keys None n = omega arith
@@ -273,9 +245,9 @@ module _ (i : Indexed) (old : Search) (find : Find) (query : Query.Tree) (stands
   -- the document there
   pub there : document_at h docs ≡ Some at.one.1
   there =
-      ap (document_at h) (stands.walk.split ∙ ap (λ ds. stands.walk.before ++ ds) at.is ∙ sym (assoc stands.walk.before at.skipped (at.one ∷ at.later)))
+      ap (document_at h) (stands.walk.split ∙ ap (λ ds. stands.walk.before ++ ds) at.is ∙ sym (append_assoc stands.walk.before at.skipped (at.one ∷ at.later)))
       ∙ found_at h (stands.walk.before ++ at.skipped) at.later at.one
-      (all_both (λ (d : ℕ × Document). d.0 < h) stands.walk.before at.skipped (all_less stands.walk.last h stands.walk.before at.higher stands.walk.low) at.low) at.id
+      (all_append (λ (d : ℕ × Document). d.0 < h) stands.walk.before at.skipped (all_less stands.walk.last h stands.walk.before at.higher stands.walk.low) at.low) at.id
 
   -- fewer were seen than there are
   seen_few : old.seen + 1 < 2 ^ 32
@@ -354,7 +326,7 @@ module _ (i : Indexed) (old : Search) (find : Find) (query : Query.Tree) (stands
 
     pub passed_by : w < find.options.cutoff → Looked old stands.saw
     passed_by light = record {
-      is = ap (λ b. stands.saw ++ cond b (ranked query find at.one w ∷ []) []) (not_most find.options.cutoff w light) ∙ append-nil stands.saw;
+      is = ap (λ b. stands.saw ++ cond b (ranked query find at.one w ∷ []) []) (lt-leb find.options.cutoff w light) ∙ append-nil stands.saw;
       pages = page_later find docs stands.walk.last h stands.saw old.heap old.collapser (omega (arith, at.higher)) stands.pages;
       keeps = λ full r p. p;
       full = λ full. full;
@@ -377,7 +349,7 @@ module _ (i : Indexed) (old : Search) (find : Find) (query : Query.Tree) (stands
         let len : length (stands.saw ++ hit.rank ∷ []) ≡ length stands.saw + 1 = omega (arith, one_more) in (
           stands.saw ++ hit.rank ∷ [],
           record {
-            is = ap (λ b. stands.saw ++ cond b (ranked query find at.one w ∷ []) []) (most_is find.options.cutoff w heavy_enough) ∙ ap (λ r. stands.saw ++ r ∷ []) (sym rank_is);
+            is = ap (λ b. stands.saw ++ cond b (ranked query find at.one w ∷ []) []) (le-leb find.options.cutoff w heavy_enough) ∙ ap (λ r. stands.saw ++ r ∷ []) (sym rank_is);
             pages = subst (λ n. Pages find docs n (stands.saw ++ hit.rank ∷ []) mid.heap mid.collapser) id_is more.pages2;
             keeps = more.keeps;
             full = more.full;
@@ -423,10 +395,10 @@ module _ (i : Indexed) (old : Search) (find : Find) (query : Query.Tree) (stands
 
         -- before the point the document there is wanted
         before_stop : IsCalm query find docs stop stands.walk.last old.need → h < stop → stop < last_id → MayMove stop (h + 1) need2 old.tree.top.greatest (gives i old.tree stop)
-        before_stop calm less within =
-            let t = given_there query find docs plain.0 plain.1 stands.built.tree.documents.rise (gives i old.tree) old.need stands.saw stands.walk stop calm (omega (arith, at.higher, less)) within in
-            let low : need2 ≤ t.0 = subst (λ o. IsSomeAnd o (λ w. need2 ≤ w)) t.2 (calm_on calm asked less within) in
-            inr (inr (inr (omega (arith, less), at_least (gives i old.tree stop) t.0 need2 t.1 low)))
+        before_stop calm ltb-true within =
+            let t = given_there query find docs plain.0 plain.1 stands.built.tree.documents.rise (gives i old.tree) old.need stands.saw stands.walk stop calm (omega (arith, at.higher, ltb-true)) within in
+            let low : need2 ≤ t.0 = subst (λ o. IsSomeAnd o (λ w. need2 ≤ w)) t.2 (calm_on calm asked ltb-true within) in
+            inr (inr (inr (omega (arith, ltb-true), at_least (gives i old.tree stop) t.0 need2 t.1 low)))
 
         -- from it on nothing is
         from_stop : stop ≤ h → h < last_id → MayMove stop (h + 1) need2 old.tree.top.greatest (gives i old.tree stop)
@@ -446,13 +418,13 @@ module _ (i : Indexed) (old : Search) (find : Find) (query : Query.Tree) (stands
         may_go calm = by_end (nat_lt h last_id) refl
           where
             by_end : (b : Bool) → nat_lt h last_id ≡ b → (h ≡ last_id) ⊎ MayMove stop (h + 1) need2 old.tree.top.greatest (gives i old.tree stop)
-            by_end false e = let far = no_less h last_id e in let small = at_last in inl (omega (arith, far, small))
+            by_end false e = let far = ltb-false h last_id e in let small = at_last in inl (omega (arith, far, small))
             by_end true e = inr (by_point (nat_lt h stop) refl (nat_lt stop last_id) refl)
               where
                 by_point : (a : Bool) → nat_lt h stop ≡ a → (b : Bool) → nat_lt stop last_id ≡ b → MayMove stop (h + 1) need2 old.tree.top.greatest (gives i old.tree stop)
-                by_point false f b g = from_stop (no_less h stop f) (less h last_id e)
-                by_point true f true g = before_stop calm (less h stop f) (less stop last_id g)
-                by_point true f false g = let far = no_less stop last_id g in inr (inl (omega (arith, far)))
+                by_point false f b g = from_stop (ltb-false h stop f) (ltb-true h last_id e)
+                by_point true f true g = before_stop calm (ltb-true h stop f) (ltb-true stop last_id g)
+                by_point true f false g = let far = ltb-false stop last_id g in inr (inl (omega (arith, far)))
 
         -- behind the point at which a part cannot matter alone, it is not enough
         may_fall : (weight : ℕ) → (h ≡ last_id) ⊎ MayFall (settled find (found_by query find docs) weight) weight (h + 1) need2 old.tree.top.greatest
@@ -468,16 +440,16 @@ module _ (i : Indexed) (old : Search) (find : Find) (query : Query.Tree) (stands
             above within (inr e) (inr high) = inl (omega (arith, e, high, ask_is, is_ceiling))
 
             by_point : h < last_id → (b : Bool) → nat_lt point h ≡ b → MayFall point weight (h + 1) need2 old.tree.top.greatest
-            by_point within false f = let near = no_less point h f in inr (inl (omega (arith, near)))
+            by_point within false f = let near = ltb-false point h f in inr (inl (omega (arith, near)))
             by_point within true f =
-                let after = less point h f in
+                let after = ltb-true point h f in
                 above within asked
                 (asks_more query find docs plain.0 plain.1 stands.built.tree.documents.rise (gives i tree2) need2 saw2 walk2 weight held c
                 (subst (λ n. Pages find docs n saw2 held c) (sym at_head) pages) sorted ceiling (omega (arith, after, at_head)) (omega (arith, within, at_head)))
 
             by_end : (b : Bool) → nat_lt h last_id ≡ b → (h ≡ last_id) ⊎ MayFall point weight (h + 1) need2 old.tree.top.greatest
-            by_end false e = let far = no_less h last_id e in let small = at_last in inl (omega (arith, far, small))
-            by_end true e = inr (by_point (less h last_id e) (nat_lt point h) refl)
+            by_end false e = let far = ltb-false h last_id e in let small = at_last in inl (omega (arith, far, small))
+            by_end true e = inr (by_point (ltb-true h last_id e) (nat_lt point h) refl)
 
       accounts_on : Accounts i find query h need2 tree2
       accounts_on = record {
@@ -593,7 +565,7 @@ fewer_left give give2 need h [] e over = absurd (true≢false (sym (ap is_some e
 fewer_left give give2 need h (d ∷ docs) e over = step (give d.0) (give2 d.0) e over.0 (fewer_step give give2 need h docs over.1) (λ f. fewer_left give give2 need h docs f over.1)
   where
     not_later : (b : ℕ) → b ≡ h → nat_le (h + 1) b ≡ false
-    not_later b same = not_most (h + 1) b (omega (arith, same))
+    not_later b same = lt-leb (h + 1) b (omega (arith, same))
 
     step : (o p : Option ℕ) → first_id (cons_option (option_map (λ w. (d.0, w)) o) (weighed give docs)) ≡ Some h → CoversAt (cond (nat_le (h + 1) d.0) o None) p need → length (weighed give2 docs) ≤ length (weighed give docs)
         → (first_id (weighed give docs) ≡ Some h → length (weighed give2 docs) < length (weighed give docs))
@@ -633,10 +605,10 @@ module _ (id : ℕ) where
   fewer_to give give2 need h (d ∷ docs) early e over = step (give d.0) (give2 d.0) e over.0 (fewer_to_step give give2 need h docs over.1) (λ f. fewer_to give give2 need h docs early f over.1)
     where
       not_later : (b : ℕ) → b ≡ h → nat_le (h + 1) b ≡ false
-      not_later b same = not_most (h + 1) b (omega (arith, same))
+      not_later b same = lt-leb (h + 1) b (omega (arith, same))
 
       up_is : (b : ℕ) → b ≡ h → nat_le b id ≡ true
-      up_is b same = most_is b id (omega (arith, same, early))
+      up_is b same = le-leb b id (omega (arith, same, early))
 
       step : (o p : Option ℕ) → first_id (cons_option (option_map (λ w. (d.0, w)) o) (weighed give docs)) ≡ Some h → CoversAt (cond (nat_le (h + 1) d.0) o None) p need → length (up_to_id (weighed give2 docs)) ≤ length (up_to_id (weighed give docs))
           → (first_id (weighed give docs) ≡ Some h → length (up_to_id (weighed give2 docs)) < length (up_to_id (weighed give docs)))
@@ -658,7 +630,7 @@ high_of i s ceiling e = step (nat_lt ceiling s.options.cutoff) refl e
   where
     step : (b : Bool) → nat_lt ceiling s.options.cutoff ≡ b → (b || (nat_le (wanted_by s.options) s.seen && is_above (need_of s.heap) ceiling)) ≡ false → s.options.cutoff ≤ ceiling
     step true f e = absurd (true≢false e)
-    step false f e = no_less ceiling s.options.cutoff f
+    step false f e = ltb-false ceiling s.options.cutoff f
 
 -- the pass that a search makes
 pub record Passes (i : Indexed) (h : ℕ) (mid new : Search) : Type 0 where
@@ -716,19 +688,19 @@ head_early i old find query stands h w head weight sorted goes plain = by_place 
     at_head_is = at i old find query stands h w (sym head) weight
 
     first_given : (o : Option Document) → document_at stop i.live.documents ≡ o → IsCalm query find i.live.documents stop stands.walk.last old.need → stands.walk.last < stop → stop < last_id → h ≤ stop
-    first_given None e calm less within = absurd (subst (λ (o : Option Document). IsSomeAnd (option_and_then (λ d. score query find.options.scheme 1 d) o) (λ v. old.need ≤ v)) e (calm less within))
-    first_given (Some document) e calm less within =
-        let t = given_there query find i.live.documents is.0 is.1 stands.built.tree.documents.rise (gives i old.tree) old.need stands.saw stands.walk stop calm less within in
+    first_given None e calm ltb-true within = absurd (subst (λ (o : Option Document). IsSomeAnd (option_and_then (λ d. score query find.options.scheme 1 d) o) (λ v. old.need ≤ v)) e (calm ltb-true within))
+    first_given (Some document) e calm ltb-true within =
+        let t = given_there query find i.live.documents is.0 is.1 stands.built.tree.documents.rise (gives i old.tree) old.need stands.saw stands.walk stop calm ltb-true within in
         first_lowest (gives i old.tree) 0 stop h t.0 document i.live.documents stands.built.tree.documents.rise e t.1 (sym head)
 
     by_place : (a : Bool) → nat_lt stands.walk.last stop ≡ a → (b : Bool) → nat_lt stop last_id ≡ b → h ≤ stop
     by_place a e false f =
-        let far = no_less stop last_id f in
+        let far = ltb-false stop last_id f in
         let low = at_last i old find query stands h w (sym head) weight in
         omega (arith, far, low)
-    by_place true e true f = first_given (document_at stop i.live.documents) refl (stands.accounts.calm plain) (less stands.walk.last stop e) (less stop last_id f)
+    by_place true e true f = first_given (document_at stop i.live.documents) refl (stands.accounts.calm plain) (ltb-true stands.walk.last stop e) (ltb-true stop last_id f)
     by_place false e true f =
-        let after = no_less stands.walk.last stop e in
+        let after = ltb-false stands.walk.last stop e in
         let low = at_last i old find query stands h w (sym head) weight in
         let higher = at_head_is.higher in
         absurd (true≢false (sym (asks is.0 is.1 (omega (arith, low, higher)) after) ∙ ap (λ o. is_settled o old.seen old.heap old.tree.top.greatest) (sym stands.options) ∙ goes))

@@ -25,6 +25,6 @@ abbrev pub ranked_of : Docs → Option Collapsed → Hit → Ranked
 ranked_of docs c hit = record { id = hit.rank.id; weight = hit.rank.weight; collapsed = dropped_of c hit.key; payload = payload_of (document_at hit.rank.id docs) }
 
 -- How many matches are kept of so many that were seen: all where nothing is collapsed.
-abbrev pub kept_of : Option Collapsed → ℕ → ℕ
-kept_of None seen = seen
-kept_of (Some c) seen = c.kept
+abbrev pub kept_count : Option Collapsed → ℕ → ℕ
+kept_count None seen = seen
+kept_count (Some c) seen = c.kept

@@ -53,7 +53,7 @@ pub(crate) fn key_of<'a, L: Ledger>(
     }
 }
 
-// Bytes for an entry. No bytes take no memory.
+/// Bytes for an entry. No bytes take no memory.
 fn bytes_of(alloc: Global, bytes: &[u8]) -> Result<Bytes, AllocError>
     ensures bytes { IfOk result (λ copy. copy ≡ bytes.now) }
     ensures free { bytes.now ≡ [] → IsOk result }
@@ -96,7 +96,7 @@ pub(crate) fn show(
     Ok(())
 }
 
-// Whether what weighs so much, and has a greater id than all that are held, comes after them.
+/// Whether what weighs so much, and has a greater id than all that are held, comes after them.
 fn is_kept_out(heap: &ResultHeap, weight: Weight) -> bool
     ensures { result ≡ true → IsSomeAnd (need_of heap.now) (λ need. weight < need) }
 {
@@ -106,7 +106,7 @@ fn is_kept_out(heap: &ResultHeap, weight: Weight) -> bool
     }
 }
 
-// Shows a match to the collapser, if there is one, and does with it what that says.
+/// Shows a match to the collapser, if there is one, and does with it what that says.
 fn offer(
     heap: &mut ResultHeap,
     collapser: &mut Option<Collapser>,

@@ -21,7 +21,7 @@ ghost use Rattle.sk_collapse.specs.Collapsed.{group_of};
 ghost use Rattle.sk_base.specs.declared.rank.Rank as RankView;
 ghost use Rattle.sk_seen.specs.Pages.{CollapsesBy};
 ghost use Rattle.sk_seen.specs.Needs.{is_settled, need_for, wanted_by};
-ghost use Rattle.sk_match.specs.Hits.{kept_of};
+ghost use Rattle.sk_match.specs.Hits.{kept_count};
 ghost use Rattle.sk_match.specs.Searches.{IsOn, Stands, Asks, Sees, IsSameBut, IsSamePage, KeepsStops, KeepsDecays, PassesOver, ahead, ahead_to, is_done, is_whole, spent_by};
 ghost use Rattle.sk_match.specs.declared.turns.Turn.TheVariants as Turn;
 
@@ -159,7 +159,7 @@ impl Search {
         Ok(Turn::More)
     }
 
-    // Whether nothing that is left can change the page, if it weighs no more than this.
+    /// Whether nothing that is left can change the page, if it weighs no more than this.
     fn is_settled(&self, ceiling: Weight) -> bool
         ensures { result ≡ is_settled self.now.options self.now.seen self.now.heap ceiling }
     {
@@ -182,7 +182,7 @@ impl Search {
         u64::from(check).max(u64::from(first) + u64::from(size))
     }
 
-    // Sees a match, with its key and its value.
+    /// Sees a match, with its key and its value.
     fn see<L: Ledger>(
         &mut self,
         index: &Index,
@@ -219,7 +219,7 @@ impl Search {
         Ok(())
     }
 
-    // Moves past the document with this id.
+    /// Moves past the document with this id.
     fn pass<L: Ledger>(&mut self, index: &Index, id: DocId, steps: &mut Steps<L>)
         requires tree { IsTree index.now self.old.tree }
         requires need { self.old.need ≡ self.old.tree.need }
@@ -244,7 +244,7 @@ impl Search {
         self.need = need;
     }
 
-    // What the tree is asked for: the cutoff, until enough matches were seen, and then what the page needs.
+    /// What the tree is asked for: the cutoff, until enough matches were seen, and then what the page needs.
     fn wanted_need(&self) -> Weight
         requires { self.now.tree.top.greatest < 2 ^ 63 }
         ensures { result ≡ need_for self.now.options self.now.seen self.now.heap self.now.tree.top.greatest }
@@ -285,7 +285,7 @@ impl Search {
             collapser,
             ..
         } = self;
-        let lower = kept_of(&collapser, seen);
+        let lower = kept_count(&collapser, seen);
         let upper = if is_whole {
             lower
         } else {
@@ -308,8 +308,8 @@ impl Search {
         })
     }
 
-    // Whether a search that is done saw all that matches: nothing was passed over, and nothing is left that weighs as much as
-    // the cutoff, where nothing weighs more than this.
+    /// Whether a search that is done saw all that matches: nothing was passed over, and nothing is left that weighs as much as
+    /// the cutoff, where nothing weighs more than this.
     fn is_whole(&self, ceiling: Weight) -> bool
         ensures { (i : Indexed) → IsTree i self.now.tree → result ≡ is_whole i self.now ceiling }
     {
@@ -325,7 +325,7 @@ impl Search {
     }
 }
 
-// A collapser for a find that collapses.
+/// A collapser for a find that collapses.
 fn collapser_of(alloc: Global, collapse: Option<Collapse>, order: Order) -> Option<Collapser>
     requires { IfSome collapse (λ c. 1 ≤ c.max) }
     ensures { (key : RankView.Rank → List ℕ) → CollapsesBy collapse order key [] result }
@@ -336,9 +336,9 @@ fn collapser_of(alloc: Global, collapse: Option<Collapse>, order: Order) -> Opti
     }
 }
 
-// How many matches are kept of so many that were seen: all where nothing is collapsed.
-fn kept_of(collapser: &Option<Collapser>, seen: u32) -> u32
-    ensures { result ≡ kept_of collapser.now seen }
+/// How many matches are kept of so many that were seen: all where nothing is collapsed.
+fn kept_count(collapser: &Option<Collapser>, seen: u32) -> u32
+    ensures { result ≡ kept_count collapser.now seen }
 {
     match collapser {
         Some(collapser) => collapser.kept(),
@@ -346,7 +346,7 @@ fn kept_of(collapser: &Option<Collapser>, seen: u32) -> u32
     }
 }
 
-// The readings of a match: of its value and of its key, where they are read.
+/// The readings of a match: of its value and of its key, where they are read.
 fn readings(by: OrderBy, collapse: Option<Collapse>) -> u64
     ensures { result ≡ value_readings by 1 + key_readings collapse 1 }
 {

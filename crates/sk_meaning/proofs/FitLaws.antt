@@ -2,6 +2,8 @@
 use Rattle.std.proofs.Common.{◌≡◌, ◌≤◌, ℕ, true, ◌&&◌, nat_le, List, [], Option, Some, None, refl, sym, ap, ◌∙◌, arith}
 use Rattle.std.proofs.lemmas.Bool.Decides.{nat_tests}
 use Rattle.std.specs.List.{list_all}
+use Rattle.std.proofs.lemmas.Bool.{and_from}
+use Rattle.sk_base.proofs.Tests.{first_so}
 use Rattle.sk_base.specs.declared.schema.Field.{Field}
 use Rattle.sk_base.specs.declared.find.Join.{Join}
 use Rattle.sk_base.specs.Fields.{IsSchema, is_field, are_apart}
@@ -12,7 +14,6 @@ use Rattle.sk_grammar.specs.declared.token.Token.{Token}
 use Rattle.sk_grammar.specs.Cutting.{tokens_of}
 use Rattle.sk_grammar.specs.Faults.{fault_in, kinds_of}
 use Rattle.sk_grammar.specs.Meaning.{tree_in, meant_or, query_meant}
-use Rattle.sk_meaning.proofs.TermLemmas.{both_hold, first_holds}
 use Rattle.sk_meaning.proofs.TokenLemmas.{tokens_filled, AreFaultless, faultless_in}
 use Rattle.sk_meaning.proofs.FitLemmas.{Fits}
 use Rattle.sk_meaning.proofs.NestLemmas.{are_good, tree_in_fits, tree_in_leaves}
@@ -21,7 +22,7 @@ use Rattle.sk_meaning.proofs.NestLemmas.{are_good, tree_in_fits, tree_in_leaves}
 few_fit : (t : Tree) → Fits 809 t → leaves_of t ≤ 1024 → fits_tree t ≡ true
 few_fit t f few =
     let deep = f.deep in
-    both_hold (is_sound 1 t && nat_le (leaves_of t) 1024) (nat_le (depth_of t) 1000) (both_hold (is_sound 1 t) (nat_le (leaves_of t) 1024) (f.sound few) (grind (arith, nat_tests))) (grind (arith, nat_tests))
+    and_from (is_sound 1 t && nat_le (leaves_of t) 1024) (nat_le (depth_of t) 1000) (and_from (is_sound 1 t) (nat_le (leaves_of t) 1024) (f.sound few) (grind (arith, nat_tests))) (grind (arith, nat_tests))
 
 tree_fits : (fields : List Field) (join : Join) (text : List ℕ) → list_all is_field fields ≡ true → fault_in fields (tokens_of fields text) ≡ None
     → fits_tree (tree_in fields join (kinds_of (tokens_of fields text))) ≡ true
@@ -42,7 +43,7 @@ or_fits fields join (Some fault) tokens t f e = absurd (cc)
 pub meant_fits : (fields : List Field) (join : Join) (text : List ℕ) (t : Tree) → IsSchema fields → query_meant fields join text ≡ Some t → fits_tree t ≡ true
 meant_fits fields join text t schema e =
     or_fits fields join (fault_in fields (tokens_of fields text)) (tokens_of fields text) t
-    (tree_fits fields join text (first_holds (list_all is_field fields) (are_apart fields) schema.sound)) e
+    (tree_fits fields join text (first_so (list_all is_field fields) (are_apart fields) schema.sound)) e
 
 -- So does the one that is made of a text's tokens, which have no fault.
 pub made_fits : (schema fields : List Field) (join : Join) (text : List ℕ) (found tokens : List Token) (t : Tree) → IsSchema schema → fields ≡ schema → found ≡ tokens_of schema text
@@ -50,4 +51,4 @@ pub made_fits : (schema fields : List Field) (join : Join) (text : List ℕ) (fo
 made_fits schema fields join text found tokens t sound same cut as_found none made =
     let all : tokens ≡ tokens_of schema text = as_found ∙ cut in
     let faultless : fault_in schema (tokens_of schema text) ≡ None = sym (λ i. fault_in (same i) (all i)) ∙ none in
-    ap fits_tree (made ∙ (λ i. tree_in (same i) join (kinds_of (all i)))) ∙ tree_fits schema join text (first_holds (list_all is_field schema) (are_apart schema) sound.sound) faultless
+    ap fits_tree (made ∙ (λ i. tree_in (same i) join (kinds_of (all i)))) ∙ tree_fits schema join text (first_so (list_all is_field schema) (are_apart schema) sound.sound) faultless

@@ -4,6 +4,7 @@ use Rattle.std.proofs.lemmas.Bool.Decides.{nat_tests}
 use Rattle.std.proofs.lemmas.List.{reverse-append}
 use Rattle.std.proofs.lemmas.List.Folds.{list_all-append}
 use Rattle.std.specs.List.{list_all}
+use Rattle.std.proofs.lemmas.Bool.{and_from}
 use Rattle.sk_base.specs.declared.find.Join.{Join}
 use Rattle.sk_query.specs.declared.form.Form.{Form}
 use Rattle.sk_query.specs.Trees.{Tree, nothing, all, parts, Trees, tree, trees_from}
@@ -14,7 +15,6 @@ use Rattle.sk_grammar.specs.Parts.{Part, chain, unit, chosen, empty, link, opera
 use Rattle.sk_grammar.specs.Runs.{Unit as UnitMeant, unit_of, mark_behind, units, is_hated, is_filter, is_wanted, is_loved, is_plain, queries_of, joined, without, all_of, with_plain, loved_and_plain, base_of, Group, added, added_filter, groups_after, group_tree, filtered, units_tree, run_tree}
 use Rattle.sk_grammar.specs.Meaning.{at, in_front, split, is_or, is_xor, is_and, Run, in_run, runs, runs_in, is_positive, run_trees, and_tree, xor_tree, parts_tree, closed_part}
 use Rattle.sk_grammar.specs.Faults.{is_not}
-use Rattle.sk_meaning.proofs.TermLemmas.{both_hold}
 
 -- A query is no deeper than this, and keeps its conditions where it has no more than 1,024 leaves.
 pub record Fits (d : ℕ) (t : Tree) : Type 0 where
@@ -38,7 +38,7 @@ one_more : (d : ℕ) (t : Tree) (ts : Trees) → Fits d t → TreesFit d ts → 
 one_more d t ts f g =
     let first = f.deep in
     let rest = g.deep in
-    record { sound = λ few. both_hold (is_sound 1 t) (are_sound 1 ts) (f.sound (omega arith)) (g.sound (omega arith)); deep = omega arith }
+    record { sound = λ few. and_from (is_sound 1 t) (are_sound 1 ts) (f.sound (omega arith)) (g.sound (omega arith)); deep = omega arith }
 
 from_fit : (d : ℕ) (ts : List Tree) → AllFit d ts → TreesFit d (trees_from ts)
 from_fit d [] h = record { sound = λ few. refl; deep = omega arith }
@@ -48,7 +48,7 @@ from_fit d (t ∷ ts) h = one_more d t (trees_from ts) h.0 (from_fit d ts h.1)
 parts_fit : (d : ℕ) (form : Form) (ts : Trees) → has_parts ts ≡ true → TreesFit d ts → Fits (d + 1) (parts form ts)
 parts_fit d form ts some f =
     let deep = f.deep in
-    record { sound = λ few. both_hold (has_parts ts) (are_sound 1 ts) some (f.sound few); deep = omega arith }
+    record { sound = λ few. and_from (has_parts ts) (are_sound 1 ts) some (f.sound few); deep = omega arith }
 
 some_fit : (d : ℕ) (form : Form) (t : Tree) (ts : List Tree) → AllFit d (t ∷ ts) → Fits (d + 1) (parts form (trees_from (t ∷ ts)))
 some_fit d form t ts h = parts_fit d form (trees_from (t ∷ ts)) refl (from_fit d (t ∷ ts) h)
@@ -186,7 +186,7 @@ PartsFit d (p ∷ ps) = PartFits d p × PartsFit d ps
 
 -- Words that are linked together.
 words_given : (ts us : List (List ℕ)) → list_all is_given ts ≡ true → list_all is_given us ≡ true → list_all is_given (ts ++ us) ≡ true
-words_given ts us f g = list_all-append is_given ts us ∙ both_hold (list_all is_given ts) (list_all is_given us) f g
+words_given ts us f g = list_all-append is_given ts us ∙ and_from (list_all is_given ts) (list_all is_given us) f g
 
 linked_fit : (d : ℕ) (ordered : Bool) (n : ℕ) (before : List Part) (p : Bool) (k : ℕ) (us : List (List ℕ)) → n ≤ 10000 → k ≤ 10000 → list_all is_given us ≡ true → PartsFit d before
     → PartsFit d (linked ordered n before p k us)
@@ -212,7 +212,7 @@ window_fits : (n m : ℕ) → n ≤ 10000 → m ≤ 1022 → is_window (n + suc 
 window_fits n m h k = grind (arith, nat_tests)
 
 near_sound : (n m : ℕ) (ok : Bool) → n ≤ 10000 → suc (suc m) ≤ 1024 → ok ≡ true → (is_window (n + suc (suc m) - 1) && (nat_lt 0 (suc (suc m)) && ok)) ≡ true
-near_sound n m ok h k e = both_hold (is_window (n + suc (suc m) - 1)) (nat_lt 0 (suc (suc m)) && ok) (window_fits n m h (omega arith)) (both_hold (nat_lt 0 (suc (suc m))) ok (grind (arith, nat_tests)) e)
+near_sound n m ok h k e = and_from (is_window (n + suc (suc m) - 1)) (nat_lt 0 (suc (suc m)) && ok) (window_fits n m h (omega arith)) (and_from (nat_lt 0 (suc (suc m))) ok (grind (arith, nat_tests)) e)
 
 chain_fits : (d : ℕ) (ordered : Bool) (n : ℕ) (ts : List (List ℕ)) → 1 ≤ d → n ≤ 10000 → list_all is_given ts ≡ true → Fits d (chain_tree ordered n ts)
 chain_fits d ordered n [] some h g = nothing_fits d some

@@ -1,6 +1,6 @@
 mod TermLemmas
 mod PieceLemmas
-mod TokenLemmas
+pub mod TokenLemmas
 mod FitLemmas
 mod LeafLemmas
 mod NestLemmas

@@ -3,6 +3,8 @@ use Rattle.std.proofs.Common.{◌≡◌, ◌≤◌, ◌<◌, ℕ, zero, suc, pre
 use Rattle.std.proofs.lemmas.Bool.Decides.{nat_tests}
 use Rattle.std.proofs.lemmas.List.{length-map}
 use Rattle.std.specs.List.{list_all, slice_get}
+use Rattle.std.proofs.lemmas.Bool.{and_from}
+use Rattle.sk_base.proofs.Tests.{first_so, second_so}
 use Rattle.sk_base.specs.declared.schema.Field.{Field}
 use Rattle.sk_base.specs.declared.schema.FieldKind.{FieldKind}
 use Rattle.sk_base.specs.declared.find.Join.{Join}
@@ -14,7 +16,7 @@ use Rattle.sk_grammar.specs.Brackets.{Nest, single, bracket, Nests, no_nests, ne
 use Rattle.sk_grammar.specs.Faults.{is_open, is_distance, depth_behind, leaves_of, leaves_in}
 use Rattle.sk_grammar.specs.Parts.{Part, prefix_of, prefix_in, side_by_side, slot_of, range_in, all_prefixed, part_of, chained}
 use Rattle.sk_grammar.specs.Meaning.{closed_part, nest_part, nest_parts, tree_in}
-use Rattle.sk_meaning.proofs.TermLemmas.{both_hold, first_holds, second_holds, text_prefixed, prefix_prefixed}
+use Rattle.sk_meaning.proofs.TermLemmas.{text_prefixed, prefix_prefixed}
 use Rattle.sk_meaning.proofs.PieceLemmas.{is_filled, field_sound, kind_sound}
 use Rattle.sk_meaning.proofs.TokenLemmas.{is_linkable, IsShallow}
 use Rattle.sk_meaning.proofs.FitLemmas.{Fits, PartFits, PartsFit, part_deeper, parts_deeper, chained_fit, closed_fits, reverse_fit, parts_tree_fits}
@@ -31,24 +33,24 @@ AreGood fields (k ∷ ks) = IsGood fields k × AreGood fields ks
 pub are_good : (fields : List Field) (ks : List Kind) → list_all (is_filled fields) ks ≡ true → list_all is_linkable ks ≡ true → AreGood fields ks
 are_good fields [] e f = tt
 are_good fields (k ∷ ks) e f = (
-  (first_holds (is_filled fields k) (list_all (is_filled fields) ks) e, first_holds (is_linkable k) (list_all is_linkable ks) f),
-  are_good fields ks (second_holds (is_filled fields k) (list_all (is_filled fields) ks) e) (second_holds (is_linkable k) (list_all is_linkable ks) f),
+  (first_so (is_filled fields k) (list_all (is_filled fields) ks) e, first_so (is_linkable k) (list_all is_linkable ks) f),
+  are_good fields ks (second_so (is_filled fields k) (list_all (is_filled fields) ks) e) (second_so (is_linkable k) (list_all is_linkable ks) f),
 )
 
 -- The terms of a token under a prefix.
 all_given : (prefix : List ℕ) (ts : List (List ℕ)) → list_all is_given ts ≡ true → list_all is_given (all_prefixed prefix ts) ≡ true
 all_given prefix [] e = refl
 all_given prefix (t ∷ ts) e =
-    both_hold (is_given (prefixed prefix t)) (list_all is_given (all_prefixed prefix ts)) (text_prefixed prefix t (first_holds (is_given t) (list_all is_given ts) e))
-    (all_given prefix ts (second_holds (is_given t) (list_all is_given ts) e))
+    and_from (is_given (prefixed prefix t)) (list_all is_given (all_prefixed prefix ts)) (text_prefixed prefix t (first_so (is_given t) (list_all is_given ts) e))
+    (all_given prefix ts (second_so (is_given t) (list_all is_given ts) e))
 
 -- Words side by side.
 side_fits : (ts : List (List ℕ)) → list_all is_given ts ≡ true → Fits 1 (side_by_side ts)
 side_fits [] e = record { sound = λ few. refl; deep = omega arith }
-side_fits (t ∷ []) e = record { sound = λ few. first_holds (is_given t) true e; deep = omega arith }
+side_fits (t ∷ []) e = record { sound = λ few. first_so (is_given t) true e; deep = omega arith }
 side_fits (t ∷ u ∷ ts) e = record {
-  sound = λ few. both_hold (nat_le 1 (suc (suc (length ts))) && nat_le (suc (suc (length ts))) 1048576) (nat_lt 0 (suc (suc (length ts))) && list_all is_given (t ∷ u ∷ ts)) (window (length ts) few)
-      (both_hold (nat_lt 0 (suc (suc (length ts)))) (list_all is_given (t ∷ u ∷ ts)) (grind (arith, nat_tests)) e);
+  sound = λ few. and_from (nat_le 1 (suc (suc (length ts))) && nat_le (suc (suc (length ts))) 1048576) (nat_lt 0 (suc (suc (length ts))) && list_all is_given (t ∷ u ∷ ts)) (window (length ts) few)
+      (and_from (nat_lt 0 (suc (suc (length ts)))) (list_all is_given (t ∷ u ∷ ts)) (grind (arith, nat_tests)) e);
   deep = omega arith;
 }
   where
@@ -80,7 +82,7 @@ distance_within n e = grind (arith, nat_tests)
 
 -- The part that a token is.
 part_fits : (fields : List Field) (around : List ℕ) (k : Kind) → list_all is_field fields ≡ true → IsGood fields k → PartFits 1 (part_of fields around k)
-part_fits fields around (Kind.Word field t) sound h = (omega arith, both_hold (is_given (prefixed (prefix_in fields around field) t)) true (text_prefixed (prefix_in fields around field) t h.0) refl)
+part_fits fields around (Kind.Word field t) sound h = (omega arith, and_from (is_given (prefixed (prefix_in fields around field) t)) true (text_prefixed (prefix_in fields around field) t h.0) refl)
 part_fits fields around (Kind.Wild field t) sound h = record { sound = λ few. text_prefixed (prefix_in fields around field) t h.0; deep = omega arith }
 part_fits fields around (Kind.Joined field ts) sound h = side_fits (all_prefixed (prefix_in fields around field) ts) (all_given (prefix_in fields around field) ts h.0)
 part_fits fields around (Kind.Quote field ts) sound h = side_fits (all_prefixed (prefix_in fields around field) ts) (all_given (prefix_in fields around field) ts h.0)

@@ -4,6 +4,7 @@ use Rattle.std.proofs.lemmas.Bool.Decides.{nat_tests}
 use Rattle.std.specs.List.{list_all, prefix_len, slice_get, starts_with}
 use Rattle.std.specs.Option.{option_and_then}
 use Rattle.std.specs.Char.{is_whitespace}
+use Rattle.sk_base.proofs.Tests.{first_so}
 use Rattle.sk_base.specs.declared.schema.Field.{Field}
 use Rattle.sk_base.specs.declared.schema.FieldKind.{FieldKind}
 use Rattle.sk_base.specs.Names.{is_name, is_name_byte, is_prefix}
@@ -15,7 +16,7 @@ use Rattle.sk_grammar.specs.Characters.{group_len, inner, is_good, runs_on, term
 use Rattle.sk_grammar.specs.Pieces.{Piece, token_piece, longer, quote_piece, is_starred, is_one, first_term, distance, distant, operator_of, words_kind, group_kind, group_of_len, group_piece, text_piece, filter_piece, range_piece, value_piece, colon_piece, field_piece, mark_piece, takes_mark, is_marked, last_piece, piece_at}
 use Rattle.sk_base.specs.Fields.{kind_prefix}
 use Rattle.sk_grammar.specs.Parts.{prefix_of}
-use Rattle.sk_meaning.proofs.TermLemmas.{first_holds, terms_given}
+use Rattle.sk_meaning.proofs.TermLemmas.{terms_given}
 
 -- The words of a token are not empty, and the prefix of a filter's field is not.
 abbrev pub is_filled : List Field → Kind → Bool
@@ -60,7 +61,7 @@ longer_filled fields n (Some p) f = f
 -- The first of several.
 first_given : (ts : List (List ℕ)) → list_all is_given ts ≡ true → is_one ts ≡ true → is_given (first_term ts) ≡ true
 first_given [] e f = absurd (cc)
-first_given (t ∷ []) e f = first_holds (is_given t) true e
+first_given (t ∷ []) e f = first_so (is_given t) true e
 first_given (t ∷ u ∷ ts) e f = absurd (cc)
 
 -- An operator has no words.
@@ -106,7 +107,7 @@ of_len_filled : (fields : List Field) (field : Option ℕ) (n : ℕ) (cs : List 
 of_len_filled fields field n cs =
     if_piece fields (is_one (terms_in (take n cs)) && is_starred (drop n cs)) (token_piece (Kind.Wild field (first_term (terms_in (take n cs)))) (n + 1))
     (token_piece (group_kind field (encode_utf8_all (take n cs)) (terms_in (take n cs))) n)
-    (λ e. first_given (terms_in (take n cs)) (terms_given (take n cs)) (first_holds (is_one (terms_in (take n cs))) (is_starred (drop n cs)) e))
+    (λ e. first_given (terms_in (take n cs)) (terms_given (take n cs)) (first_so (is_one (terms_in (take n cs))) (is_starred (drop n cs)) e))
     (λ _. group_kind_filled fields field (encode_utf8_all (take n cs)) (terms_in (take n cs)) (terms_given (take n cs)))
 
 group_filled : (fields : List Field) (field : Option ℕ) (cs : List ℕ) → PieceFilled fields (group_piece field cs)
@@ -135,7 +136,7 @@ range_filled fields f (c ∷ cs) = if_one fields (runs_on c) _ _ (λ _. refl) (�
 
 -- The prefix of a filter's field.
 filter_given : (prefix : List ℕ) → is_kind (FieldKind.Filter prefix) ≡ true → is_given prefix ≡ true
-filter_given prefix e = let some : not (length prefix == 0) ≡ true = first_holds (not (length prefix == 0)) (is_prefix prefix) e in grind (arith, nat_tests)
+filter_given prefix e = let some : not (length prefix == 0) ≡ true = first_so (not (length prefix == 0)) (is_prefix prefix) e in grind (arith, nat_tests)
 
 value_filled : (fields : List Field) (f : ℕ) (kind : FieldKind) (cs : List ℕ) → is_kind kind ≡ true → prefix_of (slice_get fields f) ≡ kind_prefix kind
     → OneFilled fields (value_piece f kind cs)
@@ -147,7 +148,7 @@ value_filled fields f (FieldKind.Word slot) cs e g = range_filled fields f cs
 -- The field at a place keeps its rules, where each does.
 pub field_sound : (fields : List Field) (f : ℕ) → list_all is_field fields ≡ true → IfSome (slice_get fields f) (λ field. is_field field ≡ true)
 field_sound [] f e = tt
-field_sound (field ∷ fields) zero e = first_holds (is_field field) (list_all is_field fields) e
+field_sound (field ∷ fields) zero e = first_so (is_field field) (list_all is_field fields) e
 field_sound (field ∷ fields) (suc f) e = field_sound fields f (last (is_field field) (list_all is_field fields) e)
   where
     last : (a b : Bool) → (a && b) ≡ true → b ≡ true

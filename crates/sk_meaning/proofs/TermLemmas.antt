@@ -1,11 +1,12 @@
 -- Words are not empty, and so their terms are not.
-use Rattle.std.proofs.Common.{◌≡◌, ◌≤◌, ℕ, ◌+◌, Bool, true, false, ◌&&◌, ◌==◌, if◌then◌else◌, List, [], ◌∷◌, ◌++◌, length, map, encode_utf8, refl, ap, ◌∙◌, arith, length-append}
+use Rattle.std.proofs.Common.{◌≡◌, ◌≤◌, ℕ, ◌+◌, Bool, true, false, ◌==◌, if◌then◌else◌, List, [], ◌∷◌, ◌++◌, length, map, encode_utf8, refl, ap, ◌∙◌, arith, length-append}
 use Rattle.std.specs.List.{list_all}
 use Rattle.std.specs.Char.{len_utf8}
 use Rattle.std.proofs.lemmas.Bool.Decides.{nat_tests}
 use Rattle.std.proofs.lemmas.List.{map-append}
 use Rattle.std.proofs.lemmas.List.Folds.{list_all-append}
 use Rattle.std.proofs.lemmas.Str.{length-encode, len_utf8_bounds}
+use Rattle.std.proofs.lemmas.Bool.{and_from}
 use Rattle.sk_text.specs.declared.word.Word.{Word}
 use Rattle.sk_text.specs.Characters.{is_word_char, belongs, written}
 use Rattle.sk_text.specs.Terms.{folded_bytes, term_of}
@@ -13,19 +14,6 @@ use Rattle.sk_text.specs.Words.{ended, words_from}
 use Rattle.sk_base.specs.Terms.{needs_colon, prefixed}
 use Rattle.sk_query.specs.Fits.{is_given}
 use Rattle.sk_grammar.specs.Characters.{word_term, terms_in}
-
--- Two tests that hold, and each of them.
-pub both_hold : (a b : Bool) → a ≡ true → b ≡ true → (a && b) ≡ true
-both_hold true b e f = f
-both_hold false b e f = e
-
-pub first_holds : (a b : Bool) → (a && b) ≡ true → a ≡ true
-first_holds true b e = refl
-first_holds false b e = e
-
-pub second_holds : (a b : Bool) → (a && b) ≡ true → b ≡ true
-second_holds true b e = e
-second_holds false b e = absurd (cc)
 
 -- A text with a byte is not empty.
 pub given_some : (t : List ℕ) → 1 ≤ length t → is_given t ≡ true
@@ -54,7 +42,7 @@ if_given false vs ws f g = g
 append_given : (vs ws : List Word) → AreGiven vs → AreGiven ws → AreGiven (vs ++ ws)
 append_given vs ws f g =
     ap (list_all is_given) (map-append word_term vs ws) ∙ list_all-append is_given (map word_term vs) (map word_term ws)
-    ∙ both_hold (list_all is_given (map word_term vs)) (list_all is_given (map word_term ws)) f g
+    ∙ and_from (list_all is_given (map word_term vs)) (list_all is_given (map word_term ws)) f g
 
 -- The word that ends here, where it has a byte if it began.
 ended_given : (number from at : ℕ) (word : List ℕ) → ((from == at) ≡ false → 1 ≤ length word) → AreGiven (ended number from at word)
@@ -62,7 +50,7 @@ ended_given number from at word some = by (from == at) refl
   where
     by : (b : Bool) → (from == at) ≡ b → AreGiven (if b then [] else record { term = term_of word; from = from; to = at; number = number } ∷ [])
     by true e = refl
-    by false e = both_hold (is_given (term_of word)) true (term_given word (some e)) refl
+    by false e = and_from (is_given (term_of word)) true (term_given word (some e)) refl
 
 -- A word has a byte when a character is put to it.
 longer_some : (word : List ℕ) (c : ℕ) → 1 ≤ length (word ++ encode_utf8 c)

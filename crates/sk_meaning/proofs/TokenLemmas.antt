@@ -2,6 +2,7 @@
 use Rattle.std.proofs.Common.{◌≡◌, ◌≤◌, ◌<◌, ℕ, zero, suc, pred, ◌+◌, Bool, true, false, ◌&&◌, ◌||◌, not, nat_le, nat_lt, if◌then◌else◌, List, [], ◌∷◌, ◌++◌, take, drop, chars, Option, Some, None, refl, ap, arith}
 use Rattle.std.proofs.lemmas.Bool.Decides.{nat_tests}
 use Rattle.std.specs.List.{list_all}
+use Rattle.std.proofs.lemmas.Bool.{and_from}
 use Rattle.sk_base.specs.declared.schema.Field.{Field}
 use Rattle.sk_base.specs.Fields.{is_field}
 use Rattle.sk_grammar.specs.declared.fault.FaultKind.{FaultKind}
@@ -10,7 +11,6 @@ use Rattle.sk_grammar.specs.declared.token.Token.{Token}
 use Rattle.sk_grammar.specs.Pieces.{Piece, piece_at}
 use Rattle.sk_grammar.specs.Cutting.{pieces_behind, pieces_of, placed, byte_len, tokens_from, tokens_of}
 use Rattle.sk_grammar.specs.Faults.{is_item, is_open, is_distance, is_between, depth_behind, depth_of, leaves_of, leaves_in, is_stray, is_unclosed, lacks_operand, is_bad_near, is_bad_range, is_too_deep, is_too_many, fault_at, fault_or, fault_behind, fault_in, kinds_of, second_is, is_adj, is_near}
-use Rattle.sk_meaning.proofs.TermLemmas.{both_hold}
 use Rattle.sk_meaning.proofs.PieceLemmas.{is_filled, KindFilled, PieceFilled, piece_filled}
 
 -- The tokens of a text are filled.
@@ -27,7 +27,7 @@ behind_filled fields (c ∷ cs) before zero sound =
 placed_filled : (fields : List Field) (o : Option Kind) (from to : ℕ) (ts : List Token) → KindFilled fields o → list_all (is_filled fields) (kinds_of ts) ≡ true
     → list_all (is_filled fields) (kinds_of (placed o from to ++ ts)) ≡ true
 placed_filled fields None from to ts f g = g
-placed_filled fields (Some k) from to ts f g = both_hold (is_filled fields k) (list_all (is_filled fields) (kinds_of ts)) f g
+placed_filled fields (Some k) from to ts f g = and_from (is_filled fields k) (list_all (is_filled fields) (kinds_of ts)) f g
 
 from_filled : (fields : List Field) (ps : List Piece) (at : ℕ) (left : List ℕ) → AllFilled fields ps → list_all (is_filled fields) (kinds_of (tokens_from at left ps)) ≡ true
 from_filled fields [] at left h = refl
@@ -55,11 +55,11 @@ record IsFaultless (before : List Kind) (k : Kind) : Type 0 where
   deep : is_open k ≡ true → depth_of before < 100
   few : leaves_in before ≤ 1024 → leaves_in before + leaves_of k ≤ 1024
 
-past : (b : Bool) (x : FaultKind) (o : Option FaultKind) → (if b then Some x else o) ≡ None → (b ≡ false) × (o ≡ None)
+pub past : (b : Bool) (x : FaultKind) (o : Option FaultKind) → (if b then Some x else o) ≡ None → (b ≡ false) × (o ≡ None)
 past true x o e = absurd (cc)
 past false x o e = (refl, e)
 
-or_none : (o : Option FaultKind) (p : ℕ) (later : Option (FaultKind × ℕ)) → fault_or o p later ≡ None → (o ≡ None) × (later ≡ None)
+pub or_none : (o : Option FaultKind) (p : ℕ) (later : Option (FaultKind × ℕ)) → fault_or o p later ≡ None → (o ≡ None) × (later ≡ None)
 or_none None p later e = (refl, e)
 or_none (Some x) p later e = absurd (cc)
 
@@ -111,7 +111,7 @@ pub record AreFaultless (before ks : List Kind) : Type 0 where
 
 more_faultless : (before : List Kind) (k : Kind) (ks : List Kind) → IsFaultless before k → AreFaultless (k ∷ before) ks → AreFaultless before (k ∷ ks)
 more_faultless before k ks one more = record {
-  links = both_hold (is_linkable k) (list_all is_linkable ks) one.link more.links;
+  links = and_from (is_linkable k) (list_all is_linkable ks) one.link more.links;
   shallow = (one.deep, more.shallow);
   few = λ h. let first = one.few h in let rest = more.few (omega arith) in omega arith;
 }

@@ -1,7 +1,8 @@
 -- No document weighs more than the bound of its query.
-use Rattle.std.proofs.Common.{◌≡◌, ◌<◌, ◌≤◌, ◌+◌, ◌*◌, ◌^◌, ℕ, max, Bool, true, false, ◌&&◌, List, [], ◌∷◌, All, Option, Some, None, IfSome, refl, sym, arith, true≢false}
+use Rattle.std.proofs.Common.{◌≡◌, ◌<◌, ◌≤◌, ◌+◌, ◌*◌, ◌^◌, ℕ, max, Bool, true, false, ◌&&◌, List, [], ◌∷◌, All, Option, Some, None, IfSome, refl, arith}
 use Rattle.std.proofs.lemmas.List.Elements.{All-from_recursion, recursion_from_All}
 use Rattle.std.specs.List.{AllByRecursion, AllZip}
+use Rattle.sk_base.proofs.Tests.{first_so, second_so}
 use Rattle.sk_base.specs.declared.doc.Doc.{Doc}
 use Rattle.sk_base.specs.declared.find.Scheme.{Scheme}
 use Rattle.sk_base.specs.Documents.{AreTerms}
@@ -102,14 +103,6 @@ combined_le Form.AndMaybe ss bs h = with_more_le ss bs h
 combined_le Form.Filter ss bs h = of_all_le ss bs h
 
 -- ---- what is sound has sound parts
-
-pub first_so : (b c : Bool) → (b && c) ≡ true → b ≡ true
-first_so true c e = refl
-first_so false c e = e
-
-pub second_so : (b c : Bool) → (b && c) ≡ true → c ≡ true
-second_so true c e = e
-second_so false c e = absurd (true≢false (sym e))
 
 pub third_so : (b c d : Bool) → (b && c && d) ≡ true → d ≡ true
 third_so b c d e = second_so (b && c) d e

@@ -192,7 +192,7 @@ greatest_is_there [] = refl
 greatest_is_there (None ∷ xs) = greatest_is_there xs
 greatest_is_there (Some v ∷ xs) = some_greater v (greatest_score xs) ∙ sym (some_either v (sum_of_any xs))
 
-all_step : (v : ℕ) (b : Option ℕ) → is_some (both (Some v) b) ≡ is_some b
+pub all_step : (v : ℕ) (b : Option ℕ) → is_some (both (Some v) b) ≡ is_some b
 all_step v None = refl
 all_step v (Some w) = refl
 

@@ -1,5 +1,5 @@
 -- What the values of a document are.
-use Rattle.std.proofs.Common.{◌≡◌, ◌<◌, ◌+◌, ℕ, suc, Bool, true, false, not, List, [], ◌∷◌, ◌++◌, length, fold, cond, ◌==◌, ◌&&◌, ◌||◌, nat_lt, refl, sym, ap, ◌∙◌, true≢false, All, AllPairs, arith, bytes_eq}
+use Rattle.std.proofs.Common.{◌≡◌, ◌<◌, ◌+◌, ℕ, suc, Bool, true, false, not, List, [], ◌∷◌, ◌++◌, length, fold, cond, ◌==◌, ◌||◌, nat_lt, refl, sym, ap, ◌∙◌, true≢false, All, AllPairs, arith, bytes_eq}
 use Rattle.std.proofs.lemmas.Bool.Decides.{nat_tests}
 use Rattle.std.proofs.lemmas.List.Elements.{All-head, All-tail, All-cons, All-nil, All-weaker}
 use Rattle.std.proofs.lemmas.List.Kept.{AllPairs-cons}
@@ -8,6 +8,7 @@ use mathlib.Core.Logic.{◌⊎◌, inl, inr, ⊎_elim}
 use Rattle.std.proofs.lemmas.List.Folds.{list_any-append}
 use Rattle.std.specs.Prelude.{Option, Some}
 use Rattle.std.specs.List.{list_all}
+use Rattle.std.proofs.lemmas.Bool.{and_parts, eqb-true, false_from_ne_true, or_left, or_parts, or_right}
 use Rattle.sk_base.specs.declared.doc_entry.SlotValue.{SlotValue}
 use Rattle.sk_base.specs.declared.record.Record.{Record}
 use Rattle.sk_base.specs.declared.record.Entry.{Entry}
@@ -32,14 +33,6 @@ shift_or false false c = refl
 either : (a b : Bool) → (a || b) ≡ true → (a ≡ true) ⊎ (b ≡ true)
 either true b h = inl refl
 either false b h = inr h
-
-left_or : (a b : Bool) → a ≡ true → (a || b) ≡ true
-left_or true b h = refl
-left_or false b h = absurd (true≢false (sym h))
-
-right_or : (a b : Bool) → b ≡ true → (a || b) ≡ true
-right_or true b h = refl
-right_or false b h = h
 
 has-put : (slot : ℕ) (one v : SlotValue) (more put : List SlotValue) (b : Bool) → has_value slot put ≡ ((v.slot == slot) || has_value slot more)
     → has_value slot (cond b (v ∷ one ∷ more) (one ∷ put)) ≡ ((v.slot == slot) || ((one.slot == slot) || has_value slot more))
@@ -74,8 +67,8 @@ has_slot_from slot place (field ∷ fields) given h =
     let own = slot_values_of field.kind (value_at place given) in
     let others = slot_values_from (place + 1) fields given in
     ⊎_elim
-    (λ e. left_or (keeps_slot slot field.kind) (has_slot slot fields) (has_slot_of slot field.kind (value_at place given) e))
-    (λ e. right_or (keeps_slot slot field.kind) (has_slot slot fields) (has_slot_from slot (place + 1) fields given e))
+    (λ e. or_left (keeps_slot slot field.kind) (has_slot slot fields) (has_slot_of slot field.kind (value_at place given) e))
+    (λ e. or_right (keeps_slot slot field.kind) (has_slot slot fields) (has_slot_from slot (place + 1) fields given e))
     (either (has_value slot own) (has_value slot others) (sym (list_any-append (λ (one : SlotValue). one.slot == slot) own others) ∙ h))
 
 or_false : (b : Bool) → (b || false) ≡ true → b ≡ true
@@ -88,14 +81,6 @@ slots_are_kept slot fields given h =
     has_slot_from slot 0 fields given.values (or_false (has_value slot (slot_values_from 0 fields given.values)) (sym (has-fold slot [] (slot_values_from 0 fields given.values)) ∙ h))
 
 -- ---- the order of the values
-
-false_from : (b : Bool) → (b ≡ true → ⊥) → b ≡ false
-false_from true h = absurd (h refl)
-false_from false h = refl
-
-both : (a b : Bool) → (a && b) ≡ true → (a ≡ true) × (b ≡ true)
-both true b e = (refl, e)
-both false b e = absurd (true≢false (sym e))
 
 -- the slots rise
 abbrev Rising : List SlotValue → Type 0
@@ -130,14 +115,10 @@ rising_put one v more false less other rising rest =
     let above : one.slot < v.slot = grind (arith, nat_tests) in
     AllPairs-cons (λ v w. v.slot < w.slot) one (with_value more v) (all-with_value (λ w. one.slot < w.slot) more v above (rising_head one more rising)) rest
 
-left_false : (a b : Bool) → (a || b) ≡ false → (a ≡ false) × (b ≡ false)
-left_false false b h = (refl, h)
-left_false true b h = absurd (true≢false h)
-
 rising-with_value : (values : List SlotValue) (v : SlotValue) → Rising values → has_value v.slot values ≡ false → Rising (with_value values v)
 rising-with_value [] v rising fresh = AllPairs-cons (λ v w. v.slot < w.slot) v [] (All-nil (λ w. v.slot < w.slot)) rising
 rising-with_value (one ∷ more) v rising fresh =
-    let apart = left_false (one.slot == v.slot) (has_value v.slot more) fresh in
+    let apart = or_parts (one.slot == v.slot) (has_value v.slot more) fresh in
     rising_put one v more (nat_lt v.slot one.slot) refl apart.0 rising (rising-with_value more v (rising_tail one more rising) apart.1)
 
 -- no slot stands twice
@@ -145,30 +126,27 @@ abbrev Once : List SlotValue → Type 0
 Once [] = Unit {0}
 Once (v ∷ vs) = (has_value v.slot vs ≡ false) × Once vs
 
--- no slot stands in both
+-- no slot stands in and_parts
 abbrev Apart : List SlotValue → List SlotValue → Type 0
 Apart values given = (slot : ℕ) → has_value slot given ≡ true → has_value slot values ≡ false
 
 own_slot : (slot : ℕ) → (slot == slot) ≡ true
 own_slot slot = grind (arith, nat_tests)
 
-same_slot : (a b : ℕ) → (a == b) ≡ true → a ≡ b
-same_slot a b h = grind (arith, nat_tests)
-
 apart_step : (values given : List SlotValue) (v : SlotValue) → has_value v.slot given ≡ false → Apart values (v ∷ given) → Apart (with_value values v) given
 apart_step values given v fresh apart slot there =
     has-with_value slot values v
-    ∙ false_from ((v.slot == slot) || has_value slot values) (λ h.
+    ∙ false_from_ne_true ((v.slot == slot) || has_value slot values) (λ h.
     ⊎_elim
-    (λ e. true≢false (sym there ∙ ap (λ s. has_value s given) (sym (same_slot v.slot slot e)) ∙ fresh))
-    (λ e. true≢false (sym e ∙ apart slot (right_or (v.slot == slot) (has_value slot given) there)))
+    (λ e. true≢false (sym there ∙ ap (λ s. has_value s given) (sym (eqb-true v.slot slot e)) ∙ fresh))
+    (λ e. true≢false (sym e ∙ apart slot (or_right (v.slot == slot) (has_value slot given) there)))
     (either (v.slot == slot) (has_value slot values) h))
 
 rising-fold : (values given : List SlotValue) → Rising values → Once given → Apart values given → Rising (fold with_value values given)
 rising-fold values [] rising once apart = rising
 rising-fold values (v ∷ given) rising once apart =
     rising-fold (with_value values v) given
-    (rising-with_value values v rising (apart v.slot (left_or (v.slot == v.slot) (has_value v.slot given) (own_slot v.slot))))
+    (rising-with_value values v rising (apart v.slot (or_left (v.slot == v.slot) (has_value v.slot given) (own_slot v.slot))))
     once.1 (apart_step values given v once.0 apart)
 
 all-fold : (P : SlotValue → Type 0) (values given : List SlotValue) → All P values → All P given → All P (fold with_value values given)
@@ -193,9 +171,9 @@ not_true false h n = true≢false (sym h)
 slot_is_free : (slot : ℕ) (field : Field) (rest : List Field) → keeps_slot slot field.kind ≡ true → list_all (λ other. not (clash field other)) rest ≡ true → has_slot slot rest ≡ true → ⊥
 slot_is_free slot field [] keeps apart h = true≢false (sym h)
 slot_is_free slot field (other ∷ rest) keeps apart h =
-    let tests = both (not (clash field other)) (list_all (λ other. not (clash field other)) rest) apart in
+    let tests = and_parts (not (clash field other)) (list_all (λ other. not (clash field other)) rest) apart in
     ⊎_elim
-    (λ e. not_true (clash field other) (right_or (bytes_eq field.name other.name) (kinds_clash field.kind other.kind) (slots_clash slot field.kind other.kind keeps e)) tests.0)
+    (λ e. not_true (clash field other) (or_right (bytes_eq field.name other.name) (kinds_clash field.kind other.kind) (slots_clash slot field.kind other.kind keeps e)) tests.0)
     (λ e. slot_is_free slot field rest keeps tests.1 e)
     (either (keeps_slot slot other.kind) (has_slot slot rest) h)
 
@@ -212,10 +190,10 @@ once_of _ _ more free once = once
 once_from : (place : ℕ) (fields : List Field) (given : List Entry) → are_apart fields ≡ true → Once (slot_values_from place fields given)
 once_from place [] given apart = tt
 once_from place (field ∷ fields) given apart =
-    let tests = both (list_all (λ other. not (clash field other)) fields) (are_apart fields) apart in
+    let tests = and_parts (list_all (λ other. not (clash field other)) fields) (are_apart fields) apart in
     let more = slot_values_from (place + 1) fields given in
     once_of field.kind (value_at place given) more
-    (λ slot keeps. false_from (has_value slot more) (λ h. slot_is_free slot field fields keeps tests.0 (has_slot_from slot (place + 1) fields given h)))
+    (λ slot keeps. false_from_ne_true (has_value slot more) (λ h. slot_is_free slot field fields keeps tests.0 (has_slot_from slot (place + 1) fields given h)))
     (once_from (place + 1) fields given tests.1)
 
 -- the value has a byte

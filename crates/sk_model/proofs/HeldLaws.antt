@@ -1,12 +1,13 @@
 -- What holds of a document among others: no wdf is above the greatest, and each of its terms is counted.
 use Rattle.std.proofs.Common.{◌≡◌, ◌<◌, ◌≤◌, ◌+◌, ◌-◌, ◌*◌, ◌^◌, ℕ, suc, min, max, Bool, true, false, not, cond, if◌then◌else◌, ◌||◌, ◌&&◌, nat_lt, List, [], ◌∷◌, length, map, filter, sum_by, bytes_eq, All, refl, sym, ap, ◌∙◌, subst, arith, true≢false, le_refl, mul-le-mul_right}
 use Rattle.std.proofs.lemmas.Bool.Decides.{nat_tests}
-use Rattle.std.proofs.lemmas.Bool.{and_from}
+use Rattle.std.proofs.lemmas.Bool.{and_from, or_left, or_right}
 use Rattle.std.proofs.lemmas.List.Elements.{All-weaker}
 use Rattle.std.proofs.lemmas.List.Folds.{list_any-append, list_any_none}
 use Rattle.std.proofs.lemmas.List.Sums.{sum_by-cons}
 use Rattle.std.specs.List.{list_any, AllByRecursion}
 use Rattle.std.specs.Cmp.Lexicographic.{bytes_decides}
+use Rattle.sk_base.proofs.Tests.{second_so}
 use Rattle.sk_base.specs.declared.doc.Doc.{Doc}
 use Rattle.sk_base.specs.declared.doc_entry.DocTerm.{DocTerm}
 use Rattle.sk_base.specs.declared.find.Scheme.{Scheme}
@@ -22,14 +23,6 @@ use Rattle.sk_model.specs.Bounds.{term_ceil, terms_ceil, lengths_of, greatests_o
 use Rattle.sk_model.proofs.TermLaws.{less_differs}
 
 -- ---- tests and lists
-
-pub or_left : (b c : Bool) → b ≡ true → (b || c) ≡ true
-or_left true c e = refl
-or_left false c e = absurd (true≢false (sym e))
-
-pub or_right : (b c : Bool) → c ≡ true → (b || c) ≡ true
-or_right true c e = refl
-or_right false c e = e
 
 or_step : (b c d : Bool) → (b || c) ≡ true → (c ≡ true → d ≡ true) → (b || d) ≡ true
 or_step true c d some h = refl
@@ -287,10 +280,6 @@ near_have window terms [] e = tt
 near_have window terms (t ∷ ts) e =
     let p = any_some (λ p. near_from window p p (places_of ts terms)) (positions_of t terms) e in
     (placed t terms (λ p. near_from window p p (places_of ts terms)) e, near_from_have window p.0 p.0 terms ts p.1)
-
-second_so : (b c : Bool) → (b && c) ≡ true → c ≡ true
-second_so true c e = e
-second_so false c e = absurd (true≢false (sym e))
 
 phrase_from_have : (window first last : ℕ) (terms : List DocTerm) (ts : List (List ℕ)) → phrase_from window first last (places_of ts terms) ≡ true → Have terms ts
 phrase_from_have window first last terms [] e = tt

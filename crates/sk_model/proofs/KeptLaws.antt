@@ -1,9 +1,10 @@
 -- How many matches are kept: it hangs on how often each key occurs alone.
 use Rattle.std.proofs.Common.{◌≡◌, ◌<◌, ◌≤◌, ◌+◌, ◌-◌, ℕ, zero, suc, min, Bool, true, false, cond, ◌||◌, ◌==◌, nat_lt, List, [], ◌∷◌, length, take, filter, if◌then◌else◌, count_by, bytes_eq, Option, Some, None, refl, sym, ap, ◌∙◌, subst, arith, true≢false, length-take, ◌++◌, drop, length-drop}
-use Rattle.std.proofs.lemmas.Bool.Decides.{nat_tests}
 use Rattle.std.proofs.lemmas.List.Sums.{sum_by-cons, sum_by-append, sum_by-take-le, sum_by-take-drop}
 use Rattle.std.proofs.lemmas.List.Sorted.{sum_by-IsPermutation}
 use Rattle.std.specs.Cmp.Lexicographic.{bytes_decides}
+use Rattle.std.proofs.lemmas.Bool.{ltb-false, ltb-true}
+use Rattle.sk_base.proofs.Tests.{same_tests}
 use Rattle.sk_base.specs.declared.find.Collapse.{Collapse}
 use Rattle.sk_base.specs.declared.rank.Rank.{Rank}
 use Rattle.sk_base.specs.declared.rank.Order.{Order}
@@ -13,18 +14,7 @@ use Rattle.sk_model.proofs.OrderLaws.{best_first_permutation, length-best_first}
 
 -- ---- tests
 
-is_less : (a b : ℕ) → nat_lt a b ≡ true → a < b
-is_less a b e = grind (arith, nat_tests)
-
-not_less : (a b : ℕ) → nat_lt a b ≡ false → b ≤ a
-not_less a b e = grind (arith, nat_tests)
-
-same_tests : (b c : Bool) → (b ≡ true → c ≡ true) → (c ≡ true → b ≡ true) → b ≡ c
-same_tests true c f g = sym (f refl)
-same_tests false true f g = g refl
-same_tests false false f g = refl
-
-bytes_sym : (a b : List ℕ) → bytes_eq a b ≡ bytes_eq b a
+pub bytes_sym : (a b : List ℕ) → bytes_eq a b ≡ bytes_eq b a
 bytes_sym a b = same_tests (bytes_eq a b) (bytes_eq b a) (λ e. (bytes_decides b a).1 (sym ((bytes_decides a b).0 e))) (λ e. (bytes_decides a b).1 (sym ((bytes_decides b a).0 e)))
 
 -- ---- one key
@@ -42,11 +32,11 @@ module _ (key : Rank → List ℕ) (k : List ℕ) where
       → (same ≡ true → is ≡ nat_lt n most)
       → count_key key k (cond is (x ∷ more) less) ≡ min (most - n) (count_key key k (x ∷ xs))
   kept_step x more less xs most n m true true e h g before test =
-      let room : n < most = is_less n most (sym (test refl)) in
+      let room : n < most = ltb-true n most (sym (test refl)) in
       omega (arith, counted x more true e, counted x xs true e, h, before, room)
   kept_step x more less xs most n m true false e h g before test = omega (arith, counted x more false e, counted x xs false e, h, before)
   kept_step x more less xs most n m false true e h g before test =
-      let full : most ≤ n = not_less n most (sym (test refl)) in
+      let full : most ≤ n = ltb-false n most (sym (test refl)) in
       omega (arith, counted x xs true e, g, full)
   kept_step x more less xs most n m false false e h g before test = omega (arith, counted x xs false e, g)
 
@@ -107,13 +97,13 @@ module _ (key : Rank → List ℕ) (k : List ℕ) where
       → (same ≡ true → is ≡ nat_lt n most)
       → own (cond is (x ∷ more) less) ≡ take (most - n) (own (x ∷ xs))
   own_step x more less xs most n m true true e h g before test =
-      let room : n < most = is_less n most (sym (test refl)) in
+      let room : n < most = ltb-true n most (sym (test refl)) in
       own_more x more true e ∙ ap (λ ys. x ∷ ys) h ∙ sym (take_one x (own xs) (most - m) (most - n) (omega (arith, room, before))) ∙ ap (take (most - n)) (sym (own_more x xs true e))
   own_step x more less xs most n m true false e h g before test =
       let same : most - m ≡ most - n = omega (arith, before) in
       own_more x more false e ∙ h ∙ ap (λ i. take i (own xs)) same ∙ ap (take (most - n)) (sym (own_more x xs false e))
   own_step x more less xs most n m false true e h g before test =
-      let full : most ≤ n = not_less n most (sym (test refl)) in
+      let full : most ≤ n = ltb-false n most (sym (test refl)) in
       g ∙ take_none (own xs) (most - n) (omega (arith, full)) ∙ sym (take_none (own (x ∷ xs)) (most - n) (omega (arith, full)))
   own_step x more less xs most n m false false e h g before test = g ∙ ap (take (most - n)) (sym (own_more x xs false e))
 

@@ -1,12 +1,11 @@
 -- Near holds where a window holds a position of each operand.
 use Rattle.std.proofs.Common.{◌≡◌, ◌<◌, ◌≤◌, ◌+◌, ◌-◌, ℕ, min, max, Bool, true, false, ◌&&◌, ◌||◌, nat_le, nat_lt, List, [], ◌∷◌, length, refl, sym, arith, true≢false, le_refl}
 use Rattle.std.proofs.lemmas.Bool.Decides.{nat_tests}
-use Rattle.std.proofs.lemmas.Bool.{and_from}
+use Rattle.std.proofs.lemmas.Bool.{and_from, or_left, or_right}
 use Rattle.std.specs.List.{list_any}
+use Rattle.sk_base.proofs.Tests.{first_so, second_so}
 use Rattle.sk_model.specs.Positions.{near_from, is_near}
 use Rattle.sk_model.specs.Laws.{stand_within}
-use Rattle.sk_model.proofs.HeldLaws.{or_left, or_right}
-use Rattle.sk_model.proofs.CeilLaws.{first_so, second_so}
 
 -- a position of a window that begins here
 abbrev pub inside : ℕ → ℕ → ℕ → Bool

@@ -2,6 +2,7 @@
 use Rattle.std.proofs.Common.{◌≡◌, ◌<◌, ◌≤◌, ◌+◌, ◌-◌, ℕ, suc, Bool, true, false, cond, ◌&&◌, ◌||◌, ◌==◌, nat_le, nat_lt, true≢false, List, [], ◌∷◌, length, Option, Some, None, option_map, refl, sym, ap, ◌∙◌, subst, arith, slice_index_or, AllPairs}
 use Rattle.std.proofs.lemmas.Bool.Decides.{nat_tests}
 use Rattle.std.proofs.lemmas.List.Sums.{sum_by-cons}
+use Rattle.std.proofs.lemmas.Bool.{and_parts, le-leb, le-ltb, leb-false, leb-true, lt-leb, lt-ltb}
 use Rattle.sk_base.specs.declared.find.Find.{Find}
 use Rattle.sk_base.specs.declared.rank.Rank.{Rank}
 use Rattle.sk_base.specs.Numbers.{Docs}
@@ -12,7 +13,6 @@ use Rattle.sk_model.specs.Counts.{wanted}
 use Rattle.sk_model.specs.Edits.{last_id}
 use Rattle.sk_model.specs.Matches.{found_by}
 use Rattle.sk_model.specs.Settled.{less_heavy, settled_from, settled, settling_weight, stop_point, seen_up_to, heavy_up_to}
-use Rattle.sk_model.proofs.OrderLaws.{both_so}
 use Rattle.sk_model.specs.Sharp.{terms_in, flat_lists, ups, is_plain, stop_number, of_two, rare_lists, rare_readings, rare_number, decay_of, decay_number, at_most, sharp}
 
 -- ---- rising ids
@@ -35,28 +35,16 @@ rising_of (x ∷ xs) h = (above_of x.id xs (λ j d within. h 0 (suc j) d (omega 
 
 -- ---- tests
 
-up : (a b : ℕ) → nat_le a b ≡ true → a ≤ b
-up a b e = grind (arith, nat_tests)
-
-not_up : (a b : ℕ) → nat_le a b ≡ false → b < a
-not_up a b e = grind (arith, nat_tests)
-
-is_up : (a b : ℕ) → a ≤ b → nat_le a b ≡ true
-is_up a b e = grind (arith, nat_tests)
-
-is_not_up : (a b : ℕ) → b < a → nat_le a b ≡ false
-is_not_up a b e = grind (arith, nat_tests)
-
-is_none : (n : ℕ) → (n == 0) ≡ true → n ≡ 0
+pub is_none : (n : ℕ) → (n == 0) ≡ true → n ≡ 0
 is_none n e = grind (arith, nat_tests)
 
 is_some : (n : ℕ) → (n == 0) ≡ false → 1 ≤ n
 is_some n e = grind (arith, nat_tests)
 
-both_none : (a b : ℕ) → ((a == 0) && (b == 0)) ≡ true → (a ≡ 0) × (b ≡ 0)
-both_none a b e = let so = both_so (a == 0) (b == 0) e in (is_none a so.0, is_none b so.1)
+pub both_none : (a b : ℕ) → ((a == 0) && (b == 0)) ≡ true → (a ≡ 0) × (b ≡ 0)
+both_none a b e = let so = and_parts (a == 0) (b == 0) e in (is_none a so.0, is_none b so.1)
 
-some_left : (a b : ℕ) → ((a == 0) && (b == 0)) ≡ false → 1 ≤ a + b
+pub some_left : (a b : ℕ) → ((a == 0) && (b == 0)) ≡ false → 1 ≤ a + b
 some_left a b e = by_first (a == 0) refl
   where
     by_first : (none : Bool) → (a == 0) ≡ none → 1 ≤ a + b
@@ -76,12 +64,12 @@ heavy_more weight id x xs low heavy e f =
 
 none_seen : (b id : ℕ) (xs : List Rank) → id ≤ b → Above b xs → seen_up_to id xs ≡ 0
 none_seen b id [] low above = refl
-none_seen b id (x ∷ xs) low above = omega (arith, seen_more id x xs false (is_not_up x.id id (omega (arith, low, above.0))), none_seen b id xs low above.1)
+none_seen b id (x ∷ xs) low above = omega (arith, seen_more id x xs false (lt-leb x.id id (omega (arith, low, above.0))), none_seen b id xs low above.1)
 
 none_heavy : (weight b id : ℕ) (xs : List Rank) → id ≤ b → Above b xs → heavy_up_to weight id xs ≡ 0
 none_heavy weight b id [] low above = refl
 none_heavy weight b id (x ∷ xs) low above =
-    omega (arith, heavy_more weight id x xs false (nat_le weight x.weight) (is_not_up x.id id (omega (arith, low, above.0))) refl, none_heavy weight b id xs low above.1)
+    omega (arith, heavy_more weight id x xs false (nat_le weight x.weight) (lt-leb x.id id (omega (arith, low, above.0))) refl, none_heavy weight b id xs low above.1)
 
 -- ---- it is no later
 
@@ -94,15 +82,15 @@ least_step : (weight id n m : ℕ) (x : Rank) (xs : List Rank) (low heavy : Bool
     → (1 ≤ (n - 1) + less_heavy weight m x → n - 1 ≤ seen_up_to id xs → less_heavy weight m x ≤ heavy_up_to weight id xs → settled_from (n - 1) (less_heavy weight m x) weight xs ≤ id)
     → settled_from n m weight (x ∷ xs) ≤ id
 least_step weight id n m x xs false heavy e f above some a b rest =
-    let before : id < x.id = not_up x.id id e in
+    let before : id < x.id = leb-false x.id id e in
     absurd (omega (arith, some, a, b, seen_more id x xs false e, heavy_more weight id x xs false heavy e f, none_seen x.id id xs (omega (arith, before)) above, none_heavy weight x.id id xs (omega (arith, before)) above))
 least_step weight id n m x xs true true e f above some a b rest =
     let less : less_heavy weight m x ≡ m - 1 = ap (λ (t : Bool). cond t (m - 1) m) f in
-    least_end id (n - 1) (less_heavy weight m x) weight x xs (((n - 1) == 0) && (less_heavy weight m x == 0)) refl (up x.id id e)
+    least_end id (n - 1) (less_heavy weight m x) weight x xs (((n - 1) == 0) && (less_heavy weight m x == 0)) refl (leb-true x.id id e)
     (λ left. rest left (omega (arith, a, seen_more id x xs true e)) (omega (arith, b, less, heavy_more weight id x xs true true e f)))
 least_step weight id n m x xs true false e f above some a b rest =
     let less : less_heavy weight m x ≡ m = ap (λ (t : Bool). cond t (m - 1) m) f in
-    least_end id (n - 1) (less_heavy weight m x) weight x xs (((n - 1) == 0) && (less_heavy weight m x == 0)) refl (up x.id id e)
+    least_end id (n - 1) (less_heavy weight m x) weight x xs (((n - 1) == 0) && (less_heavy weight m x == 0)) refl (leb-true x.id id e)
     (λ left. rest left (omega (arith, a, seen_more id x xs true e)) (omega (arith, b, less, heavy_more weight id x xs true false e f)))
 
 least_from : (weight id n m : ℕ) (ranks : List Rank) → Rising ranks → 1 ≤ n + m → n ≤ seen_up_to id ranks → m ≤ heavy_up_to weight id ranks → settled_from n m weight ranks ≤ id
@@ -121,7 +109,7 @@ least find ranks weight id rising a b =
     want_least id (wanted find) (find.options.first + find.options.size) (settling_weight find weight) ranks (wanted find == 0) (nat_lt weight find.options.cutoff) refl
     (λ some. least_from (settling_weight find weight) id (wanted find) (find.options.first + find.options.size) ranks (rising_of ranks rising) (omega (arith, some)) a b)
 
--- ---- up to it there is enough
+-- ---- leb-true to it there is enough
 
 behind_end : (b n m weight : ℕ) (x : Rank) (xs : List Rank) (last : Bool) → b < x.id → cond last x.id (settled_from n m weight xs) < last_id → (settled_from n m weight xs < last_id → b < settled_from n m weight xs)
     → b < cond last x.id (settled_from n m weight xs)
@@ -142,9 +130,9 @@ less_is weight m x false f = let less : less_heavy weight m x ≡ m = ap (λ (t 
 
 enough_more : (weight n m id : ℕ) (x : Rank) (xs : List Rank) (heavy : Bool) → nat_le weight x.weight ≡ heavy → x.id ≤ id → n - 1 ≤ seen_up_to id xs → less_heavy weight m x ≤ heavy_up_to weight id xs → Enough n m weight id (x ∷ xs)
 enough_more weight n m id x xs true f low a b =
-    (omega (arith, a, seen_more id x xs true (is_up x.id id low)), omega (arith, b, less_is weight m x true f, heavy_more weight id x xs true true (is_up x.id id low) f))
+    (omega (arith, a, seen_more id x xs true (le-leb x.id id low)), omega (arith, b, less_is weight m x true f, heavy_more weight id x xs true true (le-leb x.id id low) f))
 enough_more weight n m id x xs false f low a b =
-    (omega (arith, a, seen_more id x xs true (is_up x.id id low)), omega (arith, b, less_is weight m x false f, heavy_more weight id x xs true false (is_up x.id id low) f))
+    (omega (arith, a, seen_more id x xs true (le-leb x.id id low)), omega (arith, b, less_is weight m x false f, heavy_more weight id x xs true false (le-leb x.id id low) f))
 
 enough_end : (weight n m : ℕ) (x : Rank) (xs : List Rank) (last : Bool) → (((n - 1) == 0) && (less_heavy weight m x == 0)) ≡ last → Above x.id xs
     → cond last x.id (settled_from (n - 1) (less_heavy weight m x) weight xs) < last_id
@@ -169,16 +157,10 @@ want_enough n k weight ranks none true e high within some rest = absurd (true≢
 want_enough n k weight ranks true false e high within some rest = let zero_is : n ≡ 0 = is_none n e in (omega (arith, zero_is), omega (arith, zero_is, within))
 want_enough n k weight ranks false false e high within some rest = rest some
 
-not_below : (a b : ℕ) → b ≤ a → nat_lt a b ≡ false
-not_below a b le = grind (arith, nat_tests)
-
-is_below : (a b : ℕ) → a < b → nat_lt a b ≡ true
-is_below a b lt = grind (arith, nat_tests)
-
 pub enough : (find : Find) (ranks : List Rank) (weight : ℕ) → AllPairs (λ (x y : Rank). x.id < y.id) ranks → settled find ranks weight < last_id → find.options.cutoff ≤ weight
     → Enough (wanted find) (find.options.first + find.options.size) (settling_weight find weight) (settled find ranks weight) ranks
 enough find ranks weight rising within high =
-    want_enough (wanted find) (find.options.first + find.options.size) (settling_weight find weight) ranks (wanted find == 0) (nat_lt weight find.options.cutoff) refl (not_below weight find.options.cutoff high) (omega arith) within
+    want_enough (wanted find) (find.options.first + find.options.size) (settling_weight find weight) ranks (wanted find == 0) (nat_lt weight find.options.cutoff) refl (le-ltb weight find.options.cutoff high) (omega arith) within
     (enough_from (settling_weight find weight) (wanted find) (find.options.first + find.options.size) ranks (rising_of ranks rising))
 
 -- no match can weigh as much as the cutoff
@@ -188,7 +170,7 @@ or_true false = refl
 
 pub below : (find : Find) (ranks : List Rank) (weight : ℕ) → weight < find.options.cutoff → settled find ranks weight ≡ 0
 below find ranks weight lt =
-    ap (λ (b : Bool). cond ((wanted find == 0) || b) 0 (settled_from (wanted find) (find.options.first + find.options.size) (settling_weight find weight) ranks)) (is_below weight find.options.cutoff lt)
+    ap (λ (b : Bool). cond ((wanted find == 0) || b) 0 (settled_from (wanted find) (find.options.first + find.options.size) (settling_weight find weight) ranks)) (lt-ltb weight find.options.cutoff lt)
     ∙ ap (λ (b : Bool). cond b 0 (settled_from (wanted find) (find.options.first + find.options.size) (settling_weight find weight) ranks)) (or_true (wanted find == 0))
 
 -- ---- the least of several numbers

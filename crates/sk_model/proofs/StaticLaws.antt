@@ -7,6 +7,7 @@ use Rattle.std.specs.Cmp.Lexicographic.{slice_cmp, nat_list_cmp_total}
 use Rattle.std.specs.Ordering.{nat_cmp, is_le, is_gt}
 use Rattle.std.specs.declared.cmp.Ordering.{Ordering}
 use Rattle.std.specs.declared.cmp.Ordering.TheVariants.{Less, Equal, Greater}
+use Rattle.sk_base.proofs.Tests.{first_so, second_so}
 use Rattle.sk_base.specs.declared.doc.Doc.{Doc}
 use Rattle.sk_base.specs.declared.doc_entry.DocTerm.{DocTerm}
 use Rattle.sk_base.specs.declared.doc_entry.SlotValue.{SlotValue}
@@ -25,7 +26,7 @@ use Rattle.sk_model.specs.Scores.{weight_if, places_of, score, scores}
 use Rattle.sk_model.specs.Matches.{matches}
 use Rattle.sk_model.specs.Bounds.{static_count, statics, sum_in, least_in, first_in, lengths_of, least_length}
 use Rattle.sk_model.proofs.HeldLaws.{Inside, inside_each, among, member, own_begins, each_weaker, Have, near_have, phrase_have}
-use Rattle.sk_model.proofs.CeilLaws.{first_so, second_so, third_so}
+use Rattle.sk_model.proofs.CeilLaws.{third_so}
 
 -- ---- counting
 
@@ -178,7 +179,7 @@ wild_counted prefix docs =
     omega (arith, live, some, lengths_count (terms_with prefix docs) docs, lengths_sum (terms_with prefix docs) docs)
 
 -- a value that is not empty stands in its slot
-valued : (slot : ℕ) (values : List SlotValue) → nat_lt 0 (length (value_in slot values)) ≡ true → has_value slot values ≡ true
+pub valued : (slot : ℕ) (values : List SlotValue) → nat_lt 0 (length (value_in slot values)) ≡ true → has_value slot values ≡ true
 valued slot [] e = absurd (true≢false (sym e))
 valued slot (one ∷ more) e =
     elim (one.slot == slot) as (λ b. nat_lt 0 (length (if b then one.value else value_in slot more)) ≡ true → (b || has_value slot more) ≡ true) [
@@ -199,7 +200,7 @@ not_gt_le Greater e = absurd (true≢false e)
 through : (a v b : List ℕ) → is_le (slice_cmp nat_cmp a v) ≡ true → is_le (slice_cmp nat_cmp v b) ≡ true → is_le (slice_cmp nat_cmp a b) ≡ true
 through a v b h g = not_gt_le (slice_cmp nat_cmp a b) (upto nat_list_cmp_total a v b (le_not_gt (slice_cmp nat_cmp a v) h) (le_not_gt (slice_cmp nat_cmp v b) g))
 
-from_through : (lo : Option (List ℕ)) (v b : List ℕ) → is_from lo v ≡ true → is_le (slice_cmp nat_cmp v b) ≡ true → is_from lo b ≡ true
+pub from_through : (lo : Option (List ℕ)) (v b : List ℕ) → is_from lo v ≡ true → is_le (slice_cmp nat_cmp v b) ≡ true → is_from lo b ≡ true
 from_through None v b h g = refl
 from_through (Some lo) v b h g = through lo v b h g
 

@@ -36,7 +36,7 @@ before-noted : (a : List ℕ) (terms : List DocTerm) (m : DocTerm) → Precedes 
 before-noted a [] m h all = (h, tt)
 before-noted a (one ∷ more) m h all = before_step a one m more (noted more m) (slice_cmp nat_cmp m.term one.term) h all (before-noted a more m h all.1)
 
-turned : (a b : List ℕ) → slice_cmp nat_cmp a b ≡ Greater → Precedes b a
+pub turned : (a b : List ℕ) → slice_cmp nat_cmp a b ≡ Greater → Precedes b a
 turned a b h = nat_list_cmp_total.antisymm b a ∙ ap ordering_reverse h
 
 rising_step : (one m : DocTerm) (more : List DocTerm) (r : Ordering) → slice_cmp nat_cmp m.term one.term ≡ r → Rising (one ∷ more) → Rising (noted more m)

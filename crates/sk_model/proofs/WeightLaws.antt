@@ -2,6 +2,7 @@
 use Rattle.std.proofs.Common.{◌≡◌, ◌<◌, ◌≤◌, ◌+◌, ◌-◌, ◌*◌, ◌^◌, ℕ, suc, min, nat_lt, Bool, true, false, ◌&&◌, List, [], ◌∷◌, length, All, Option, Some, None, sym, arith, true≢false, if◌then◌else◌, le_refl}
 use Rattle.std.proofs.lemmas.Bool.Decides.{nat_tests}
 use Rattle.std.proofs.lemmas.Nat.{mul-le}
+use Rattle.sk_base.proofs.Tests.{first_so, second_so}
 use Rattle.sk_base.specs.declared.doc.Doc.{Doc}
 use Rattle.sk_base.specs.declared.find.Scheme.{Scheme}
 use Rattle.sk_base.specs.Documents.{wdf_of}
@@ -15,7 +16,7 @@ use Rattle.sk_model.specs.Weights.{weigh_by}
 use Rattle.sk_model.specs.Scores.{terms_weight, wdf_sum, wild_wdf, score, scores}
 use Rattle.sk_model.specs.Bounds.{term_ceil, terms_ceil, lengths_of, greatests_of, joint_ceil, sum_in, greatest_in, first_in, ceil_of, ceil, ceils}
 use Rattle.sk_model.proofs.HeldLaws.{wdf_within, wild_within, sum_within}
-use Rattle.sk_model.proofs.CeilLaws.{AtMost, AllAtMost, weight_le, combined_le, first_so, second_so, third_so}
+use Rattle.sk_model.proofs.CeilLaws.{AtMost, AllAtMost, weight_le, combined_le, third_so}
 
 -- what each part weighs at most, by its leaves
 abbrev pub fits_in : Trees → List ℕ

@@ -1,21 +1,14 @@
 -- A phrase by positions that are taken as soon as can be.
 use Rattle.std.proofs.Common.{◌≡◌, ℕ, ◌+◌, ◌-◌, ◌<◌, ◌≤◌, true, false, ◌&&◌, nat_lt, List, [], ◌∷◌, length, drop, get_or, Some, None, refl, sym, ap, subst, ◌∙◌, arith}
-use Rattle.std.proofs.lemmas.Bool.{and_from}
-use Rattle.std.proofs.lemmas.Bool.Decides.{nat_tests}
+use Rattle.std.proofs.lemmas.Bool.{and_from, lt-ltb, ltb-true}
 use Rattle.std.proofs.lemmas.List.Folds.{list_any_at}
 use Rattle.std.proofs.lemmas.Option.{same_Some, none-some}
 use Rattle.std.specs.List.{list_any}
 use Rattle.std.specs.Option.{option_and_then}
+use Rattle.sk_base.proofs.Tests.{first_so, second_so}
 use Rattle.sk_model.specs.Positions.{phrase_from, is_phrase}
-use Rattle.sk_model.proofs.CeilLaws.{first_so, second_so}
 use Rattle.sk_near.specs.Soonest.{first_from, soonest_end}
 use Rattle.sk_near.proofs.SoonestLemmas.{any_at, any_none, first_is_one, first_is_least, first_none}
-
-is_below : (a b : ℕ) → a < b → nat_lt a b ≡ true
-is_below a b h = grind (arith, nat_tests)
-
-below_is : (a b : ℕ) → nat_lt a b ≡ true → a < b
-below_is a b e = grind (arith, nat_tests)
 
 -- the phrases that begin at a position of the first operand begin here or behind
 pub record BeginFrom (window low : ℕ) (places : List (List ℕ)) : Type 0 where
@@ -28,7 +21,7 @@ begin_anywhere window places = record { from = λ k lt e. omega arith }
 module _ (window : ℕ) (wide : 1 ≤ window) where
   -- where those that are taken as soon as can be end within the window, there is a phrase
   ends_within : (first last end : ℕ) (more : List (List ℕ)) → soonest_end (last + 1) more ≡ Some end → end ≤ first + window → phrase_from window first last more ≡ true
-  ends_within first last end [] e le = let same : last + 1 ≡ end = same_Some _ end e in is_below (last - first) window (omega (arith, wide))
+  ends_within first last end [] e le = let same : last + 1 ≡ end = same_Some _ end e in lt-ltb (last - first) window (omega (arith, wide))
   ends_within first last end (positions ∷ more) e le =
       elim (first_from (last + 1) positions) as (λ o. first_from (last + 1) positions ≡ o → option_and_then (λ p. soonest_end (p + 1) more) o ≡ Some end → list_any (λ p. nat_lt last p && phrase_from window first p more) positions ≡ true) [
         | None ↦ λ is f. absurd (none-some end f)
@@ -36,16 +29,16 @@ module _ (window : ℕ) (wide : 1 ≤ window) where
             let one = first_is_one (last + 1) q positions is in
             list_any_at (λ p. nat_lt last p && phrase_from window first p more) positions one.0 0 one.1
             (subst (λ (p : ℕ). (nat_lt last p && phrase_from window first p more) ≡ true) (sym one.2)
-            (and_from (nat_lt last q) (phrase_from window first q more) (is_below last q (omega (arith, one.3))) (ends_within first q end more f le)))
+            (and_from (nat_lt last q) (phrase_from window first q more) (lt-ltb last q (omega (arith, one.3))) (ends_within first q end more f le)))
       ] refl e
 
   -- where there is a phrase, those that are taken as soon as can be end within its window
   soonest_within : (first last bound : ℕ) (more : List (List ℕ)) → bound ≤ last + 1 → phrase_from window first last more ≡ true → (end : ℕ) × (soonest_end bound more ≡ Some end) × (end ≤ first + window)
-  soonest_within first last bound [] le e = let narrow : last - first < window = below_is (last - first) window e in (bound, refl, omega (arith, narrow))
+  soonest_within first last bound [] le e = let narrow : last - first < window = ltb-true (last - first) window e in (bound, refl, omega (arith, narrow))
   soonest_within first last bound (positions ∷ more) le e =
       let one = any_at (λ p. nat_lt last p && phrase_from window first p more) positions e in
       let p : ℕ = get_or positions one.0 0 in
-      let behind : last < p = below_is last p (first_so (nat_lt last p) (phrase_from window first p more) one.2) in
+      let behind : last < p = ltb-true last p (first_so (nat_lt last p) (phrase_from window first p more) one.2) in
       let least = first_is_least bound positions one.0 one.1 (omega (arith, behind)) in
       let rest = soonest_within first p (least.0 + 1) more (omega (arith, least.2)) (second_so (nat_lt last p) (phrase_from window first p more) one.2) in
       (rest.0, ap (option_and_then (λ r. soonest_end (r + 1) more)) least.1 ∙ rest.1, rest.2)

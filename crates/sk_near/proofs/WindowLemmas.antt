@@ -1,14 +1,13 @@
 -- Windows that have a position of each operand, and how a bound rises to the first.
-use Rattle.std.proofs.Common.{◌≡◌, ℕ, zero, suc, ◌+◌, ◌-◌, ◌<◌, ◌≤◌, Bool, true, false, ◌&&◌, nat_le, nat_lt, List, [], ◌∷◌, length, take, get_or, Some, None, refl, sym, ◌∙◌, arith, true≢false}
+use Rattle.std.proofs.Common.{◌≡◌, ℕ, zero, suc, ◌+◌, ◌-◌, ◌<◌, ◌≤◌, Bool, true, false, List, [], ◌∷◌, length, take, get_or, Some, None, refl, sym, ◌∙◌, arith, true≢false}
 use Rattle.std.proofs.lemmas.Bool.{and_from}
-use Rattle.std.proofs.lemmas.Bool.Decides.{nat_tests}
 use Rattle.std.proofs.lemmas.List.Folds.{list_any_at, list_all_more}
 use Rattle.std.proofs.lemmas.Option.{same_Some}
 use Rattle.std.specs.List.{list_any, list_all}
+use Rattle.sk_base.proofs.Tests.{first_so, second_so}
 use Rattle.sk_model.specs.Laws.{stand_within}
 use Rattle.sk_model.specs.Positions.{is_near}
 use Rattle.sk_model.proofs.NearLaws.{near_found, inside, is_inside, inside_from, inside_to}
-use Rattle.sk_model.proofs.CeilLaws.{first_so, second_so}
 use Rattle.sk_near.specs.Soonest.{first_from}
 use Rattle.sk_near.specs.Windows.{WindowsFrom, HasNoWindow}
 use Rattle.sk_near.proofs.SoonestLemmas.{any_at, first_is_one, first_is_least, first_none}

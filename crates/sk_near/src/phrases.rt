@@ -6,7 +6,7 @@ ghost use Rattle.sk_near.specs.Soonest.{soonest_end};
 use crate::Operands;
 use crate::operands::position_from;
 
-// Where the operands behind the first end, each taken as soon as can be from the bound on.
+/// Where the operands behind the first end, each taken as soon as can be from the bound on.
 fn end_from<P: Operands>(lists: &P, mut bound: u64, marks: &mut [u32]) -> Option<u64>
     requires marks { length (P.places lists.now) ≤ length marks.old }
     requires small { bound ≤ 2 ^ 32 }

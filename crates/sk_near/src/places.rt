@@ -3,7 +3,7 @@ ghost use Rattle.std.specs.Prelude.{◌≡◌, ◌<◌, ◌≤◌, true, length}
 ghost use Rattle.std.specs.List.{AllPairs};
 ghost use Rattle.sk_near.specs.Places.{IsPassed, IsParted};
 
-// Whether all positions before the place lie below the bound.
+/// Whether all positions before the place lie below the bound.
 fn is_passed(positions: &[u32], place: usize, bound: u64) -> bool
     requires { AllPairs (λ a b. a < b) positions.now }
     ensures { result ≡ true → IsPassed bound positions.now place }
@@ -11,7 +11,7 @@ fn is_passed(positions: &[u32], place: usize, bound: u64) -> bool
     place == 0 || (place <= positions.len() && u64::from(positions[place - 1]) < bound)
 }
 
-// The place of the bound, which lies between these two.
+/// The place of the bound, which lies between these two.
 fn place_between(positions: &[u32], mut low: usize, mut high: usize, bound: u64) -> usize
     requires rising { AllPairs (λ a b. a < b) positions.now }
     requires parted { IsParted bound positions.now low high }

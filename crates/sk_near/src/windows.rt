@@ -6,7 +6,7 @@ ghost use Rattle.sk_near.specs.Windows.{WindowsFrom, HasNoWindow, IsRaised};
 use crate::Operands;
 use crate::operands::position_from;
 
-// Goes over all operands once. Each raises the bound to the first window that reaches its first position from there on.
+/// Goes over all operands once. Each raises the bound to the first window that reaches its first position from there on.
 fn raise<P: Operands>(lists: &P, window: u32, low: u64, marks: &mut [u32]) -> Option<u64>
     requires wide { 1 ≤ window }
     requires marks { length (P.places lists.now) ≤ length marks.old }

@@ -18,7 +18,7 @@ use Rattle.sk_nodes.specs.Led.{follow_rooms, Leads}
 use Rattle.sk_nodes.specs.Any.{AreKept, HaveLed, AreWeighed, AreEnded}
 use Rattle.sk_nodes.specs.Skips.{IsLight}
 use Rattle.sk_nodes.proofs.LeafLaws.{from_on-at, from_cases}
-use Rattle.sk_nodes.proofs.NodeLaws.{IsHead-none, ended_top}
+use Rattle.sk_nodes.proofs.NodeLaws.{IsHead-none, ended_top, none_bound}
 use Rattle.sk_nodes.proofs.OddLaws.{either_none, either_first, either_second, either_both, sum_bound, none_below, same_from}
 use Rattle.sk_nodes.proofs.StopLaws.{may_target}
 use Rattle.sk_nodes.proofs.BlockLaws.{light_enough}
@@ -38,10 +38,6 @@ any_top i ss t sound h exact closed = record {
   closed = closed;
 }
   where
-    none_bound : (o : Option ℕ) (g : ℕ) → o ≡ None → unwrap_or o 0 ≤ g
-    none_bound None g e = omega arith
-    none_bound (Some v) g e = cc
-
     at_end : 2 ^ 32 ≤ t.head → t.head ≤ 2 ^ 32 → t.head ≡ 2 ^ 32
     at_end p q = omega (arith, p, q)
 
@@ -461,14 +457,10 @@ module _ (i : Indexed) (target need : ℕ) (some_need : 0 < need) (before : ℕ)
 pub any_ended_top : (i : Indexed) (ss : Sides) → AreEnded ss → IsTop i (record { head = 2 ^ 32; weight = 0; greatest = 0 }) (any ss)
 any_ended_top i ss over = record {
   head = record { within = le_refl (2 ^ 32); below = λ id lt. ended_none i ss id over; at = λ lt. absurd (omega (arith, lt)); past = λ id le. ended_none i ss id over; ended = λ same. refl };
-  bound = λ id. none_bound (sum_of_any (rests i ss id)) (ended_none i ss id over);
+  bound = λ id. none_bound (sum_of_any (rests i ss id)) 0 (ended_none i ss id over);
   summed = λ lt. absurd (omega (arith, lt));
   closed = λ same. refl;
 }
-  where
-    none_bound : (o : Option ℕ) → o ≡ None → unwrap_or o 0 ≤ 0
-    none_bound None e = omega arith
-    none_bound (Some v) e = cc
 
 pub any_ended_sound : (i : Indexed) (ss : Sides) → AreEnded ss → IsOdd ss (AreSound i ss)
 any_ended_sound i ss over = record { sides = ended_sound i ss over; fits = omega (arith, ended_greatest ss over) }

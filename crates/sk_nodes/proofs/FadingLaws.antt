@@ -1,6 +1,6 @@
 -- Nodes of two lists of which one fades, as they are replaced and moved on.
 use Rattle.std.proofs.Common.{◌≡◌, ◌≤◌, ◌<◌, ◌+◌, ◌^◌, ◌⊎◌, ◌&&◌, ◌||◌, ◌==◌, ℕ, nat_lt, Bool, true, false, [], ◌∷◌, inl, inr, refl, sym, subst, ap, ◌∙◌, arith, le_refl}
-use Rattle.std.proofs.lemmas.Bool.{cases_lt}
+use Rattle.std.proofs.lemmas.Bool.{cases_lt, ltb-false, or_parts}
 use Rattle.std.proofs.lemmas.Bool.Decides.{nat_tests}
 use Rattle.sk_chunks.specs.Postings.{Postings}
 use Rattle.sk_query.specs.declared.form.Form.{Form}
@@ -201,16 +201,6 @@ end_is n e = grind (arith, nat_tests)
 end_not : (n : ℕ) → n ≤ 2 ^ 32 → (n == 2 ^ 32) ≡ false → n < 2 ^ 32
 end_not n le e = grind (arith, nat_tests)
 
-less_than : (a b : ℕ) → nat_lt a b ≡ true → a < b
-less_than a b e = grind (arith, nat_tests)
-
-no_less : (a b : ℕ) → nat_lt a b ≡ false → b ≤ a
-no_less a b e = grind (arith, nat_tests)
-
-neither : (a b : Bool) → (a || b) ≡ false → (a ≡ false) × (b ≡ false)
-neither true b e = cc
-neither false b e = (refl, e)
-
 first_false : (a b : Bool) → (a && b) ≡ false → b ≡ true → a ≡ false
 first_false true b e f = absurd (cc)
 first_false false b e f = refl
@@ -275,8 +265,8 @@ module _ (i : Indexed) (point greatest target need : ℕ) (ta : Top) (a : Shape)
         (λ e4. if_so P (nat_lt tb.greatest need) _ _
         (λ e. let le = following_under point ta.head tb.head room in (true, ((tt, (on_a, (on_b, bound))), ((open_a e1, open_b e2), more (lead_unread i a) (following_room point ta.head tb.head room) (room + 255) le))))
         (λ e5. if_so P (nat_lt ta.greatest need) _ _
-        (λ e. (false, ((tt, (on_b, (on_a, bound))), (near (let le = no_less tb.greatest need e5 in omega (arith, le, tb_bound)), omega arith))))
-        (λ e. (true, ((tt, (on_a, (on_b, bound))), (near (let le = no_less tb.greatest need e5 in omega (arith, le, tb_bound)), omega arith))))))))))
+        (λ e. (false, ((tt, (on_b, (on_a, bound))), (near (let le = ltb-false tb.greatest need e5 in omega (arith, le, tb_bound)), omega arith))))
+        (λ e. (true, ((tt, (on_a, (on_b, bound))), (near (let le = ltb-false tb.greatest need e5 in omega (arith, le, tb_bound)), omega arith))))))))))
 
     maybe_second : Stands i point greatest target true (pair Form.AndMaybe ta a tb b) (changed_pair (change_of Form.AndMaybe ta.greatest tb.greatest a_ended b_ended need) Form.AndMaybe ta a tb b)
     maybe_second =
@@ -292,7 +282,7 @@ module _ (i : Indexed) (point greatest target need : ℕ) (ta : Top) (a : Shape)
         let P : Change → Type 0 = λ c. Stands i point greatest target true (pair Form.And ta a tb b) (changed_pair c Form.And ta a tb b) in
         if_so P (a_ended || b_ended) _ _ (λ e. (true, (tt, (tt, omega arith))))
         (λ e0. if_so P (nat_lt (ta.greatest + tb.greatest) need) _ _ (λ e. (true, (tt, (tt, omega arith))))
-        (λ e. let opened = neither a_ended b_ended e0 in (true, ((tt, (on_a, (on_b, bound))), ((open_a opened.0, open_b opened.1), omega arith)))))
+        (λ e. let opened = or_parts a_ended b_ended e0 in (true, ((tt, (on_a, (on_b, bound))), ((open_a opened.0, open_b opened.1), omega arith)))))
 
   -- the first side fades
   module _ (bound : greatest_in a ≤ greatest) where
@@ -318,26 +308,26 @@ module _ (i : Indexed) (point greatest target need : ℕ) (ta : Top) (a : Shape)
         (λ e3. if_so P (nat_lt ta.greatest need && nat_lt tb.greatest need) _ _
         (λ e. let le = leading_le point tb.head ta.head other_room in (false, ((tt, (on_a, (on_b, bound))), ((open_a e1, open_b e2), more (lead_unread i b) (leading_room point tb.head ta.head other_room) (other_room + 255) le))))
         (λ e4. if_so P (nat_lt tb.greatest need) _ _
-        (λ e. (false, ((tt, (on_a, (on_b, bound))), (near (let le = no_less ta.greatest need (first_false (nat_lt ta.greatest need) (nat_lt tb.greatest need) e4 e) in omega (arith, le, ta_bound)), omega arith))))
+        (λ e. (false, ((tt, (on_a, (on_b, bound))), (near (let le = ltb-false ta.greatest need (first_false (nat_lt ta.greatest need) (nat_lt tb.greatest need) e4 e) in omega (arith, le, ta_bound)), omega arith))))
         (λ e5. if_so P (nat_lt ta.greatest need) _ _
         (λ e. let le = following_under point tb.head ta.head other_room in (true, ((tt, (on_b, (on_a, bound))), ((open_b e2, open_a e1), more (lead_unread i b) (following_room point tb.head ta.head other_room) (other_room + 255) le))))
-        (λ e. (false, ((tt, (on_a, (on_b, bound))), (near (let le = no_less ta.greatest need e in omega (arith, le, ta_bound)), omega arith))))))))))
+        (λ e. (false, ((tt, (on_a, (on_b, bound))), (near (let le = ltb-false ta.greatest need e in omega (arith, le, ta_bound)), omega arith))))))))))
 
     maybe_first : Stands i point greatest target false (pair Form.AndMaybe ta a tb b) (changed_pair (change_of Form.AndMaybe ta.greatest tb.greatest a_ended b_ended need) Form.AndMaybe ta a tb b)
     maybe_first =
         let P : Change → Type 0 = λ c. Stands i point greatest target false (pair Form.AndMaybe ta a tb b) (changed_pair c Form.AndMaybe ta a tb b) in
         if_so P a_ended _ _ (λ e. (true, (tt, (tt, omega arith))))
         (λ e0. if_so P (nat_lt (ta.greatest + tb.greatest) need) _ _ (λ e. (true, (tt, (tt, omega arith))))
-        (λ e1. if_so P b_ended _ _ (λ e. let none = shut_b e in let le = no_less (ta.greatest + tb.greatest) need e1 in alone_first Form.AndMaybe (omega (arith, none, le, ta_bound)) refl)
+        (λ e1. if_so P b_ended _ _ (λ e. let none = shut_b e in let le = ltb-false (ta.greatest + tb.greatest) need e1 in alone_first Form.AndMaybe (omega (arith, none, le, ta_bound)) refl)
         (λ e2. if_so P (nat_lt ta.greatest need) _ _ (λ e. let le = leading_le point tb.head ta.head other_room in (false, ((tt, (on_a, (on_b, bound))), ((open_a e0, open_b e2), more (lead_unread i b) (leading_room point tb.head ta.head other_room) (other_room + 255) le))))
-        (λ e. (false, ((tt, (on_a, (on_b, bound))), (near (let le = no_less ta.greatest need e in omega (arith, le, ta_bound)), omega arith)))))))
+        (λ e. (false, ((tt, (on_a, (on_b, bound))), (near (let le = ltb-false ta.greatest need e in omega (arith, le, ta_bound)), omega arith)))))))
 
     both_first : Stands i point greatest target false (pair Form.And ta a tb b) (changed_pair (change_of Form.And ta.greatest tb.greatest a_ended b_ended need) Form.And ta a tb b)
     both_first =
         let P : Change → Type 0 = λ c. Stands i point greatest target false (pair Form.And ta a tb b) (changed_pair c Form.And ta a tb b) in
         if_so P (a_ended || b_ended) _ _ (λ e. (true, (tt, (tt, omega arith))))
         (λ e0. if_so P (nat_lt (ta.greatest + tb.greatest) need) _ _ (λ e. (true, (tt, (tt, omega arith))))
-        (λ e. let opened = neither a_ended b_ended e0 in (false, ((tt, (on_a, (on_b, bound))), ((open_a opened.0, open_b opened.1), omega arith)))))
+        (λ e. let opened = or_parts a_ended b_ended e0 in (false, ((tt, (on_a, (on_b, bound))), ((open_a opened.0, open_b opened.1), omega arith)))))
 
 -- the need is no more than the node can weigh
 decayed_stands : (i : Indexed) (point greatest target need : ℕ) (first : Bool) (top : Top) (s : Shape) → IsTop i top s → Sound i s → top.head < 2 ^ 32 → need ≤ top.greatest → IsFading i greatest first s → MayLeave point greatest target need

@@ -20,7 +20,7 @@ use Rattle.sk_model.proofs.CoverLaws.{covers_itself}
 use Rattle.sk_decay.specs.Heads.{IsHead}
 use Rattle.sk_nodes.specs.declared.top.Top.{Top}
 use Rattle.sk_nodes.specs.declared.leaf.Leaf.{Leaf}
-use Rattle.sk_nodes.specs.Leaves.{list_in, entries_of, weighed, leaf_rest, head_of, AreLight, AtMost, IsLeafOn, IsLeafTop}
+use Rattle.sk_nodes.specs.Leaves.{entries_of, weighed, leaf_rest, head_of, AreLight, AtMost, IsLeafOn, IsLeafTop}
 use Rattle.sk_nodes.specs.Left.{from_on}
 use Rattle.sk_nodes.specs.Shapes.{leaf}
 use Rattle.sk_nodes.specs.Sound.{IsTop}

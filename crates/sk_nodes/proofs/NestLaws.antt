@@ -1,8 +1,8 @@
 -- How nests over terms are opened.
-use Rattle.std.proofs.Common.{◌≡◌, ◌≤◌, ◌<◌, ◌+◌, ◌-◌, ◌⊎◌, ◌++◌, ◌&&◌, ◌||◌, ℕ, min, cond, if◌then◌else◌, Bool, true, false, not, List, [], ◌∷◌, length, map, sum_by, slice_index_or, bytes_eq, is_some, Option, None, Some, inl, inr, refl, sym, subst, ap, ◌∙◌, arith}
+use Rattle.std.proofs.Common.{◌≡◌, ◌≤◌, ◌<◌, ◌+◌, ◌-◌, ◌⊎◌, ◌++◌, ◌||◌, ℕ, min, cond, if◌then◌else◌, Bool, true, false, not, List, [], ◌∷◌, length, map, sum_by, slice_index_or, bytes_eq, is_some, Option, None, Some, inl, inr, refl, sym, subst, ap, ◌∙◌, arith}
 use Rattle.std.specs.Option.{option_map}
 use Rattle.std.specs.List.{list_any, cons_option, AllByRecursion}
-use Rattle.std.proofs.lemmas.Bool.{cases_lt}
+use Rattle.std.proofs.lemmas.Bool.{cases_lt, and_parts}
 use Rattle.std.proofs.lemmas.List.Elements.{recursion_from_All}
 use Rattle.std.proofs.lemmas.List.Sums.{sum_by-cons}
 use mathlib.Core.Bool.{true≢false}
@@ -269,14 +269,10 @@ still_among f t (j ∷ ts) us apart among =
     let here = apart_from t j ts apart in
     ((λ some. still t j us here.0 (among.0 some)), still_among f t ts us here.1 among.1)
 
-both_true : (a b : Bool) → (a && b) ≡ true → (a ≡ true) × (b ≡ true)
-both_true true b e = (refl, e)
-both_true false b e = cc
-
 sum_among : (f : List ℕ → ℕ) (ts us : List (List ℕ)) → are_different ts ≡ true → AreAmong f ts us → sum_by f ts ≤ sum_by f us
 sum_among f [] us apart among = omega arith
 sum_among f (t ∷ ts) us apart among =
-    let here = both_true (not (list_any (λ other. bytes_eq t other) ts)) (are_different ts) apart in
+    let here = and_parts (not (list_any (λ other. bytes_eq t other) ts)) (are_different ts) apart in
     elim (cases_lt 0 (f t)) as (λ _. sum_by f (t ∷ ts) ≤ sum_by f us) [
       | inl some ↦
           let more = sum_among f ts (without t us) here.1 (still_among f t ts us here.0 among.1) in

@@ -171,6 +171,11 @@ head_reached target need head weight f g covers h lt =
     there : (o : Option ℕ) → o ≡ None → o ≡ Some weight → ⊥
     there o e g = cc
 
+-- what is none is no more than anything
+pub none_bound : (o : Option ℕ) (g : ℕ) → o ≡ None → unwrap_or o 0 ≤ g
+none_bound None g e = omega arith
+none_bound (Some v) g e = cc
+
 -- the top of two sides where they meet
 pub pair_top : (i : Indexed) (form : Form) (ta : Top) (a : Shape) (tb : Top) (b : Shape) (t : Top) → IsTop i ta a → IsTop i tb b
     → IsHead t.head t.weight (λ id. paired form (rest i a id) (rest i b id))
@@ -186,10 +191,6 @@ pair_top i form ta a tb b t first second h exact closed = record {
   closed = closed;
 }
   where
-    none_bound : (o : Option ℕ) (g : ℕ) → o ≡ None → unwrap_or o 0 ≤ g
-    none_bound None g e = omega arith
-    none_bound (Some v) g e = cc
-
     at_end : 2 ^ 32 ≤ t.head → t.head ≤ 2 ^ 32 → t.head ≡ 2 ^ 32
     at_end p q = omega (arith, p, q)
 
@@ -198,15 +199,11 @@ pub pair_top_ended : (i : Indexed) (form : Form) (ta : Top) (a : Shape) (tb : To
     → IsTop i (record { head = 2 ^ 32; weight = 0; greatest = 0 }) (pair form ta a tb b)
 pair_top_ended i form ta a tb b first led end = record {
   head = record { within = le_refl (2 ^ 32); below = λ id lt. gone id; at = λ lt. absurd (omega (arith, lt)); past = λ id le. gone id; ended = λ same. refl };
-  bound = λ id. none_bound (paired form (rest i a id) (rest i b id)) (gone id);
+  bound = λ id. none_bound (paired form (rest i a id) (rest i b id)) 0 (gone id);
   summed = λ lt. absurd (omega (arith, lt));
   closed = λ same. refl;
 }
   where
-    none_bound : (o : Option ℕ) → o ≡ None → unwrap_or o 0 ≤ 0
-    none_bound None e = omega arith
-    none_bound (Some v) e = cc
-
     at_end : 2 ^ 32 ≤ ta.head → ta.head ≤ 2 ^ 32 → ta.head ≡ 2 ^ 32
     at_end p q = omega (arith, p, q)
 

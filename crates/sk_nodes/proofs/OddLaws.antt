@@ -7,7 +7,7 @@ use Rattle.sk_query.specs.declared.form.Form.{Form}
 use Rattle.sk_model.specs.Combining.{either, sum_of_any, number_matching, where_so, is_odd, combined}
 use Rattle.sk_model.specs.Covers.{CoversAt, Covers}
 use Rattle.sk_model.proofs.CombiningLaws.{sum_of_any-append, number_matching-append}
-use Rattle.sk_model.proofs.CoverLaws.{covers_itself, covers_then}
+use Rattle.sk_model.proofs.CoverLaws.{covers_itself, covers_then, covers_exactly}
 use Rattle.sk_index.specs.Indexed.{Indexed}
 use Rattle.sk_decay.specs.Heads.{IsHead, NoneBelow, GoesOn}
 use Rattle.sk_nodes.specs.declared.top.Top.{Top}
@@ -21,7 +21,7 @@ use Rattle.sk_model.specs.Documents.{Document}
 use Rattle.sk_model.specs.Edits.{document_at}
 use Rattle.sk_nodes.specs.Odd.{AreSought, AreFrom, followed_by, weight_sum, IsTally}
 use Rattle.sk_nodes.proofs.LeafLaws.{from_on-at, from_on-below, from_cases, covers_none}
-use Rattle.sk_nodes.proofs.NodeLaws.{weight_le, goes_on_covers, IsHead-none}
+use Rattle.sk_nodes.proofs.NodeLaws.{weight_le, goes_on_covers, IsHead-none, none_bound}
 
 -- ---- an odd number
 
@@ -309,18 +309,12 @@ none_below i target (side t s ss) (side u r rs) id sought lt =
     either_none (rest i r id) (sum_of_any (rests i rs id)) (covers_none (from_on target (rest i s) id) (rest i r id) 0 (from_on-below target (rest i s) id lt) (sought.first id))
     (none_below i target ss rs id sought.others lt)
 
-exactly : (a b : Option ℕ) → CoversAt a b 0 → b ≡ a
-exactly None None h = refl
-exactly None (Some w) h = absurd h
-exactly (Some v) None h = absurd (omega (arith, h))
-exactly (Some v) (Some w) h = ap Some (h.1 (omega arith))
-
 pub same_from : (i : Indexed) (target : ℕ) (ss rs : Sides) (id : ℕ) → AreSought i target ss rs → target ≤ id → rests i rs id ≡ rests i ss id
 same_from i target no_sides no_sides id sought le = refl
 same_from i target no_sides (side u r rs) id sought le = absurd sought
 same_from i target (side t s ss) no_sides id sought le = absurd sought
 same_from i target (side t s ss) (side u r rs) id sought le =
-    let first : rest i r id ≡ rest i s id = exactly (from_on target (rest i s) id) (rest i r id) (sought.first id) ∙ from_on-at target (rest i s) id le in
+    let first : rest i r id ≡ rest i s id = covers_exactly (from_on target (rest i s) id) (rest i r id) (sought.first id) ∙ from_on-at target (rest i s) id le in
     let others : rests i rs id ≡ rests i ss id = same_from i target ss rs id sought.others le in
     ap (λ (xs : List (Option ℕ)). rest i r id ∷ xs) others ∙ ap (λ (o : Option ℕ). o ∷ rests i ss id) first
 
@@ -383,10 +377,6 @@ odd_top i ss t sound h exact closed = record {
   closed = closed;
 }
   where
-    none_bound : (o : Option ℕ) (g : ℕ) → o ≡ None → unwrap_or o 0 ≤ g
-    none_bound None g e = omega arith
-    none_bound (Some v) g e = cc
-
     at_end : 2 ^ 32 ≤ t.head → t.head ≤ 2 ^ 32 → t.head ≡ 2 ^ 32
     at_end p q = omega (arith, p, q)
 
@@ -402,4 +392,4 @@ opens_behind i ss rs us f g h m n most e scores sum some others = subst (λ (vs 
 
 -- sides that were moved on from 0 without a need
 pub odd_gives : (i : Indexed) (id : ℕ) (old new : Sides) → Covers (from_on 0 (rest i (odd old))) (rest i (odd new)) 0 → rest i (odd new) id ≡ combined Form.Xor (rests i old id)
-odd_gives i id old new covers = exactly (from_on 0 (rest i (odd old)) id) (rest i (odd new) id) (covers id) ∙ from_on-at 0 (rest i (odd old)) id (omega arith)
+odd_gives i id old new covers = covers_exactly (from_on 0 (rest i (odd old)) id) (rest i (odd new) id) (covers id) ∙ from_on-at 0 (rest i (odd old)) id (omega arith)

@@ -1,14 +1,15 @@
 -- What a nest of two-sided nodes makes of the scores of parts.
-use Rattle.std.proofs.Common.{◌≡◌, ◌≤◌, ◌<◌, ◌+◌, ◌^◌, ◌&&◌, ℕ, max, nat_le, Bool, true, false, List, [], ◌∷◌, ◌++◌, length, take, drop, Option, None, Some, All, is_some, is_none, unwrap_or, refl, sym, subst, ap, ◌∙◌, arith}
+use Rattle.std.proofs.Common.{◌≡◌, ◌≤◌, ◌<◌, ◌+◌, ◌^◌, ◌&&◌, ℕ, max, nat_le, true, false, List, [], ◌∷◌, ◌++◌, length, take, drop, Option, None, Some, All, is_some, is_none, unwrap_or, refl, sym, subst, ap, ◌∙◌, arith}
 use Rattle.std.proofs.lemmas.Bool.Decides.{nat_tests}
 use Rattle.std.proofs.lemmas.List.{take-append-drop}
+use Rattle.std.proofs.lemmas.Bool.{and_from, and_parts}
 use Rattle.sk_base.specs.declared.find.Scheme.{Scheme}
 use Rattle.sk_base.specs.Loads.{IsLight}
 use Rattle.sk_base.specs.Numbers.{Docs}
 use Rattle.sk_query.specs.declared.form.Form.{Form}
 use Rattle.sk_query.specs.declared.query.Query.{Query}
 use Rattle.sk_query.specs.Trees as Trees
-use Rattle.sk_query.specs.Trees.{query_view, queries_view, form_of, parts, no_trees, tree}
+use Rattle.sk_query.specs.Trees.{query_view, queries_view, parts, no_trees, tree}
 use Rattle.sk_query.specs.Fits.{is_sound, are_sound, has_parts, leaves_of, leaves_in, depth_of, fits_tree}
 use Rattle.sk_model.specs.Documents.{Document}
 use Rattle.sk_model.specs.Combining.{both, either, sum_of_all, sum_of_any, where_so, with_more, combined}
@@ -49,20 +50,12 @@ pub readings-joined : (ts us : Trees.Trees) (docs : Docs) → leaves_readings (j
 readings-joined no_trees us docs = omega arith
 readings-joined (tree t ts) us docs = let rest = readings-joined ts us docs in omega (arith, rest)
 
-both_true : (a b : Bool) → (a && b) ≡ true → (a ≡ true) × (b ≡ true)
-both_true true b e = (refl, e)
-both_true false b e = cc
-
-true_both : (a b : Bool) → a ≡ true → b ≡ true → (a && b) ≡ true
-true_both true b e f = f
-true_both false b e f = cc
-
 pub are_sound-joined : (ts us : Trees.Trees) (factor : ℕ) → are_sound factor (joined ts us) ≡ true → (are_sound factor ts ≡ true) × (are_sound factor us ≡ true)
 are_sound-joined no_trees us factor e = (refl, e)
 are_sound-joined (tree t ts) us factor e =
-    let here = both_true (is_sound factor t) (are_sound factor (joined ts us)) e in
+    let here = and_parts (is_sound factor t) (are_sound factor (joined ts us)) e in
     let rest = are_sound-joined ts us factor here.1 in
-    (true_both (is_sound factor t) (are_sound factor ts) here.0 rest.0, rest.1)
+    (and_from (is_sound factor t) (are_sound factor ts) here.0 rest.0, rest.1)
 
 -- ---- scores put together in two pieces
 
@@ -251,8 +244,8 @@ module _ (form : Form) (factor : ℕ) (ts fs bs : Trees.Trees) (e : ts ≡ joine
 
   pub split_fits : factor ≤ 65536 → (scheme : Scheme) (docs : Docs) → All IsLight docs → ceil_of form (ceils fs scheme factor docs) + ceil_of (others_of form) (ceils bs scheme factor docs) < 2 ^ 63
   split_fits small scheme docs light =
-      let first = ceil_small scheme docs light (parts form fs) factor (true_both (has_parts fs) (are_sound factor fs) (has_parts-some fs front_some) sounds.0) small split_front.leaves in
-      let second = ceil_small scheme docs light (parts (others_of form) bs) factor (true_both (has_parts bs) (are_sound factor bs) (has_parts-some bs back_some) sounds.1) small split_back.leaves in
+      let first = ceil_small scheme docs light (parts form fs) factor (and_from (has_parts fs) (are_sound factor fs) (has_parts-some fs front_some) sounds.0) small split_front.leaves in
+      let second = ceil_small scheme docs light (parts (others_of form) bs) factor (and_from (has_parts bs) (are_sound factor bs) (has_parts-some bs back_some) sounds.1) small split_back.leaves in
       omega (arith, first, second)
 
 -- ---- an and whose first part is put behind the others
@@ -300,7 +293,7 @@ module _ (form : Form) (factor : ℕ) (ts : Trees.Trees) (n : ℕ) (e : is_nest 
 
   pub odd_fits : AreParts form factor ts → factor ≤ 65536 → (scheme : Scheme) (docs : Docs) → All IsLight docs → sum_in (ceils ts scheme factor docs) < 2 ^ 63
   odd_fits are small scheme docs light =
-      let whole = ceil_small scheme docs light (parts Form.Xor ts) factor (true_both (has_parts ts) (are_sound factor ts) (has_parts-some ts are.some) are.sound) small are.leaves in
+      let whole = ceil_small scheme docs light (parts Form.Xor ts) factor (and_from (has_parts ts) (are_sound factor ts) (has_parts-some ts are.some) are.sound) small are.leaves in
       omega (arith, whole)
 
 -- ---- an or of several parts
@@ -321,15 +314,15 @@ module _ (form : Form) (factor : ℕ) (ts : Trees.Trees) (e : form ≡ Form.Or) 
 
   pub or_fits : AreParts form factor ts → factor ≤ 65536 → (scheme : Scheme) (docs : Docs) → All IsLight docs → sum_in (ceils ts scheme factor docs) < 2 ^ 63
   or_fits are small scheme docs light =
-      let whole = ceil_small scheme docs light (parts Form.Or ts) factor (true_both (has_parts ts) (are_sound factor ts) (has_parts-some ts are.some) are.sound) small are.leaves in
+      let whole = ceil_small scheme docs light (parts Form.Or ts) factor (and_from (has_parts ts) (are_sound factor ts) (has_parts-some ts are.some) are.sound) small are.leaves in
       omega (arith, whole)
 
 -- ---- the whole query
 
 pub fits_ceil : (t : Trees.Tree) (scheme : Scheme) (docs : Docs) → fits_tree t ≡ true → All IsLight docs → ceil t scheme 1 docs ≤ 2 ^ 55
 fits_ceil t scheme docs fits light =
-    let front = both_true (is_sound 1 t && nat_le (leaves_of t) 1024) (nat_le (depth_of t) 1000) fits in
-    let sounds = both_true (is_sound 1 t) (nat_le (leaves_of t) 1024) front.0 in
+    let front = and_parts (is_sound 1 t && nat_le (leaves_of t) 1024) (nat_le (depth_of t) 1000) fits in
+    let sounds = and_parts (is_sound 1 t) (nat_le (leaves_of t) 1024) front.0 in
     ceil_small scheme docs light t 1 sounds.0 (omega arith) (at_most (leaves_of t) 1024 sounds.1)
   where
     at_most : (m n : ℕ) → nat_le m n ≡ true → m ≤ n

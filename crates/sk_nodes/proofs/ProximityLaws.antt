@@ -4,12 +4,13 @@ use mathlib.Core.Bool.{true≢false}
 use Rattle.std.specs.List.{AllByRecursion}
 use Rattle.std.proofs.lemmas.Bool.{cases_lt}
 use Rattle.std.proofs.lemmas.List.Elements.{All-from_recursion}
+use Rattle.sk_nodes.proofs.StandingLaws.{from_zero}
 use Rattle.sk_sorted.specs.Entries.{RiseAbove, from, found, has}
 use Rattle.sk_sorted.proofs.EntryLaws.{from-below, from-at, found-other, found-below}
 use Rattle.sk_chunks.specs.Postings.{Postings}
 use Rattle.sk_model.specs.Combining.{where_so}
 use Rattle.sk_model.specs.Covers.{CoversAt, Covers}
-use Rattle.sk_model.proofs.CoverLaws.{covers_itself, covers_then}
+use Rattle.sk_model.proofs.CoverLaws.{covers_itself, covers_then, covers_exactly}
 use Rattle.sk_index.specs.Indexed.{Indexed}
 use Rattle.sk_decay.specs.Heads.{IsHead}
 use Rattle.sk_nodes.specs.declared.top.Top.{Top}
@@ -21,7 +22,7 @@ use Rattle.sk_nodes.specs.Proximity.{stand, positions_at, holds, entries_from, A
 use Rattle.sk_nodes.specs.Sound.{IsTop, IsTested, Sound}
 use Rattle.sk_nodes.proofs.LeafLaws.{from_on-at, from_on-none, covers_none}
 use Rattle.sk_nodes.specs.Skips.{IsLight}
-use Rattle.sk_nodes.proofs.NodeLaws.{IsHead-none, light_goes, goes_on_light, ended_top}
+use Rattle.sk_nodes.proofs.NodeLaws.{IsHead-none, light_goes, goes_on_light, ended_top, none_bound}
 
 -- ---- what passes a test
 
@@ -262,17 +263,13 @@ none_top i p t s none = record {
     past = λ id le. gone id;
     ended = λ same. refl;
   };
-  bound = λ id. zero (rest i (tested p t s) id) (gone id);
+  bound = λ id. none_bound (rest i (tested p t s) id) 0 (gone id);
   summed = λ lt. omega arith;
   closed = λ end. refl;
 }
   where
     gone : (id : ℕ) → rest i (tested p t s) id ≡ None
     gone id = ap (where_so (holds i p id)) (none id) ∙ where_none (holds i p id)
-
-    zero : (o : Option ℕ) → o ≡ None → unwrap_or o 0 ≤ 0
-    zero None e = omega arith
-    zero (Some v) e = cc
 
 pub ended_none : (i : Indexed) (t : Top) (s : Shape) → IsTop i t s → 2 ^ 32 ≤ t.head → (id : ℕ) → rest i s id ≡ None
 ended_none i t s top le id =
@@ -324,10 +321,6 @@ there_all i ns there = All-from_recursion (λ n. n < length i.terms) ns (by ns t
 
 -- ---- lengths, one by one
 
-from_zero : (es : Postings) → from 0 es ≡ es
-from_zero [] = refl
-from_zero (e ∷ es) = from-at 0 e es (omega arith)
-
 pub lengths_next : (i : Indexed) (ns : List ℕ) (k n most more start : ℕ) → drop k ns ≡ n ∷ drop (k + 1) ns → more ≡ most + length (list_in i (Some n)) → most + entries_from i 0 (drop k ns) ≡ start
     → more + entries_from i 0 (drop (k + 1) ns) ≡ start
 lengths_next i ns k n most more start e f before =
@@ -337,14 +330,8 @@ lengths_next i ns k n most more start e f before =
 
 -- ---- without a need
 
-exactly : (a b : Option ℕ) → CoversAt a b 0 → b ≡ a
-exactly None None h = refl
-exactly None (Some w) h = absurd h
-exactly (Some v) None h = absurd (omega (arith, h))
-exactly (Some v) (Some w) h = ap Some (h.1 (omega arith))
-
 -- a test that was moved on from 0 without a need gives what passes it
 pub tested_gives : (i : Indexed) (p q : Proximity) (t u : Top) (s r : Shape) (node : Shape) (id : ℕ) → Covers (from_on 0 (rest i (tested p t s))) (rest i (tested q u r)) 0 → node ≡ tested q u r
     → rest i node id ≡ where_so (holds i p id) (rest i s id)
 tested_gives i p q t u s r node id covers e =
-    ap (λ (n : Shape). rest i n id) e ∙ exactly (from_on 0 (rest i (tested p t s)) id) (rest i (tested q u r) id) (covers id) ∙ from_on-at 0 (rest i (tested p t s)) id (omega arith)
+    ap (λ (n : Shape). rest i n id) e ∙ covers_exactly (from_on 0 (rest i (tested p t s)) id) (rest i (tested q u r) id) (covers id) ∙ from_on-at 0 (rest i (tested p t s)) id (omega arith)

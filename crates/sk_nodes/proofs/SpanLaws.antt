@@ -1,15 +1,14 @@
 -- The values of a slot that lie in a range, as what documents score.
-use Rattle.std.proofs.Common.{◌≡◌, ◌<◌, ◌≤◌, ◌+◌, ◌^◌, ℕ, Bool, true, false, not, cond, if◌then◌else◌, ◌||◌, ◌&&◌, ◌==◌, nat_lt, List, [], ◌∷◌, length, Option, Some, None, unwrap_or, option_map, inl, inr, refl, sym, subst, ap, ◌∙◌, arith, rules, true≢false}
+use Rattle.std.proofs.Common.{◌≡◌, ◌<◌, ◌≤◌, ◌^◌, ℕ, Bool, true, false, not, cond, if◌then◌else◌, ◌&&◌, nat_lt, List, [], ◌∷◌, length, Option, Some, None, unwrap_or, option_map, inl, inr, refl, sym, subst, ap, ◌∙◌, arith, rules, true≢false}
 use Rattle.std.specs.List.{cons_option}
-use Rattle.std.specs.Cmp.{upto}
-use Rattle.std.specs.Cmp.Lexicographic.{slice_cmp, nat_list_cmp_total}
+use Rattle.std.specs.Cmp.Lexicographic.{slice_cmp}
 use Rattle.std.specs.Ordering.{nat_cmp, is_le}
 use Rattle.std.proofs.lemmas.Bool.{cases_eq}
-use Rattle.std.proofs.lemmas.List.Sums.{sum_by-cons}
+use Rattle.sk_base.proofs.Tests.{first_so}
 use Rattle.sk_base.specs.declared.doc_entry.SlotValue.{SlotValue}
 use Rattle.sk_base.specs.declared.find.Scheme.{Scheme}
 use Rattle.sk_base.specs.Documents.{value_in, has_value}
-use Rattle.sk_base.specs.Numbers.{Docs, slot_length_of}
+use Rattle.sk_base.specs.Numbers.{Docs}
 use Rattle.sk_sorted.specs.Entries.{RiseAbove, LieBelow, AreSorted, found, from, first_id}
 use Rattle.sk_sorted.proofs.EntryLaws.{RiseAbove-lower, found-here, found-other, found-below}
 use Rattle.sk_runs.specs.Runs.{flat}
@@ -23,7 +22,7 @@ use Rattle.sk_model.specs.Edits.{document_at}
 use Rattle.sk_model.specs.Weights.{weigh_by}
 use Rattle.sk_model.specs.Scores.{weight_if}
 use Rattle.sk_model.specs.Covers.{Covers}
-use Rattle.sk_model.proofs.StaticLaws.{le_not_gt, not_gt_le}
+use Rattle.sk_model.proofs.StaticLaws.{from_through, valued}
 use Rattle.sk_index.specs.Indexed.{Indexed, pieces_in, slot_values}
 use Rattle.sk_decay.specs.Heads.{IsHead}
 use Rattle.sk_nodes.specs.declared.top.Top.{Top}
@@ -115,19 +114,6 @@ sorted_slot slot docs sorted = record { rise = rise_slot slot 0 docs sorted.rise
 
 -- ---- documents whose value lies in the range
 
--- a value that is not empty stands in its slot
-valued : (slot : ℕ) (values : List SlotValue) → nat_lt 0 (length (value_in slot values)) ≡ true → has_value slot values ≡ true
-valued slot [] e = absurd (true≢false (sym e))
-valued slot (one ∷ more) e =
-    elim (one.slot == slot) as (λ b. nat_lt 0 (length (if b then one.value else value_in slot more)) ≡ true → (b || has_value slot more) ≡ true) [
-      | true ↦ λ h. refl
-      | false ↦ λ h. valued slot more h
-    ] e
-
-first_so : (a b : Bool) → (a && b) ≡ true → a ≡ true
-first_so true b e = refl
-first_so false b e = cc
-
 valued_within : (lo hi : Option (List ℕ)) (slot : ℕ) (values : List SlotValue) → is_within lo hi (value_in slot values) ≡ true → has_value slot values ≡ true
 valued_within lo hi slot values e = valued slot values (first_so (nat_lt 0 (length (value_in slot values))) (is_from lo (value_in slot values) && is_to hi (value_in slot values)) e)
 
@@ -188,21 +174,7 @@ pub range_live : (lo hi : Option (List ℕ)) (slot id : ℕ) (docs : Docs) → A
 range_live lo hi slot id docs sorted none =
     weighed-none 0 Scheme.Bool id (unweighed (in_range lo hi (slot_values slot docs))) (range_found lo hi slot 0 id docs sorted.rise ∙ ap (range_at lo hi slot) none)
 
-counted : {P : Type 0} (b : Bool) (p : P) (ps : List P) (n : ℕ) → length ps ≡ n → length (cons_option (if b then Some p else None) ps) ≡ cond b 1 0 + n
-counted true p ps n e = omega (arith, e)
-counted false p ps n e = omega (arith, e)
-
-pub length-slot : (slot : ℕ) (docs : Docs) → length (slot_values slot docs) ≡ slot_length_of slot docs
-length-slot slot [] = refl
-length-slot slot (one ∷ more) =
-    counted (has_value slot one.1.values) (one.0, value_in slot one.1.values) (slot_values slot more) (slot_length_of slot more) (length-slot slot more)
-    ∙ sym (sum_by-cons (λ (x : ℕ × Document). cond (has_value slot x.1.values) 1 0) one more)
-
 -- ---- ends that are crossed
-
-from_through : (lo : Option (List ℕ)) (v b : List ℕ) → is_from lo v ≡ true → is_le (slice_cmp nat_cmp v b) ≡ true → is_from lo b ≡ true
-from_through None v b h g = refl
-from_through (Some lo) v b h g = not_gt_le (slice_cmp nat_cmp lo b) (upto nat_list_cmp_total lo v b (le_not_gt (slice_cmp nat_cmp lo v) h) (le_not_gt (slice_cmp nat_cmp v b) g))
 
 crossed_none : (lo hi : Option (List ℕ)) (v : List ℕ) → is_crossed lo hi ≡ true → is_within lo hi v ≡ false
 crossed_none lo None v e = absurd (true≢false (sym e))

@@ -1,8 +1,8 @@
 -- Terms that stand near or as a phrase are an and of them, and a test.
-use Rattle.std.proofs.Common.{◌≡◌, ◌≢◌, ◌⊎◌, ◌≤◌, ◌<◌, ◌+◌, ◌^◌, ◌&&◌, ◌||◌, ℕ, Bool, true, false, List, [], ◌∷◌, ◌++◌, length, map, filter, cond, Option, None, Some, is_some, refl, sym, subst, ap, ◌∙◌, arith, if◌then◌else◌, inl, inr}
+use Rattle.std.proofs.Common.{◌≡◌, ◌≢◌, ◌⊎◌, ◌≤◌, ◌<◌, ◌+◌, ◌&&◌, ℕ, Bool, true, false, List, [], ◌∷◌, length, map, cond, Option, None, Some, is_some, refl, sym, subst, ap, ◌∙◌, arith, if◌then◌else◌, inl, inr}
 use mathlib.Core.Bool.{true≢false}
 use Rattle.std.specs.List.{list_all}
-use Rattle.std.proofs.lemmas.Bool.{cases_eq}
+use Rattle.std.proofs.lemmas.Bool.{cases_eq, and_from, and_parts, or_parts}
 use Rattle.std.proofs.lemmas.Bool.Decides.{nat_tests}
 use Rattle.sk_base.specs.declared.find.Scheme.{Scheme}
 use Rattle.sk_base.specs.declared.doc_entry.DocTerm.{DocTerm}
@@ -37,24 +37,16 @@ use Rattle.sk_nodes.proofs.ListLaws.{wdf_at, found-postings}
 
 -- ---- terms as parts
 
-both_true : (a b : Bool) → (a && b) ≡ true → (a ≡ true) × (b ≡ true)
-both_true true b e = (refl, e)
-both_true false b e = cc
-
-true_both : (a b : Bool) → a ≡ true → b ≡ true → (a && b) ≡ true
-true_both true b e f = f
-true_both false b e f = cc
-
 given_sound : (factor : ℕ) (ts : List (List ℕ)) → list_all is_given ts ≡ true → are_sound factor (term_trees ts) ≡ true
 given_sound factor [] e = refl
-given_sound factor (t ∷ ts) e = let here = both_true (is_given t) (list_all is_given ts) e in true_both (is_given t) (are_sound factor (term_trees ts)) here.0 (given_sound factor ts here.1)
+given_sound factor (t ∷ ts) e = let here = and_parts (is_given t) (list_all is_given ts) e in and_from (is_given t) (are_sound factor (term_trees ts)) here.0 (given_sound factor ts here.1)
 
 pub terms_some : (window : ℕ) (ts : List (List ℕ)) → (is_window window && are_given ts) ≡ true → 1 ≤ length ts
-terms_some window [] e = absurd (true≢false (sym (both_true (is_window window) false e).1))
+terms_some window [] e = absurd (true≢false (sym (and_parts (is_window window) false e).1))
 terms_some window (t ∷ ts) e = omega arith
 
 pub terms_wide : (window : ℕ) (ts : List (List ℕ)) → (is_window window && are_given ts) ≡ true → 1 ≤ window
-terms_wide window ts e = least (both_true (is_window window) (are_given ts) e).0
+terms_wide window ts e = least (and_parts (is_window window) (are_given ts) e).0
   where
     least : is_window window ≡ true → 1 ≤ window
     least e = grind (arith, nat_tests)
@@ -89,7 +81,7 @@ terms_are factor window ts e few = record {
     sound : (ts : List (List ℕ)) → (is_window window && are_given ts) ≡ true → are_sound factor (term_trees ts) ≡ true
     sound [] e = refl
     sound (t ∷ ts) e =
-        given_sound factor (t ∷ ts) (both_true (Rattle.std.proofs.Common.nat_lt 0 (length (t ∷ ts))) (list_all is_given (t ∷ ts)) (both_true (is_window window) (are_given (t ∷ ts)) e).1).1
+        given_sound factor (t ∷ ts) (and_parts (Rattle.std.proofs.Common.nat_lt 0 (length (t ∷ ts))) (list_all is_given (t ∷ ts)) (and_parts (is_window window) (are_given (t ∷ ts)) e).1).1
 
 -- ---- scores
 
@@ -188,10 +180,6 @@ some_number i t e = by (number_of t i.terms) refl
     by None g = refl
     by (Some n) g = absurd (true≢false (sym (ap is_some g) ∙ e))
 
-none_parts : (a b : Bool) → (a || b) ≡ false → (a ≡ false) × (b ≡ false)
-none_parts true b e = cc
-none_parts false b e = (refl, e)
-
 none_step : (t : List ℕ) (one : ℕ × Document) (more : Docs) (id : ℕ) (d : Document) → has_term t one.1.terms ≡ false → document_at id (one ∷ more) ≡ Some d → (document_at id more ≡ Some d → has_term t d.terms ≡ false)
     → has_term t d.terms ≡ false
 none_step t one more id d none e rest = by (cases_eq one.0 id)
@@ -209,7 +197,7 @@ has_none t [] id d none e = absurd (some_not_none d e)
     some_not_none : (d : Document) → None ≡ Some d → ⊥
     some_not_none d e = cc
 has_none t (one ∷ more) id d none e =
-    let parts = none_parts (has_term t one.1.terms) (some_has t more) none in
+    let parts = or_parts (has_term t one.1.terms) (some_has t more) none in
     none_step t one more id d parts.0 e (λ f. has_none t more id d parts.1 f)
 
 -- terms that a document has all have a number
@@ -270,7 +258,7 @@ all_numbered i ns ts e le = e ∙ numbered_all i ts (omega (arith, ap length e, 
 
 -- ---- lengths
 
-from_zero : (es : Postings) → from 0 es ≡ es
+pub from_zero : (es : Postings) → from 0 es ≡ es
 from_zero [] = refl
 from_zero (e ∷ es) = from-at 0 e es (omega arith)
 

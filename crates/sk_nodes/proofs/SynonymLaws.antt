@@ -1,5 +1,5 @@
 -- Terms that count as one, two by two.
-use Rattle.std.proofs.Common.{◌≡◌, ◌≤◌, ◌<◌, ◌+◌, ◌-◌, ◌*◌, ◌^◌, ◌||◌, ◌&&◌, ℕ, suc, min, nat_lt, take, drop, slice_index_or, Bool, true, false, not, cond, List, [], ◌∷◌, ◌++◌, length, map, sum_by, bytes_eq, All, AllPairs, Option, None, Some, is_some, unwrap_or, refl, sym, subst, ap, ◌∙◌, arith}
+use Rattle.std.proofs.Common.{◌≡◌, ◌≤◌, ◌<◌, ◌+◌, ◌-◌, ◌*◌, ◌^◌, ◌||◌, ℕ, suc, min, nat_lt, take, drop, slice_index_or, Bool, true, false, not, cond, List, [], ◌∷◌, ◌++◌, length, map, sum_by, bytes_eq, All, AllPairs, Option, None, Some, is_some, unwrap_or, refl, sym, subst, ap, ◌∙◌, arith}
 use mathlib.Core.Bool.{true≢false}
 use Rattle.std.specs.List.{list_any, AllByRecursion}
 use Rattle.std.specs.Cmp.Lexicographic.{bytes_decides}
@@ -7,7 +7,8 @@ use Rattle.std.proofs.lemmas.Bool.Decides.{nat_tests}
 use Rattle.std.proofs.lemmas.List.Elements.{recursion_from_All}
 use Rattle.std.proofs.lemmas.List.Folds.{list_any-append}
 use Rattle.std.proofs.lemmas.List.Sums.{sum_by-cons}
-use Rattle.std.proofs.lemmas.List.{take-append-drop}
+use Rattle.std.proofs.lemmas.List.{take-append-drop, map-append}
+use Rattle.std.proofs.lemmas.Bool.{and_from, and_parts}
 use Rattle.sk_base.specs.declared.find.Scheme.{Scheme}
 use Rattle.sk_base.specs.declared.doc_entry.DocTerm.{DocTerm}
 use Rattle.sk_base.specs.Documents.{has_term, wdf_of}
@@ -131,21 +132,9 @@ synonym_small scheme factor ts docs small =
 halves : (ns fs bs : List ℕ) (n : ℕ) → fs ≡ take n ns → bs ≡ drop n ns → ns ≡ fs ++ bs
 halves ns fs bs n e f = sym (take-append-drop n ns) ∙ (λ i. sym e i ++ sym f i)
 
-named-append : (f : ℕ → List ℕ) (fs bs : List ℕ) → map f (fs ++ bs) ≡ map f fs ++ map f bs
-named-append f [] bs = refl
-named-append f (n ∷ fs) bs = ap (λ (ts : List (List ℕ)). f n ∷ ts) (named-append f fs bs)
-
 there-append : (i : Indexed) (fs bs : List ℕ) → AreThere i (fs ++ bs) → AreThere i fs × AreThere i bs
 there-append i [] bs there = (tt, there)
 there-append i (n ∷ fs) bs there = let more = there-append i fs bs there.1 in ((there.0, more.0), more.1)
-
-both_so : (a b : Bool) → (a && b) ≡ true → (a ≡ true) × (b ≡ true)
-both_so true b e = (refl, e)
-both_so false b e = cc
-
-so_both : (a b : Bool) → a ≡ true → b ≡ true → (a && b) ≡ true
-so_both true b e f = f
-so_both false b e f = cc
 
 fewer : (a b : Bool) → not (a || b) ≡ true → (not a ≡ true) × (not b ≡ true)
 fewer true b e = cc
@@ -154,17 +143,17 @@ fewer false b e = (refl, e)
 apart-append : (xs ys : List (List ℕ)) → are_different (xs ++ ys) ≡ true → (are_different xs ≡ true) × (are_different ys ≡ true)
 apart-append [] ys e = (refl, e)
 apart-append (x ∷ xs) ys e =
-    let here = both_so (not (list_any (λ other. bytes_eq x other) (xs ++ ys))) (are_different (xs ++ ys)) e in
+    let here = and_parts (not (list_any (λ other. bytes_eq x other) (xs ++ ys))) (are_different (xs ++ ys)) e in
     let more = apart-append xs ys here.1 in
     let first = fewer (list_any (λ other. bytes_eq x other) xs) (list_any (λ other. bytes_eq x other) ys) (ap not (sym (list_any-append (λ other. bytes_eq x other) xs ys)) ∙ here.0) in
-    (so_both (not (list_any (λ other. bytes_eq x other) xs)) (are_different xs) first.0 more.0, more.1)
+    (and_from (not (list_any (λ other. bytes_eq x other) xs)) (are_different xs) first.0 more.0, more.1)
 
 module _ (i : Indexed) (ns fs bs : List ℕ) (n : ℕ) (e : fs ≡ take n ns) (f : bs ≡ drop n ns) where
   whole : ns ≡ fs ++ bs
   whole = halves ns fs bs n e f
 
   pub halves_named : map (term_at i.terms) ns ≡ map (term_at i.terms) fs ++ map (term_at i.terms) bs
-  halves_named = ap (map (term_at i.terms)) whole ∙ named-append (term_at i.terms) fs bs
+  halves_named = ap (map (term_at i.terms)) whole ∙ map-append (term_at i.terms) fs bs
 
   pub halves_there : AreThere i ns → AreThere i fs × AreThere i bs
   halves_there there = there-append i fs bs (subst (λ (xs : List ℕ). AreThere i xs) whole there)
@@ -325,17 +314,17 @@ numbered_fewer i t (u ∷ ts) e =
     fewer_step (is_some (number_of u i.terms)) u (numbered i ts) (λ other. bytes_eq t other) here.0 (numbered_fewer i t ts here.1)
 
 apart_step : (b : Bool) (t : List ℕ) (us : List (List ℕ)) → not (list_any (λ other. bytes_eq t other) us) ≡ true → are_different us ≡ true → are_different (cond b (t ∷ us) us) ≡ true
-apart_step true t us e more = so_both (not (list_any (λ other. bytes_eq t other) us)) (are_different us) e more
+apart_step true t us e more = and_from (not (list_any (λ other. bytes_eq t other) us)) (are_different us) e more
 apart_step false t us e more = more
 
 pub numbered_apart : (i : Indexed) (ts : List (List ℕ)) → are_different ts ≡ true → are_different (numbered i ts) ≡ true
 numbered_apart i [] e = refl
 numbered_apart i (t ∷ ts) e =
-    let here = both_so (not (list_any (λ other. bytes_eq t other) ts)) (are_different ts) e in
+    let here = and_parts (not (list_any (λ other. bytes_eq t other) ts)) (are_different ts) e in
     apart_step (is_some (number_of t i.terms)) t (numbered i ts) (numbered_fewer i t ts here.0) (numbered_apart i ts here.1)
 
 pub synonym_apart : (factor : ℕ) (query : Trees.Tree) (ts : List (List ℕ)) → query ≡ Trees.synonym ts → is_sound factor query ≡ true → are_different ts ≡ true
-synonym_apart factor query ts e sound = (both_so (are_given ts) (are_different ts) (ap (is_sound factor) (sym e) ∙ sound)).1
+synonym_apart factor query ts e sound = (and_parts (are_given ts) (are_different ts) (ap (is_sound factor) (sym e) ∙ sound)).1
 
 pub synonym_at_most : (i : Indexed) (query : Trees.Tree) (ts : List (List ℕ)) (scheme : Scheme) (factor : ℕ) → query ≡ Trees.synonym ts → is_sound factor query ≡ true → All IsLight i.live.documents
     → (id : ℕ) → unwrap_or (score_of query scheme factor (document_at id i.live.documents)) 0 ≤ ceil query scheme factor i.live.documents
@@ -388,7 +377,7 @@ wild_fewer f n (m ∷ ms) all = neither (bytes_eq (f n) (f m)) (list_any (λ oth
 pub wild_apart : (f : ℕ → List ℕ) (ns : List ℕ) → AllPairs (λ m n. Precedes (f m) (f n)) ns → are_different (map f ns) ≡ true
 wild_apart f [] rising = refl
 wild_apart f (n ∷ ns) rising =
-    so_both (not (list_any (λ other. bytes_eq (f n) other) (map f ns))) (are_different (map f ns))
+    and_from (not (list_any (λ other. bytes_eq (f n) other) (map f ns))) (are_different (map f ns))
     (wild_fewer f n ns (recursion_from_All (λ m. Precedes (f n) (f m)) ns (λ j d lt. rising 0 (suc j) d (omega arith) (omega arith))))
     (wild_apart f ns (λ j k d lt more. rising (suc j) (suc k) d (omega arith) (omega arith)))
 

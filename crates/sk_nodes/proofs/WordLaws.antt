@@ -1,7 +1,7 @@
 -- Words one by one: their numbers, and as queries.
 use Rattle.std.proofs.Common.{◌≡◌, ◌<◌, ◌≤◌, ◌+◌, ℕ, zero, suc, cond, List, [], ◌∷◌, ◌++◌, map, length, drop, get_or, is_some, None, Some, refl, sym, subst, ap, ◌∙◌, arith}
 use Rattle.std.proofs.Math.Seq.{drop-cons}
-use Rattle.std.proofs.lemmas.List.{append-nil}
+use Rattle.std.proofs.lemmas.List.{append-nil, append_assoc, map-append}
 use Rattle.sk_dict.specs.Terms.{term_at, number_of}
 use Rattle.sk_query.specs.declared.query.Query.{Query}
 use Rattle.sk_query.specs.Trees as Trees
@@ -23,14 +23,6 @@ cut_at {X} xs k d lt =
 
 -- ---- numbers
 
-assoc : {X : Type 0} (xs ys zs : List X) → (xs ++ ys) ++ zs ≡ xs ++ (ys ++ zs)
-assoc [] ys zs = refl
-assoc {X} (x ∷ xs) ys zs = ap (λ (ws : List X). x ∷ ws) (assoc xs ys zs)
-
-named-append : (f : ℕ → List ℕ) (ms ns : List ℕ) → map f (ms ++ ns) ≡ map f ms ++ map f ns
-named-append f [] ns = refl
-named-append f (m ∷ ms) ns = ap (λ (ts : List (List ℕ)). f m ∷ ts) (named-append f ms ns)
-
 there-more : (i : Indexed) (ns : List ℕ) (n : ℕ) → AreThere i ns → n < length i.terms → AreThere i (ns ++ n ∷ [])
 there-more i [] n there lt = (lt, tt)
 there-more i (m ∷ ns) n there lt = (there.0, there-more i ns n there.1 lt)
@@ -49,8 +41,8 @@ pub found_next : (i : Indexed) (ws : List (List ℕ)) (k : ℕ) (w : List ℕ) (
     → map (term_at i.terms) ns ++ numbered i (drop k ws) ≡ numbered i ws → map (term_at i.terms) ms ++ numbered i (drop (k + 1) ws) ≡ numbered i ws
 found_next i ws k w ns ms n lt is e found named before =
     ap (λ (xs : List ℕ). map (term_at i.terms) xs ++ numbered i (drop (k + 1) ws)) e
-    ∙ ap (λ (ts : List (List ℕ)). ts ++ numbered i (drop (k + 1) ws)) (named-append (term_at i.terms) ns (n ∷ []))
-    ∙ assoc (map (term_at i.terms) ns) (term_at i.terms n ∷ []) (numbered i (drop (k + 1) ws))
+    ∙ ap (λ (ts : List (List ℕ)). ts ++ numbered i (drop (k + 1) ws)) (map-append (term_at i.terms) ns (n ∷ []))
+    ∙ append_assoc (map (term_at i.terms) ns) (term_at i.terms n ∷ []) (numbered i (drop (k + 1) ws))
     ∙ ap (λ (t : List ℕ). map (term_at i.terms) ns ++ (t ∷ numbered i (drop (k + 1) ws))) named
     ∙ ap (λ (ts : List (List ℕ)). map (term_at i.terms) ns ++ ts) (sym (kept i w n (drop (k + 1) ws) found) ∙ ap (numbered i) (sym (cut ws k w lt is)))
     ∙ before

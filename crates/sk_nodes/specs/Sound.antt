@@ -37,7 +37,7 @@ pub record IsOdd (ss : Sides) (A : Type 0) : Type 0 where
   pub sides : A
   pub fits : greatest_sum ss < 2 ^ 63
 
--- A test of what a node gives, which has all the terms, with its top, by what holds of it. Each document before `next` was tested: where the node stands before that, the terms stand so.
+-- A test of what a node gives, which has all the terms, with its top, by what holds of it. No document before `next` is read any more: where the node stands before that, the terms stand so.
 pub record IsTested (i : Indexed) (p : Proximity) (t : Top) (s : Shape) (A : Type 0) : Type 0 where
   pub test : CanTest i p
   pub top : IsTop i t s

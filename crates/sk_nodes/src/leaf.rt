@@ -14,15 +14,12 @@ ghost use Rattle.sk_nodes.specs.OpenedLed.{OpensLone};
 ghost use Rattle.sk_nodes.specs.OpenedFading.{Begins};
 
 use crate::top::{END, Top};
-use sk_base::Scheme;
+use sk_base::{MOST_WDF, Scheme};
 use sk_index::Index;
 use sk_lists::{Cursor, List};
 use sk_steps::Steps;
 use sk_weight::{need_wdf, weigh_by};
 use std::sync::ledger::Ledger;
-
-// Each wdf is less.
-const WDFS: u32 = 536_870_912;
 
 /// The list of a term by its number, or of all documents. The need and what wdf it comes to are those of the last seek.
 #[derive(Drop)]
@@ -177,7 +174,7 @@ impl Leaf {
         }
     }
 
-    // The least wdf that weighs what is needed, worked out anew for a new need.
+    /// The least wdf that weighs what is needed, worked out anew for a new need.
     fn wdf_for(&self, need: u64) -> u32
         requires factor { self.now.factor ≤ 65536 }
         requires light { AreLight self.now.factor self.now.scheme self.now.need_wdf self.now.need }
@@ -188,11 +185,11 @@ impl Leaf {
         }
         match need_wdf(self.scheme, self.factor, need) {
             Some(least) => least,
-            None => WDFS,
+            None => MOST_WDF + 1,
         }
     }
 
-    // Writes the head and its weight. What it can weigh is nothing at the end, and stays before that.
+    /// Writes the head and its weight. What it can weigh is nothing at the end, and stays before that.
     #[inline(always)]
     fn point(&self, top: &mut Top)
         requires { self.now.factor ≤ 65536 }
@@ -211,7 +208,7 @@ impl Leaf {
         }
     }
 
-    // Writes where it stands.
+    /// Writes where it stands.
     fn show(&self, top: &mut Top)
         requires { self.now.factor ≤ 65536 }
         ensures top { (i : Indexed) → IsLeafOn i self.now → IsLeafTop i top.new self.now }
@@ -234,7 +231,7 @@ impl Leaf {
     }
 }
 
-// What the entries of a list can weigh.
+/// What the entries of a list can weigh.
 fn greatest_of(list: &List, scheme: Scheme, factor: u64) -> u64
     requires { factor ≤ 65536 }
     ensures { result ≡ leaf_greatest factor scheme (flat list.now) }
@@ -254,7 +251,7 @@ pub(crate) fn list_length(index: &Index, number: Option<usize>) -> u32
     list_of(index, number).length()
 }
 
-// The list.
+/// The list.
 fn list_of(index: &Index, number: Option<usize>) -> &List
     requires { IsThere number index.now.terms }
     ensures runs { result.now ≡ runs_in index.now number }

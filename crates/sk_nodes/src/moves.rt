@@ -68,7 +68,7 @@ pub(crate) fn reach<L: Ledger>(
     }
 }
 
-// Leaves nothing of a node.
+/// Leaves nothing of a node.
 #[inline(never)]
 fn give_up(top: &mut Top, node: &mut Node)
     ensures node { node.new ≡ Node.Nothing }
@@ -295,7 +295,7 @@ fn seek_sides<L: Ledger>(
     }
 }
 
-// What a node of two sides can weigh: nothing at the end.
+/// What a node of two sides can weigh: nothing at the end.
 fn greatest_at(form: Form, head: u64, a: u64, b: u64) -> u64
     requires { a + b < 2 ^ 63 }
     ensures there { head < 2 ^ 32 → result ≡ greatest_under form a b }

@@ -41,7 +41,7 @@ pub(crate) fn settle(node: &mut Node, index: &Index, need: u64)
     decay(node, index, need);
 }
 
-// Neither side has ended, or weighs too little for the form.
+/// Neither side has ended, or weighs too little for the form.
 #[inline(always)]
 fn is_settled(node: &Node, need: u64) -> bool
     ensures { result ≡ true → decayed need (shape_of node.now) ≡ shape_of node.now }
@@ -59,7 +59,7 @@ fn is_settled(node: &Node, need: u64) -> bool
     }
 }
 
-// Whether two sides stay under their form, of which neither has ended, and that can weigh so much.
+/// Whether two sides stay under their form, of which neither has ended, and that can weigh so much.
 #[inline(always)]
 fn stands(form: Form, a: u64, b: u64, need: u64) -> bool
     ensures { result ≡ true → change_of form a b false false need ≡ Change.Keep }

@@ -58,7 +58,7 @@ fn tally_of(tops: &[Top], nodes: &[Node]) -> Tally
     )
 }
 
-// Of few sides, one by one.
+/// Of few sides, one by one.
 fn tally_of_few(tops: &[Top], nodes: &[Node]) -> Tally
     requires { weight_sum (sides_on tops.now nodes.now) < 2 ^ 63 }
     ensures tallied { (i : Indexed) → AreSound i (sides_on tops.now nodes.now) → IsTally (rests i (sides_on tops.now nodes.now)) result }
@@ -77,7 +77,7 @@ fn tally_of_few(tops: &[Top], nodes: &[Node]) -> Tally
     }
 }
 
-// Of one side.
+/// Of one side.
 fn tally_of_one(top: &Top) -> Tally
     ensures tallied { (i : Indexed) (s : Shape) → IsTop i top.now s → IsTally (λ id. rest i s id ∷ []) result }
     ensures head { result.head ≡ top.now.head }
@@ -90,7 +90,7 @@ fn tally_of_one(top: &Top) -> Tally
     }
 }
 
-// Of all, from what it is of some and of the others.
+/// Of all, from what it is of some and of the others.
 fn joined(some: Tally, others: Tally) -> Tally
     requires fits { some.weight + others.weight < 2 ^ 63 }
     ensures tallied { (f g : ℕ → List (Option ℕ)) → IsTally f some → IsTally g others → IsTally (λ id. f id ++ g id) result }
@@ -137,7 +137,7 @@ pub(crate) fn sum_of(tops: &[Top], nodes: &[Node]) -> u64
     sum_of(front_tops, front_nodes) + sum_of(back_tops, back_nodes)
 }
 
-// Of few sides, one by one.
+/// Of few sides, one by one.
 fn sum_of_few(tops: &[Top], nodes: &[Node]) -> u64
     requires { greatest_sum (sides_on tops.now nodes.now) < 2 ^ 63 }
     ensures { result ≡ greatest_sum (sides_on tops.now nodes.now) }

@@ -22,10 +22,10 @@ use sk_index::Index;
 use sk_query::{Form, Query};
 use sk_weight::static_count;
 
-// So many parts stand one inside another at most, where the first of them leads.
+/// So many parts stand one inside another at most, where the first of them leads.
 const MOST_NESTED: usize = 1024;
 
-// So many sides stand in one node at most, where they are gone through one inside another.
+/// So many sides stand in one node at most, where they are gone through one inside another.
 const MOST_SIDES: usize = 64;
 
 /// The form and the parts of a query of several.

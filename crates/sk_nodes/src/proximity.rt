@@ -18,8 +18,8 @@ pub(crate) enum Standing {
     Phrase,
 }
 
-/// A test of documents that have all of some terms, by their numbers: whether these stand so. All documents before `next`
-/// were tested. The marks are memory for a place of each term among its positions, the places for one among the terms of
+/// A test of documents that have all of some terms, by their numbers: whether these stand so. No document before `next`
+/// is read any more. The marks are memory for a place of each term among its positions, the places for one among the terms of
 /// a document.
 #[derive(Drop)]
 pub(crate) struct Proximity {
@@ -100,7 +100,7 @@ impl Proximity {
     }
 }
 
-// Whether the terms stand so in the document, by their positions, which are read once.
+/// Whether the terms stand so in the document, by their positions, which are read once.
 fn stand_so<L: Ledger>(
     standing: Standing,
     window: u32,

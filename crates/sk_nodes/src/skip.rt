@@ -46,7 +46,7 @@ fn skip_nodes(a: &Node, b: &Node, index: &Index, from: u64, need: u64) -> u64
     }
 }
 
-// Block by block, as long as what stands there in both lists is too light.
+/// Block by block, as long as what stands there in both lists is too light.
 fn skip_leaves(a: &Leaf, b: &Leaf, index: &Index, mut from: u64, need: u64) -> u64
     requires first { IsLeafOn index.now a.now }
     requires second { IsLeafOn index.now b.now }

@@ -82,7 +82,7 @@ impl Span {
         self.show(top);
     }
 
-    // Writes where it stands.
+    /// Writes where it stands.
     fn show(&self, top: &mut Top)
         ensures top { (i : Indexed) → IsSpanOn i self.now → IsTop i top.new (Shapes.span self.now) }
         ensures at { (i : Indexed) → IsSpanOn i self.now → top.new.head ≡ head_of (span_entries i self.now) }

@@ -32,7 +32,7 @@ use sk_weight::ceil;
 use std::alloc::{AllocError, Global};
 use std::sync::ledger::Ledger;
 
-// No document weighs more under terms that count as one: its wdfs are below 2^29 together, and a factor is at most 2^16.
+/// No document weighs more under terms that count as one: its wdfs are below 2^29 together, and a factor is at most 2^16.
 const MOST_WEIGHT: u64 = 1 << 45;
 
 /// The node of a synonym, which weighs no more than a synonym can.

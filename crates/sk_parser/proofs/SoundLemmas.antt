@@ -1,22 +1,15 @@
 -- What tokens without a fault give.
-use Rattle.std.proofs.Common.{◌≡◌, ℕ, Bool, true, false, if◌then◌else◌, List, [], ◌∷◌, Option, Some, None, refl}
+use Rattle.std.proofs.Common.{◌≡◌, false, List, [], ◌∷◌, None, refl}
+use Rattle.sk_meaning.proofs.TokenLemmas.{or_none, past}
 use Rattle.sk_base.specs.declared.schema.Field.{Field}
 use Rattle.sk_base.specs.declared.find.Join.{Join}
 use Rattle.sk_grammar.specs.declared.fault.FaultKind.{FaultKind}
 use Rattle.sk_grammar.specs.declared.token.Kind.{Kind}
 use Rattle.sk_grammar.specs.declared.token.Token.{Token}
 use Rattle.sk_grammar.specs.Brackets.{no_nests}
-use Rattle.sk_grammar.specs.Faults.{is_stray, is_unclosed, lacks_operand, is_bad_near, is_bad_range, fault_at, fault_or, fault_behind, kinds_of}
+use Rattle.sk_grammar.specs.Faults.{is_stray, is_unclosed, lacks_operand, is_bad_near, is_bad_range, fault_at, fault_behind, kinds_of}
 use Rattle.sk_parser.specs.Sound.{AreSound}
 use Rattle.sk_parser.specs.Stack.{Inside, finished}
-
-past : (b : Bool) (x : FaultKind) (o : Option FaultKind) → (if b then Some x else o) ≡ None → (b ≡ false) × (o ≡ None)
-past true x o e = absurd (cc)
-past false x o e = (refl, e)
-
-or_none : (o : Option FaultKind) (p : ℕ) (later : Option (FaultKind × ℕ)) → fault_or o p later ≡ None → (o ≡ None) × (later ≡ None)
-or_none None p later e = (refl, e)
-or_none (Some x) p later e = absurd (cc)
 
 range_sound : (fields : List Field) (before : List Kind) (k : Kind) (behind : List Kind) → fault_at fields before k behind ≡ None → is_bad_range fields k ≡ false
 range_sound fields before k behind e =

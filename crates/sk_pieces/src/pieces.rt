@@ -11,10 +11,10 @@ use std::alloc::{AllocError, Global};
 use std::fmt::{Debug, Error, Formatter, Write};
 use std::marker::Model;
 
-// A piece has so many entries at most.
+/// A piece has so many entries at most.
 const FULL: u32 = 128;
-// Neighbours that have no more entries together become one behind a removal or a halving, so that a list of n entries
-// has about n / 48 pieces at most.
+/// Neighbours that have no more entries together become one behind a removal or a halving, so that a list of n entries
+/// has about n / 48 pieces at most.
 const THIN: u32 = 96;
 
 /// Entries, each an id from 1 and what stands with it, no id twice, in order of their ids, cut into pieces of at most
@@ -80,8 +80,8 @@ impl<T> Pieces<T> {
         self.pieces[at].get(id)
     }
 
-    // The first piece that ends at the id or behind it; their number where there is none. New entries that came in
-    // order, with no gap between their ids, fill the pieces from the first on, so it looks at that place first.
+    /// The first piece that ends at the id or behind it; their number where there is none. New entries that came in
+    /// order, with no gap between their ids, fill the pieces from the first on, so it looks at that place first.
     fn place(&self, id: u32) -> usize
         ensures bound { result ≤ length self.now }
         ensures before { (k : ℕ) → k < result → top_id 0 (get_or self.now k []) < id }
@@ -97,7 +97,7 @@ impl<T> Pieces<T> {
     }
 }
 
-// Whether the piece ends at the id or behind it, and the one before it does not.
+/// Whether the piece ends at the id or behind it, and the one before it does not.
 fn is_place<T>(pieces: &[Piece<T>], at: usize, id: u32) -> bool
     ensures within { result ≡ true → at < length pieces.now }
     ensures before { result ≡ true → 0 < at → top_id 0 (get_or pieces.now (at - 1) []) < id }
@@ -144,7 +144,7 @@ impl<T: Drop> Pieces<T> {
         Some(x)
     }
 
-    // An entry behind all others: into the last piece, or a new one where that is full or there is none.
+    /// An entry behind all others: into the last piece, or a new one where that is full or there is none.
     fn append(&mut self, id: u32, x: T) -> Result<(), AllocError>
         requires id { 1 ≤ id }
         requires behind { (k : ℕ) → k < length self.old → top_id 0 (get_or self.old k []) < id }
@@ -163,7 +163,7 @@ impl<T: Drop> Pieces<T> {
         Ok(())
     }
 
-    // Where the entry goes: a full piece that does not have the id is halved first.
+    /// Where the entry goes: a full piece that does not have the id is halved first.
     fn make_room(&mut self, at: usize, id: u32) -> Result<usize, AllocError>
         requires there { at < length self.old }
         requires fits { FitsAt id self.old at }
@@ -183,7 +183,7 @@ impl<T: Drop> Pieces<T> {
         Ok(at)
     }
 
-    // Makes two pieces of a full one.
+    /// Makes two pieces of a full one.
     fn halve(&mut self, at: usize) -> Result<(), AllocError>
         requires there { at < length self.old }
         requires full { length (get_or self.old at []) ≡ 128 }
@@ -196,7 +196,7 @@ impl<T: Drop> Pieces<T> {
         Ok(())
     }
 
-    // Puts the entry into the piece at the place.
+    /// Puts the entry into the piece at the place.
     fn put_in(&mut self, at: usize, id: u32, x: T) -> Result<(), AllocError>
         requires id { 1 ≤ id }
         requires there { at < length self.old }
@@ -212,7 +212,7 @@ impl<T: Drop> Pieces<T> {
         Ok(())
     }
 
-    // Takes the id's entry out of the piece at the place, which goes where it was the only one.
+    /// Takes the id's entry out of the piece at the place, which goes where it was the only one.
     fn take_out(&mut self, at: usize, id: u32) -> Option<T>
         requires there { at < length self.old }
         requires fits { FitsAt id self.old at }
@@ -227,7 +227,7 @@ impl<T: Drop> Pieces<T> {
         Some(x)
     }
 
-    // Makes one piece of the one at the place and the next, where they have few entries. Without memory they stay two.
+    /// Makes one piece of the one at the place and the next, where they have few entries. Without memory they stay two.
     fn join(&mut self, at: usize)
         ensures { flat self.new ≡ flat self.old }
     {

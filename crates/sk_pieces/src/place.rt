@@ -33,7 +33,7 @@ pub(crate) fn place_from<T>(entries: &[(u32, T)], id: u32) -> usize
     first_between(entries, low, entries.len(), id)
 }
 
-// The same between two places: the ids before the first are below `id`, and the one at the second is not.
+/// The same between two places: the ids before the first are below `id`, and the one at the second is not.
 fn first_between<T>(entries: &[(u32, T)], start: usize, end: usize, id: u32) -> usize
     requires rise { RiseAbove 0 entries.now }
     requires order { start ≤ end }

@@ -4,7 +4,7 @@ use Rattle.std.proofs.lemmas.Bool.Decides.{nat_tests}
 use Rattle.std.proofs.lemmas.List.{drop_all}
 use Rattle.sk_query.specs.declared.form.Form.{Form}
 use Rattle.sk_model.specs.Combining.{both, either, greater, sum_of_all, sum_of_any, greatest_score, number_matching, first_alone, first_with_more, first_of_all, where_so, with_more, is_odd, combined}
-use Rattle.sk_model.proofs.CombiningLaws.{both-end, both-apart, either-end, either-apart, greater-end, greater-apart}
+use Rattle.sk_model.proofs.CombiningLaws.{both-end, both-apart, either-end, either-apart, greater-end, greater-apart, all_step}
 use Rattle.sk_model.proofs.CeilLaws.{AtMost}
 use Rattle.sk_plain.specs.declared.sums.Sums.{Sums}
 use Rattle.sk_plain.specs.Sums.{capped_both, capped_either, nothing_yet, with_score, with_scores, made_by}
@@ -100,14 +100,10 @@ more_is (Some v ∷ ss) = added v (sum_of_any ss)
     added v None = let e : v ≡ v + 0 = omega arith in ap Some e
     added v (Some w) = refl
 
-some_both : (v : ℕ) (b : Option ℕ) → is_some (both (Some v) b) ≡ is_some b
-some_both v None = refl
-some_both v (Some w) = refl
-
 of_all_is : (ss : List (Option ℕ)) → where_so (is_some (sum_of_all ss)) (first_score ss) ≡ first_of_all ss
 of_all_is [] = refl
 of_all_is (None ∷ ss) = sym (where_none (is_some (sum_of_all ss)))
-of_all_is (Some v ∷ ss) = ap (λ b. where_so b (Some v)) (some_both v (sum_of_all ss))
+of_all_is (Some v ∷ ss) = ap (λ b. where_so b (Some v)) (all_step v (sum_of_all ss))
 
 -- ---- all
 

@@ -4,7 +4,7 @@ ghost use Rattle.std.specs.List.{list_any};
 ghost use Rattle.sk_base.specs.Documents.{has_term};
 ghost use Rattle.sk_query.specs.Trees.{term, wildcard, near, phrase, synonym};
 ghost use Rattle.sk_model.specs.Scores.{score, terms_weight, wdf_sum};
-ghost use Rattle.sk_base.specs.Loads.{load_of};
+ghost use Rattle.sk_base.specs.Loads.{AreLight};
 
 use crate::positions::{is_near, is_phrase};
 use crate::terms::{has_prefix, has_term, wdf_of, wild_wdf};
@@ -14,7 +14,7 @@ use sk_weight::weigh_by;
 /// A term weighs its wdf where the document has it.
 pub fn term_score(scheme: Scheme, factor: u64, word: &[u8], doc: &Doc) -> Option<Weight>
     requires factor { factor ≤ 65536 }
-    requires light { load_of doc.now.terms < 2 ^ 29 }
+    requires light { AreLight doc.now.terms }
     ensures value { result ≡ score (term word.now) scheme factor doc.now }
     ensures bound { IfSome result (λ w. w ≤ 2 ^ 45) }
 {
@@ -29,7 +29,7 @@ pub fn term_score(scheme: Scheme, factor: u64, word: &[u8], doc: &Doc) -> Option
 /// All terms of the document that begin so, as one.
 pub fn wild_score(scheme: Scheme, factor: u64, prefix: &[u8], doc: &Doc) -> Option<Weight>
     requires factor { factor ≤ 65536 }
-    requires light { load_of doc.now.terms < 2 ^ 29 }
+    requires light { AreLight doc.now.terms }
     ensures value { result ≡ score (wildcard prefix.now) scheme factor doc.now }
     ensures bound { IfSome result (λ w. w ≤ 2 ^ 45) }
 {
@@ -51,7 +51,7 @@ pub fn near_score(
 ) -> Option<Weight>
     requires factor { factor ≤ 65536 }
     requires few { length words.now ≤ 1024 }
-    requires light { load_of doc.now.terms < 2 ^ 29 }
+    requires light { AreLight doc.now.terms }
     ensures value { result ≡ score (near window words.now) scheme factor doc.now }
     ensures bound { IfSome result (λ w. w ≤ length words.now * 2 ^ 45) }
 {
@@ -73,7 +73,7 @@ pub fn phrase_score(
 ) -> Option<Weight>
     requires factor { factor ≤ 65536 }
     requires few { length words.now ≤ 1024 }
-    requires light { load_of doc.now.terms < 2 ^ 29 }
+    requires light { AreLight doc.now.terms }
     ensures value { result ≡ score (phrase window words.now) scheme factor doc.now }
     ensures bound { IfSome result (λ w. w ≤ length words.now * 2 ^ 45) }
 {
@@ -90,7 +90,7 @@ pub fn synonym_score(scheme: Scheme, factor: u64, words: &[Text], doc: &Doc) -> 
     requires factor { factor ≤ 65536 }
     requires some { 0 < length words.now }
     requires few { length words.now ≤ 1024 }
-    requires light { load_of doc.now.terms < 2 ^ 29 }
+    requires light { AreLight doc.now.terms }
     ensures value { result ≡ score (synonym words.now) scheme factor doc.now }
     ensures bound { IfSome result (λ w. w ≤ length words.now * 2 ^ 45) }
 {
@@ -115,7 +115,7 @@ fn has_any(words: &[Text], terms: &[DocTerm]) -> bool
 fn terms_weight(scheme: Scheme, factor: u64, words: &[Text], terms: &[DocTerm]) -> Weight
     requires factor { factor ≤ 65536 }
     requires few { length words.now ≤ 1024 }
-    requires light { load_of terms.now < 2 ^ 29 }
+    requires light { AreLight terms.now }
     ensures value { result ≡ terms_weight scheme factor words.now terms.now }
     ensures bound { result ≤ length words.now * 2 ^ 45 }
 {
@@ -133,7 +133,7 @@ fn terms_weight(scheme: Scheme, factor: u64, words: &[Text], terms: &[DocTerm]) 
 /// The wdfs of these words, added.
 fn wdf_sum(words: &[Text], terms: &[DocTerm]) -> u64
     requires few { length words.now ≤ 1024 }
-    requires light { load_of terms.now < 2 ^ 29 }
+    requires light { AreLight terms.now }
     ensures value { result ≡ wdf_sum words.now terms.now }
     ensures bound { result ≤ length words.now * (2 ^ 29 - 1) }
 {

@@ -1,6 +1,6 @@
 //! What one document scores for a query.
 ghost use Rattle.std.specs.Prelude.{◌≡◌, ◌≤◌, ◌<◌, ◌^◌, true};
-ghost use Rattle.sk_base.specs.Loads.{load_of};
+ghost use Rattle.sk_base.specs.Loads.{AreLight};
 ghost use Rattle.sk_query.specs.Trees.{query_view, queries_view};
 ghost use Rattle.sk_query.specs.Fits.{is_sound, are_sound, leaves_of, leaves_in};
 ghost use Rattle.sk_model.specs.Combining.{combined};
@@ -19,7 +19,7 @@ pub fn score(query: &Query, scheme: Scheme, factor: u64, doc: &Doc) -> Option<We
     requires factor { factor ≤ 65536 }
     requires sound { is_sound factor (query_view query.now) ≡ true }
     requires leaves { leaves_of (query_view query.now) ≤ 1024 }
-    requires light { load_of doc.now.terms < 2 ^ 29 }
+    requires light { AreLight doc.now.terms }
     ensures { result ≡ score (query_view query.now) scheme factor doc.now }
 {
     match query {
@@ -55,7 +55,7 @@ fn combined(form: Form, parts: &[Query], scheme: Scheme, factor: u64, doc: &Doc)
     requires factor { factor ≤ 65536 }
     requires sound { are_sound factor (queries_view parts.now) ≡ true }
     requires leaves { leaves_in (queries_view parts.now) ≤ 1024 }
-    requires light { load_of doc.now.terms < 2 ^ 29 }
+    requires light { AreLight doc.now.terms }
     ensures { result ≡ combined form (scores (queries_view parts.now) scheme factor doc.now) }
 {
     let mut sums = Sums::new();

@@ -3,7 +3,7 @@ ghost use Rattle.std.specs.Prelude.{◌≡◌, ◌≤◌, ◌<◌, ◌^◌};
 ghost use Rattle.std.specs.List.{list_any};
 ghost use Rattle.sk_base.specs.Documents.{has_term, wdf_of, positions_of, value_in, begins_with};
 ghost use Rattle.sk_model.specs.Scores.{wild_wdf};
-ghost use Rattle.sk_base.specs.Loads.{load_of};
+ghost use Rattle.sk_base.specs.Loads.{AreLight, load_of};
 
 use sk_base::{DocTerm, SlotValue};
 
@@ -48,7 +48,7 @@ pub fn has_prefix(prefix: &[u8], terms: &[DocTerm]) -> bool
 
 /// The wdfs of the terms that begin with the prefix, added.
 pub fn wild_wdf(prefix: &[u8], terms: &[DocTerm]) -> u64
-    requires { load_of terms.now < 2 ^ 29 }
+    requires { AreLight terms.now }
     ensures value { result ≡ wild_wdf prefix.now terms.now }
     ensures bound { result ≤ load_of terms.now }
 {

@@ -6,7 +6,7 @@ ghost use Rattle.sk_plain.specs.Wilds.{new_sum};
 
 use crate::numbers::{greatest_of, length_of, live_of};
 use crate::terms::{begins_with, has_term};
-use sk_base::{Doc, DocId, DocTerm};
+use sk_base::{Doc, DocId, DocTerm, MOST_WDF};
 use std::collections::BTreeMap;
 use std::collections::btree_map::Iter;
 
@@ -86,9 +86,9 @@ fn add_greatests(
     let mut sum = sum;
     'terms: for one in terms {
         if begins_with(one, prefix) && is_last(one.term.as_str().as_bytes(), behind) {
-            sum = (sum + u64::from(greatest_of(one.term.as_str().as_bytes(), docs))).min(
-                536_870_911,
-            );
+            sum = (sum + u64::from(greatest_of(one.term.as_str().as_bytes(), docs))).min(u64::from(
+                MOST_WDF,
+            ));
         }
     }
     sum

@@ -5,12 +5,13 @@ use Rattle.std.specs.Ordering.{match_ordering}
 use Rattle.std.specs.Cmp.Lexicographic.{slice_cmp}
 use Rattle.std.proofs.lemmas.Map.Text.{is_eq-slice_cmp}
 use Rattle.std.proofs.lemmas.Slice.Eq.{bytes_eq-Decides}
+use Rattle.sk_base.proofs.Tests.{first_so, second_so}
 use Rattle.serde_json.specs.Data.{Data, null, boolean, number, string, array, object, Members, no_members, member}
 use Rattle.serde_json.specs.Find.{get, get_member}
 use Rattle.sk_base.specs.declared.schema.Field.{Field}
 use Rattle.sk_base.specs.Fields.{clash, kinds_clash, are_apart}
 use Rattle.sk_json.specs.Values.{bytes_in, bytes_in_members}
-use Rattle.sk_record.proofs.Choices.{first_true, second_true, first_false}
+use Rattle.sk_record.proofs.Choices.{first_false}
 
 -- how many bytes the strings of a member have, if it is there
 abbrev pub bytes_at : Option Data → ℕ
@@ -42,9 +43,9 @@ PassBy fields k d ms = AllByRecursion (λ (g : Field). get_member g.name (member
 pub passes_by : (f : Field) (more : List Field) (k : List ℕ) (d : Data) (ms : Members) → f.name ≡ k → list_all (λ other. not (clash f other)) more ≡ true → PassBy more k d ms
 passes_by f [] k d ms is apart = tt
 passes_by f (g ∷ more) k d ms is apart =
-    let unlike : bytes_eq f.name g.name ≡ false = first_false (bytes_eq f.name g.name) (kinds_clash f.kind g.kind) (first_true (not (clash f g)) (list_all (λ other. not (clash f other)) more) apart) in (
+    let unlike : bytes_eq f.name g.name ≡ false = first_false (bytes_eq f.name g.name) (kinds_clash f.kind g.kind) (first_so (not (clash f g)) (list_all (λ other. not (clash f other)) more) apart) in (
       other_member g.name k d ms (λ same. true≢false (sym ((bytes_eq-Decides f.name g.name).1 (is ∙ sym same)) ∙ unlike)),
-      passes_by f more k d ms is (second_true (not (clash f g)) (list_all (λ other. not (clash f other)) more) apart),
+      passes_by f more k d ms is (second_so (not (clash f g)) (list_all (λ other. not (clash f other)) more) apart),
     )
 
 bytes_passed : (fields : List Field) (k : List ℕ) (d : Data) (ms : Members) → PassBy fields k d ms → named_bytes fields (object (member k d ms)) ≡ named_bytes fields (object ms)
@@ -59,11 +60,11 @@ one_member : (fields : List Field) (k : List ℕ) (d : Data) (ms : Members) → 
 one_member [] k d ms apart = omega arith
 one_member (f ∷ more) k d ms apart =
     let later : bytes_at (get_member f.name ms) + named_bytes more (object (member k d ms)) ≤ bytes_in d + (bytes_at (get_member f.name ms) + named_bytes more (object ms)) =
-    let rest = one_member more k d ms (second_true (list_all (λ other. not (clash f other)) more) (are_apart more) apart) in omega (arith, rest) in
+    let rest = one_member more k d ms (second_so (list_all (λ other. not (clash f other)) more) (are_apart more) apart) in omega (arith, rest) in
     elim (slice_cmp nat_cmp f.name k) as (λ o. slice_cmp nat_cmp f.name k ≡ o
     → bytes_at (match_ordering o (get_member f.name ms) (Some d) (get_member f.name ms)) + named_bytes more (object (member k d ms)) ≤ bytes_in d + (bytes_at (get_member f.name ms) + named_bytes more (object ms))) [
       | Less ↦ λ e. later
-      | Equal ↦ λ e. let rest = bytes_passed more k d ms (passes_by f more k d ms (same_name f.name k e) (first_true (list_all (λ other. not (clash f other)) more) (are_apart more) apart)) in omega (arith, rest)
+      | Equal ↦ λ e. let rest = bytes_passed more k d ms (passes_by f more k d ms (same_name f.name k e) (first_so (list_all (λ other. not (clash f other)) more) (are_apart more) apart)) in omega (arith, rest)
       | Greater ↦ λ e. later
     ] refl
 

@@ -1,5 +1,5 @@
 -- What holds of the value that a chain of options gives.
-use Rattle.std.proofs.Common.{◌≡◌, ◌&&◌, ◌||◌, Bool, true, false, not, if◌then◌else◌, Option, Some, None, option_map, refl, subst}
+use Rattle.std.proofs.Common.{◌≡◌, ◌||◌, Bool, true, false, not, if◌then◌else◌, Option, Some, None, option_map, refl, subst}
 use Rattle.std.specs.Option.{option_and_then}
 
 pub some_is : {A : Type 0} (x y : A) → Some x ≡ Some y → x ≡ y
@@ -20,14 +20,6 @@ guarded P false o y h e = cc
 pub either : {A : Type 0} (P : A → Type 0) (b : Bool) (o p : Option A) (y : A) → (o ≡ Some y → P y) → (p ≡ Some y → P y) → (if b then o else p) ≡ Some y → P y
 either P true o p y h g e = h e
 either P false o p y h g e = g e
-
-pub first_true : (a b : Bool) → (a && b) ≡ true → a ≡ true
-first_true true b e = refl
-first_true false b e = e
-
-pub second_true : (a b : Bool) → (a && b) ≡ true → b ≡ true
-second_true true b e = e
-second_true false b e = cc
 
 pub first_false : (a b : Bool) → not (a || b) ≡ true → a ≡ false
 first_false true b e = cc

@@ -4,6 +4,7 @@ use Rattle.std.specs.List.{All, AllPairs, list_all, slice_get}
 use Rattle.std.specs.Cmp.Derive.{both_true}
 use Rattle.std.proofs.lemmas.List.Elements.{All-cons}
 use Rattle.std.proofs.lemmas.List.Kept.{AllPairs-cons}
+use Rattle.sk_base.proofs.Tests.{second_so}
 use Rattle.serde_json.specs.Data.{Data, null, boolean, number, string, array, object, Items, no_items, item}
 use Rattle.serde_json.specs.Find.{get, as_str}
 use Rattle.sk_base.specs.declared.record.Entry.{Entry}
@@ -15,8 +16,8 @@ use Rattle.sk_base.specs.Fields.{IsSchema, is_field, are_apart}
 use Rattle.sk_base.specs.Records.{fits_kind, fits_field, fits_entry, bytes_of_texts, bytes_of_value, bytes_of_values, most_bytes, FitsValues}
 use Rattle.sk_json.specs.Values.{whole_number, texts_of, bytes_in, bytes_in_items}
 use Rattle.sk_record.specs.Shapes.{Given}
-use Rattle.sk_record.specs.FieldRules.{filter_texts, value_of, member_value, with_entry, entries_from, names_fields, entries_of, record_of}
-use Rattle.sk_record.proofs.Choices.{some_is, chained, mapped, guarded, second_true}
+use Rattle.sk_record.specs.FieldRules.{filter_texts, told_value, member_value, with_entry, entries_from, names_fields, entries_of, record_of}
+use Rattle.sk_record.proofs.Choices.{some_is, chained, mapped, guarded}
 use Rattle.sk_record.proofs.ByteLemmas.{bytes_at, named_bytes, named_hold}
 
 -- a text is the string that it is read from
@@ -48,7 +49,7 @@ filter_bytes (object ms) texts e = cc
 abbrev FitsValue : FieldKind → ℕ → FieldValue → Type 0
 FitsValue kind most value = (fits_kind kind value ≡ true) × (bytes_of_value value ≤ most)
 
-value_fits : (kind : FieldKind) (d : Data) (value : FieldValue) → value_of kind d ≡ Some value → FitsValue kind (bytes_in d) value
+value_fits : (kind : FieldKind) (d : Data) (value : FieldValue) → told_value kind d ≡ Some value → FitsValue kind (bytes_in d) value
 value_fits (FieldKind.Text prefix step) d value =
     mapped (FitsValue (FieldKind.Text prefix step) (bytes_in d)) (λ text. FieldValue.Text text) (as_str d) value (λ text is. (refl, text_bytes d text is))
 value_fits (FieldKind.Filter prefix) d value =
@@ -127,7 +128,7 @@ values_fit : (fields : List Field) (values : Data) (entries : List Entry) → Is
 values_fit fields values entries is short =
     guarded (FitsValues fields) (names_fields fields values) (entries_from 0 fields values) entries
     (λ named made. let fit = entries_fit fields fields 0 values entries (λ k. ap (slice_get fields) (whole k)) made in
-    let held = named_hold fields values (second_true (list_all is_field fields) (are_apart fields) is.sound) in
+    let held = named_hold fields values (second_so (list_all is_field fields) (are_apart fields) is.sound) in
     let small = fit.small in
     record { rising = fit.rising; kinds = fit.kinds; small = omega (arith, held, short, small) })
   where

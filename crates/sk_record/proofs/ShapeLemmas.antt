@@ -1,7 +1,8 @@
 -- What the tests of a row leave of the numbers and texts of a shape.
-use Rattle.std.proofs.Common.{◌≡◌, ◌≤◌, ◌+◌, ◌&&◌, ℕ, true, if◌then◌else◌, nat_le, List, [], ◌∷◌, length, codes, Option, Some, None, IfSome, is_some, option_map, arith, subst}
+use Rattle.std.proofs.Common.{◌≡◌, ◌≤◌, ◌+◌, ◌&&◌, ℕ, if◌then◌else◌, nat_le, List, [], ◌∷◌, length, codes, Option, Some, None, IfSome, is_some, option_map, subst}
 use Rattle.std.specs.Option.{option_and_then}
-use Rattle.std.proofs.lemmas.Bool.Decides.{nat_tests}
+use Rattle.std.proofs.lemmas.Bool.{leb-true}
+use Rattle.sk_base.proofs.Tests.{first_so, second_so}
 use Rattle.serde_json.specs.Data.{Data}
 use Rattle.serde_json.specs.Find.{get, as_str, as_object}
 use Rattle.sk_base.specs.declared.find.Options.{Options}
@@ -10,7 +11,7 @@ use Rattle.sk_json.specs.Values.{has, has_only, text_at, whole_number, between, 
 use Rattle.sk_record.specs.Shapes.{Given, Asked, words, tree, Collapsed, Wanted, Shape, schema, add, replace, replace_by, delete, delete_by, seek, show}
 use Rattle.sk_record.specs.Options.{query_at, join_at, scheme_at, page_at, check_at, cutoff_at, falling_at, sorted_at, collapsed_on, collapsed_by, collapsed_at, options_at, wanted_at, option_names, find_row, tree_row}
 use Rattle.sk_record.specs.Rows.{values_of, given_at, id_at, pair_at, add_row, replace_row, replace_by_row, delete_row, delete_by_row, show_row, later_shape}
-use Rattle.sk_record.proofs.Choices.{some_is, chained, mapped, guarded, either, first_true, second_true}
+use Rattle.sk_record.proofs.Choices.{some_is, chained, mapped, guarded, either}
 
 -- a query text is not too long
 abbrev pub FitsAsked : Asked → Type 0
@@ -34,18 +35,15 @@ FitsShape (delete_by pair) = Unit {0}
 FitsShape (seek wanted) = FitsWanted wanted
 FitsShape (show text join) = length text ≤ most_bytes
 
-tested : (n most : ℕ) → nat_le n most ≡ true → n ≤ most
-tested n most e = grind (arith, nat_tests)
-
 between_least : (least most n m : ℕ) → between least most n ≡ Some m → least ≤ m
 between_least least most n m =
     guarded (λ k. least ≤ k) (nat_le least n && nat_le n most) (Some n) m
-    (λ both is. subst (λ k. least ≤ k) (some_is n m is) (tested least n (first_true (nat_le least n) (nat_le n most) both)))
+    (λ both is. subst (λ k. least ≤ k) (some_is n m is) (leb-true least n (first_so (nat_le least n) (nat_le n most) both)))
 
 values_short : (d values : Data) → values_of d ≡ Some values → bytes_in values ≤ most_bytes
 values_short d values =
     guarded (λ v. bytes_in v ≤ most_bytes) (is_some (as_object d) && nat_le (bytes_in d) most_bytes) (Some d) values
-    (λ both is. subst (λ v. bytes_in v ≤ most_bytes) (some_is d values is) (tested (bytes_in d) most_bytes (second_true (is_some (as_object d)) (nat_le (bytes_in d) most_bytes) both)))
+    (λ both is. subst (λ v. bytes_in v ≤ most_bytes) (some_is d values is) (leb-true (bytes_in d) most_bytes (second_so (is_some (as_object d)) (nat_le (bytes_in d) most_bytes) both)))
 
 given_short : (name : List ℕ) (d : Data) (given : Given) → given_at name d ≡ Some given → bytes_in given.values ≤ most_bytes
 given_short name d given =
@@ -62,7 +60,7 @@ query_short : (name : List ℕ) (d : Data) (text : List ℕ) → query_at name d
 query_short name d text =
     chained (λ t. length t ≤ most_bytes) (λ t. if nat_le (length t) most_bytes then Some t else None) (text_at name d) text
     (λ t is. guarded (λ u. length u ≤ most_bytes) (nat_le (length t) most_bytes) (Some t) text
-    (λ short same. subst (λ u. length u ≤ most_bytes) (some_is t text same) (tested (length t) most_bytes short)))
+    (λ short same. subst (λ u. length u ≤ most_bytes) (some_is t text same) (leb-true (length t) most_bytes short)))
 
 page_fits : (d : Data) (page : ℕ × ℕ) → page_at d ≡ Some page → page.0 + page.1 ≤ 100000
 page_fits d page =
@@ -70,7 +68,7 @@ page_fits d page =
     (optional_number (codes "first") 0 d) page
     (λ first is. chained (λ (p : ℕ × ℕ). p.0 + p.1 ≤ 100000) (λ size. if nat_le (first + size) 100000 then Some (first, size) else None) (optional_number (codes "size") 10 d) page
     (λ size it. guarded (λ (p : ℕ × ℕ). p.0 + p.1 ≤ 100000) (nat_le (first + size) 100000) (Some (first, size)) page
-    (λ few same. subst (λ (p : ℕ × ℕ). p.0 + p.1 ≤ 100000) (some_is (first, size) page same) (tested (first + size) 100000 few))))
+    (λ few same. subst (λ (p : ℕ × ℕ). p.0 + p.1 ≤ 100000) (some_is (first, size) page same) (leb-true (first + size) 100000 few))))
 
 -- The page ends within the first hits that may be asked for.
 abbrev WithinHits : Options → Type 0

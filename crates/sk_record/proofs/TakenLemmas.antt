@@ -9,6 +9,7 @@ use Rattle.std.specs.Ordering.{match_ordering}
 use Rattle.std.proofs.lemmas.List.{append_assoc}
 use Rattle.std.proofs.lemmas.Map.Text.{is_eq-slice_cmp}
 use Rattle.std.proofs.lemmas.Slice.Eq.{bytes_eq-Decides}
+use Rattle.sk_base.proofs.Tests.{first_so, second_so}
 use Rattle.serde_json.specs.Data.{Data, null, boolean, number, string, array, object, Members, no_members, member}
 use Rattle.serde_json.specs.Find.{get, get_member, as_str, as_object}
 use Rattle.serde_json.specs.View.{view, members_view}
@@ -22,7 +23,7 @@ use Rattle.sk_record.specs.FieldRules.{field_named, member_value, with_entry, en
 use Rattle.sk_record.specs.Rows.{values_of, given_at, pair_at}
 use Rattle.sk_record.specs.Shapes.{Given}
 use Rattle.sk_record.specs.Taken.{without_members, without}
-use Rattle.sk_record.proofs.Choices.{first_true, second_true, first_false}
+use Rattle.sk_record.proofs.Choices.{first_false}
 use Rattle.sk_record.proofs.ByteLemmas.{other_member}
 
 -- ---- as a map takes it
@@ -180,9 +181,9 @@ entries_left : (f : Field) (more : List Field) (place : ℕ) (d : Data) → list
     → entries_from place more (without f.name d) ≡ entries_from place more d
 entries_left f [] place d others = refl
 entries_left f (g ∷ more) place d others =
-    let unlike : bytes_eq f.name g.name ≡ false = first_false (bytes_eq f.name g.name) (kinds_clash f.kind g.kind) (first_true (not (clash f g)) (list_all (λ other. not (clash f other)) more) others) in
+    let unlike : bytes_eq f.name g.name ≡ false = first_false (bytes_eq f.name g.name) (kinds_clash f.kind g.kind) (first_so (not (clash f g)) (list_all (λ other. not (clash f other)) more) others) in
     let here = get-other f.name g.name d unlike in
-    let rest = entries_left f more (suc place) d (second_true (not (clash f g)) (list_all (λ other. not (clash f other)) more) others) in
+    let rest = entries_left f more (suc place) d (second_so (not (clash f g)) (list_all (λ other. not (clash f other)) more) others) in
     λ i. option_and_then (λ value. option_map (with_entry place value) (rest i)) (member_value g.kind (here i))
 
 -- each member names one of the fields
@@ -250,8 +251,8 @@ pub keeps_more : (fields : List Field) (all : Data) (f : Field) (rest : List Fie
     → Keeps fields all (f ∷ rest) place old entries → Keeps fields all rest (suc place) left more
 keeps_more fields all f rest place old left entries more value is there are kept = (
   (λ i. option_map (λ es. are i ++ es) (entries_from (suc place) rest (is i)))
-      ∙ entries_more f rest place old entries value (first_true (list_all (λ other. not (clash f other)) rest) (are_apart rest) kept.2) there
+      ∙ entries_more f rest place old entries value (first_so (list_all (λ other. not (clash f other)) rest) (are_apart rest) kept.2) there
       ∙ kept.0,
   ap (names_fields rest) is ∙ sym (names_left f rest old) ∙ kept.1,
-  second_true (list_all (λ other. not (clash f other)) rest) (are_apart rest) kept.2,
+  second_so (list_all (λ other. not (clash f other)) rest) (are_apart rest) kept.2,
 )

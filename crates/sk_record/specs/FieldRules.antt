@@ -33,21 +33,21 @@ filter_texts (number n) = None
 filter_texts (object ms) = None
 
 -- The value for a field of this kind.
-abbrev pub value_of : FieldKind → Data → Option FieldValue
-value_of (FieldKind.Text prefix step) d = option_map (λ text. FieldValue.Text text) (as_str d)
-value_of (FieldKind.Filter prefix) d = option_map (λ texts. FieldValue.Filter texts) (filter_texts d)
-value_of (FieldKind.Number slot) d = option_map (λ n. FieldValue.Number n) (whole_number d)
-value_of (FieldKind.Word slot) d = option_map (λ text. FieldValue.Word text) (as_str d)
+abbrev pub told_value : FieldKind → Data → Option FieldValue
+told_value (FieldKind.Text prefix step) d = option_map (λ text. FieldValue.Text text) (as_str d)
+told_value (FieldKind.Filter prefix) d = option_map (λ texts. FieldValue.Filter texts) (filter_texts d)
+told_value (FieldKind.Number slot) d = option_map (λ n. FieldValue.Number n) (whole_number d)
+told_value (FieldKind.Word slot) d = option_map (λ text. FieldValue.Word text) (as_str d)
 
 -- What a member gives for a field of this kind: nothing where it is absent or null.
 abbrev pub member_value : FieldKind → Option Data → Option (Option FieldValue)
 member_value kind None = Some None
 member_value kind (Some null) = Some None
-member_value kind (Some (boolean b)) = option_map (λ value. Some value) (value_of kind (boolean b))
-member_value kind (Some (number n)) = option_map (λ value. Some value) (value_of kind (number n))
-member_value kind (Some (string s)) = option_map (λ value. Some value) (value_of kind (string s))
-member_value kind (Some (array ds)) = option_map (λ value. Some value) (value_of kind (array ds))
-member_value kind (Some (object ms)) = option_map (λ value. Some value) (value_of kind (object ms))
+member_value kind (Some (boolean b)) = option_map (λ value. Some value) (told_value kind (boolean b))
+member_value kind (Some (number n)) = option_map (λ value. Some value) (told_value kind (number n))
+member_value kind (Some (string s)) = option_map (λ value. Some value) (told_value kind (string s))
+member_value kind (Some (array ds)) = option_map (λ value. Some value) (told_value kind (array ds))
+member_value kind (Some (object ms)) = option_map (λ value. Some value) (told_value kind (object ms))
 
 -- The entries with that of a place before them, if it has a value.
 abbrev pub with_entry : ℕ → Option FieldValue → List Entry → List Entry

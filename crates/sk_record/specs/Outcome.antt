@@ -8,7 +8,7 @@ use Rattle.sk_base.specs.Records.{most_bytes, FitsEdit, FitsFind}
 use Rattle.sk_record.specs.declared.fault.LineFault.{LineFault}
 use Rattle.sk_json.specs.Values.{has}
 use Rattle.sk_record.specs.Shapes.{Shape}
-use Rattle.sk_record.specs.Rows.{shape_of}
+use Rattle.sk_record.specs.Rows.{row_shape}
 use Rattle.sk_record.specs.Told.{Told, told_by}
 use Rattle.sk_record.specs.FieldRules.{command_of}
 
@@ -24,8 +24,8 @@ judged fields (Some shape) = told_or_broken (command_of fields shape)
 
 -- What a value gives, under the fields that were accepted before, if any.
 abbrev pub value_outcome : Option (List Field) → Data → Result Told LineFault
-value_outcome None d = if has (codes "schema") d then judged [] (shape_of d) else Err LineFault.NoSchema
-value_outcome (Some fields) d = if has (codes "schema") d then Err LineFault.SchemaAgain else judged fields (shape_of d)
+value_outcome None d = if has (codes "schema") d then judged [] (row_shape d) else Err LineFault.NoSchema
+value_outcome (Some fields) d = if has (codes "schema") d then Err LineFault.SchemaAgain else judged fields (row_shape d)
 
 -- What a line gives that is read as this value.
 abbrev pub outcome : Option (List Field) → Option Data → Result Told LineFault

@@ -74,5 +74,5 @@ later_shape d =
     else None)))))))
 
 -- The shape of a value, and none where it fits no row.
-abbrev pub shape_of : Data → Option Shape
-shape_of d = if has (codes "schema") d then option_map schema (schema_row d) else later_shape d
+abbrev pub row_shape : Data → Option Shape
+row_shape d = if has (codes "schema") d then option_map schema (schema_row d) else later_shape d

@@ -4,10 +4,10 @@ ghost use Rattle.serde_json.specs.View.{view};
 ghost use Rattle.sk_base.specs.Fields.{IsSchema};
 ghost use Rattle.sk_record.specs.Shown.{pair_shown, given_shown, asked_shown, sorted_shown, collapsed_shown, wanted_shown, shape_shown};
 ghost use Rattle.sk_record.specs.Told.{asked_by, sought_by, told_by};
-ghost use Rattle.sk_record.specs.FieldRules.{field_named, filter_texts, value_of, member_value, with_entry, entries_of, record_of, prefix_named, filter_prefix, term_of, slot_named, keyed, order_of, collapse_of, sought_of, replaced_by, command_of};
+ghost use Rattle.sk_record.specs.FieldRules.{field_named, filter_texts, told_value, member_value, with_entry, entries_of, record_of, prefix_named, filter_prefix, term_of, slot_named, keyed, order_of, collapse_of, sought_of, replaced_by, command_of};
 
 use crate::row::{AskRow, CollapseRow, FindRow, OrderRow, RecordRow, Row, Sort, TextRow};
-use crate::taken::{take_member, text_of, texts_of};
+use crate::taken::{into_texts, take_member, text_of};
 use serde_json::Value;
 use sk_base::{
     Ask, Collapse, Command, Edit, Entries, Entry, Field, FieldKind, FieldValue, Find, Items, Order,
@@ -256,14 +256,18 @@ fn member_value(
     if value.is_null() {
         return Ok(Some(None));
     }
-    match value_of(alloc, kind, value)? {
+    match told_value(alloc, kind, value)? {
         Some(value) => Ok(Some(Some(value))),
         None => Ok(None),
     }
 }
 
-fn value_of(alloc: Global, kind: &FieldKind, value: Value) -> Result<Option<FieldValue>, AllocError>
-    ensures { IfOk result (λ v. v ≡ value_of kind.now (view value)) }
+fn told_value(
+    alloc: Global,
+    kind: &FieldKind,
+    value: Value,
+) -> Result<Option<FieldValue>, AllocError>
+    ensures { IfOk result (λ v. v ≡ told_value kind.now (view value)) }
 {
     match kind {
         FieldKind::Text(_, _) => match text_of(value) {
@@ -295,7 +299,7 @@ fn filter_texts(alloc: Global, value: Value) -> Result<Option<Texts>, AllocError
             texts.push(Text::from_string(string))?;
             Ok(Some(texts))
         }
-        Value::Array(items) => texts_of(alloc, items),
+        Value::Array(items) => into_texts(alloc, items),
         _ => Ok(None),
     }
 }

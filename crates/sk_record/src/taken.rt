@@ -29,7 +29,7 @@ pub fn text_of(value: Value) -> Option<Text>
 }
 
 /// The strings that the items are, and none where one of them is something else.
-pub fn texts_of(alloc: Global, items: Vec<Value>) -> Result<Option<Texts>, AllocError>
+pub fn into_texts(alloc: Global, items: Vec<Value>) -> Result<Option<Texts>, AllocError>
     ensures { IfOk result (λ texts. texts ≡ texts_of (items_view items.items)) }
 {
     let mut texts = Items::new(alloc);

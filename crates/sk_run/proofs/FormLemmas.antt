@@ -1,24 +1,21 @@
 -- A number of digits that the library does not read is too great for a demonstration.
-use Rattle.std.proofs.Common.{◌≡◌, ◌≤◌, ◌<◌, ◌^◌, ℕ, Bool, true, false, ◌&&◌, ◌==◌, not, nat_le, nat_lt, if◌then◌else◌, List, [], ◌∷◌, length, Option, Some, None, Result, Ok, Err, sym, ap, subst, arith, rules}
+use Rattle.std.proofs.Common.{◌≡◌, ◌<◌, ◌^◌, ℕ, true, false, ◌==◌, not, nat_le, if◌then◌else◌, List, [], ◌∷◌, length, Some, None, Result, Err, sym, ap, subst, arith, rules}
 use Rattle.std.proofs.lemmas.Bool.Decides.{nat_tests}
 use Rattle.std.proofs.lemmas.Str.Parse.{IsNumeralModel, numerals_by_value, parse_digits}
 use Rattle.std.specs.Result.{OkIff}
 use Rattle.std.specs.Str.Parse.{ParsesUnsigned, digits_value}
 use Rattle.std.specs.List.{list_all}
 use Rattle.std.specs.Char.{is_ascii_digit}
+use Rattle.sk_base.proofs.Tests.{second_so}
 use Rattle.sk_run.specs.declared.form.Form.{Form}
 use Rattle.sk_run.specs.Forms.{is_size, demo_of}
 
 own : IsNumeralModel (λ ds. list_all is_ascii_digit ds ≡ true) (digits_value 10)
 own = numerals_by_value _ (search rules)
 
-second_of : (a b : Bool) → (a && b) ≡ true → b ≡ true
-second_of true b e = e
-second_of false b e = cc
-
 all_digits : (bs : List ℕ) → is_size bs ≡ true → list_all is_ascii_digit bs ≡ true
 all_digits [] e = cc
-all_digits (b ∷ bs) e = second_of (not (b == 48)) (list_all is_ascii_digit (b ∷ bs)) e
+all_digits (b ∷ bs) e = second_so (not (b == 48)) (list_all is_ascii_digit (b ∷ bs)) e
 
 some_digits : (bs : List ℕ) → is_size bs ≡ true → 0 < length bs
 some_digits [] e = cc

@@ -7,7 +7,7 @@ use Rattle.sk_base.specs.declared.report.Ranked.{Ranked}
 use Rattle.sk_base.specs.declared.report.Report.{Report}
 use Rattle.sk_base.specs.declared.schema.Field.{Field}
 use Rattle.sk_query.specs.Trees.{Tree}
-use Rattle.sk_shown.specs.Writing.{value_of}
+use Rattle.sk_shown.specs.Writing.{json_of}
 use Rattle.sk_grammar.specs.declared.fault.FaultKind.{FaultKind}
 use Rattle.sk_asked.specs.declared.asked.AskError.{AskError}
 use Rattle.sk_asked.specs.Asked.{text_asked}
@@ -88,7 +88,7 @@ AnswersAsk Finds (Err why) answer = RefusedFor why answer
 
 -- The query of a text is shown as the compact text of its JSON value.
 abbrev pub IsShown : Tree → Response FindAnswer → Type 0
-IsShown query answer = answer ≡ Response.Own (Query (compact_text (value_of query)))
+IsShown query answer = answer ≡ Response.Own (Query (compact_text (json_of query)))
 
 -- What a line that asks to show the query of a text is answered: a text with a fault is refused for it.
 abbrev pub Shown : List Field → Join → List ℕ → Response FindAnswer → Type 0

@@ -14,7 +14,7 @@ pub data Meaning : Type 0 where
   blank : Meaning
   refusal : Refusal → Meaning
   told : Told → Meaning
-  -- no line means this: want of memory is no meaning
+  -- No line means this: want of memory is no meaning.
   unread : Meaning
 
 -- A line of nothing but tabs (9), carriage returns (13) and spaces (32).

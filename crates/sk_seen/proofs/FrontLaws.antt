@@ -2,18 +2,15 @@
 use Rattle.std.proofs.Common.{◌≡◌, ◌≤◌, ℕ, zero, suc, Bool, true, false, not, cond, ◌&&◌, List, [], ◌∷◌, ◌++◌, length, take, filter, Option, None, Some, refl, sym, ap, ◌∙◌, subst, arith, true≢false}
 use Rattle.std.specs.List.{list_all}
 use Rattle.std.proofs.lemmas.List.{take-append-le}
+use Rattle.std.proofs.lemmas.Bool.{and_from, and_parts}
 use Rattle.sk_base.specs.declared.find.Collapse.{Collapse}
 use Rattle.sk_base.specs.declared.rank.Rank.{Rank}
 use Rattle.sk_base.specs.declared.rank.Order.{Order}
 use Rattle.sk_base.specs.Before.{is_before}
 use Rattle.sk_model.specs.Page.{place, best_first, is_kept, kept_behind, kept_of, kept}
-use Rattle.sk_model.proofs.OrderLaws.{before_order, not_before_itself, NoneBefore, Rises, rises_best_first, both_so}
+use Rattle.sk_model.proofs.OrderLaws.{before_order, not_before_itself, NoneBefore, Rises, rises_best_first}
 use Rattle.sk_seen.specs.Shown.{is_behind, Shown}
 use Rattle.sk_seen.proofs.ShownLaws.{shown_front}
-
-pub both_are : (a b : Bool) → a ≡ true → b ≡ true → (a && b) ≡ true
-both_are true b e f = f
-both_are false b e f = e
 
 module _ (order : Order) where
   -- what comes after something comes after what is before that
@@ -27,8 +24,8 @@ module _ (order : Order) where
   pub behind_through : (held : List Rank) (x y : Rank) → is_behind order held x ≡ true → is_before order y x ≡ false → is_behind order held y ≡ true
   behind_through [] x y e f = refl
   behind_through (h ∷ held) x y e f =
-      let b = both_so (is_before order h x) (is_behind order held x) e in
-      both_are (is_before order h y) (is_behind order held y) (before_through h x y b.0 f) (behind_through held x y b.1 f)
+      let b = and_parts (is_before order h x) (is_behind order held x) e in
+      and_from (is_before order h y) (is_behind order held y) (before_through h x y b.0 f) (behind_through held x y b.1 f)
 
   module _ (held : List Rank) where
     abbrev pub ahead : Rank → Bool
@@ -92,12 +89,12 @@ module _ (order : Order) where
 
     all_behind : (y : Rank) (zs : List Rank) → is_behind order held y ≡ true → NoneBefore order y zs → list_all (is_behind order held) zs ≡ true
     all_behind y [] e n = refl
-    all_behind y (z ∷ zs) e n = both_are (is_behind order held z) (list_all (is_behind order held) zs) (behind_through held y z e n.0) (all_behind y zs e n.1)
+    all_behind y (z ∷ zs) e n = and_from (is_behind order held z) (list_all (is_behind order held) zs) (behind_through held y z e n.0) (all_behind y zs e n.1)
 
     split_step : (x : Rank) (xs : List Rank) (b : Bool) → is_behind order held x ≡ b → NoneBefore order x xs → Split xs → Split (x ∷ xs)
     split_step x xs true e n s =
         let none : filter ahead (x ∷ xs) ≡ [] = ahead_step x xs true e ∙ none_ahead x xs e n in
-        (x ∷ xs, sym (ap (λ zs. zs ++ x ∷ xs) none), both_are (is_behind order held x) (list_all (is_behind order held) xs) e (all_behind x xs e n))
+        (x ∷ xs, sym (ap (λ zs. zs ++ x ∷ xs) none), and_from (is_behind order held x) (list_all (is_behind order held) xs) e (all_behind x xs e n))
     split_step x xs false e n s = (s.0, ap (λ zs. x ∷ zs) s.1 ∙ sym (ap (λ zs. zs ++ s.0) (ahead_step x xs false e)), s.2)
 
     pub split : (xs : List Rank) → Rises order xs → Split xs
@@ -114,9 +111,9 @@ module _ (order : Order) (held : List Rank) (most : ℕ) (key : Rank → List �
   some_behind : (before : List (List ℕ)) (ys : List Rank) → list_all (is_behind order held) ys ≡ true → list_all (is_behind order held) (kept_behind most key before ys) ≡ true
   some_behind before [] e = refl
   some_behind before (y ∷ ys) e =
-      let b = both_so (is_behind order held y) (list_all (is_behind order held) ys) e in
+      let b = and_parts (is_behind order held y) (list_all (is_behind order held) ys) e in
       elim (is_kept most (key y) before) as (λ i. list_all (is_behind order held) (cond i (y ∷ kept_behind most key (key y ∷ before) ys) (kept_behind most key before ys)) ≡ true) [
-        | true ↦ both_are (is_behind order held y) (list_all (is_behind order held) (kept_behind most key (key y ∷ before) ys)) b.0 (some_behind (key y ∷ before) ys b.1)
+        | true ↦ and_from (is_behind order held y) (list_all (is_behind order held) (kept_behind most key (key y ∷ before) ys)) b.0 (some_behind (key y ∷ before) ys b.1)
         | false ↦ some_behind before ys b.1
       ]
 
@@ -156,11 +153,11 @@ front_long : (b : Rank → Bool) (k : ℕ) (front more : List Rank) → k ≤ le
 front_long b zero front more l h g = omega arith
 front_long b (suc k) [] [] l h g = l
 front_long b (suc k) [] (m ∷ more) l h g =
-    let x = both_so (not (b m)) (list_all (λ x. not (b x)) (take k more)) h in
-    let y = both_so (b m) (list_all b more) g in
+    let x = and_parts (not (b m)) (list_all (λ x. not (b x)) (take k more)) h in
+    let y = and_parts (b m) (list_all b more) g in
     absurd (true≢false (sym (sym (ap not y.0) ∙ x.0)))
 front_long b (suc k) (f ∷ front) more l h g =
-    let x = both_so (not (b f)) (list_all (λ x. not (b x)) (take k (front ++ more))) h in
+    let x = and_parts (not (b f)) (list_all (λ x. not (b x)) (take k (front ++ more))) h in
     let rest : k ≤ length front = front_long b k front more (omega (arith, l)) x.1 g in
     omega (arith, rest)
 
@@ -175,7 +172,7 @@ not_itself order more x = ap (λ b. b && is_behind order more x) (not_before_its
 -- behind more than is held, behind what is held
 behind_some : (order : Order) (xs ys : List Rank) (x : Rank) → is_behind order (xs ++ ys) x ≡ true → is_behind order ys x ≡ true
 behind_some order [] ys x e = e
-behind_some order (z ∷ xs) ys x e = behind_some order xs ys x (both_so (is_before order z x) (is_behind order (xs ++ ys) x) e).1
+behind_some order (z ∷ xs) ys x e = behind_some order xs ys x (and_parts (is_before order z x) (is_behind order (xs ++ ys) x) e).1
 
 not_some : (order : Order) (xs ys : List Rank) (x : Rank) → is_behind order (xs ++ x ∷ ys) x ≡ false
 not_some order xs ys x =
@@ -187,7 +184,7 @@ not_some order xs ys x =
 pub held_ahead : (order : Order) (xs ys : List Rank) → list_all (λ x. not (is_behind order (xs ++ ys) x)) ys ≡ true
 held_ahead order xs [] = refl
 held_ahead order xs (y ∷ ys) =
-    both_are (not (is_behind order (xs ++ y ∷ ys) y)) (list_all (λ x. not (is_behind order (xs ++ y ∷ ys) x)) ys) (ap not (not_some order xs ys y))
+    and_from (not (is_behind order (xs ++ y ∷ ys) y)) (list_all (λ x. not (is_behind order (xs ++ y ∷ ys) x)) ys) (ap not (not_some order xs ys y))
     (subst (λ zs. list_all (λ x. not (is_behind order zs x)) ys ≡ true) (one_by_one xs ys y) (held_ahead order (xs ++ y ∷ []) ys))
 
 -- the first so many of what is kept are those of all matches, where what was not seen as it is stands behind them

@@ -1,16 +1,16 @@
 -- How many of the matches weigh so much, among those that were seen and on the page.
 use Rattle.std.proofs.Common.{◌≡◌, ◌≤◌, ◌<◌, ◌+◌, ◌⊎◌, ℕ, zero, suc, Bool, true, false, cond, nat_le, List, [], ◌∷◌, ◌++◌, length, take, drop, filter, sum_by, refl, sym, ap, ◌∙◌, arith, inl, inr}
 use Rattle.std.specs.List.{AllByRecursion, list_all}
-use Rattle.std.proofs.lemmas.Bool.Decides.{nat_tests}
 use Rattle.std.proofs.lemmas.List.{take-append-drop}
 use Rattle.std.proofs.lemmas.List.Elements.{filter-append}
 use Rattle.std.proofs.lemmas.List.Sums.{sum_by-cons, sum_by-append}
 use Rattle.std.proofs.lemmas.List.Sorted.{sum_by-IsPermutation}
+use Rattle.std.proofs.lemmas.Bool.{and_parts, le-leb, leb-false, leb-true, lt-leb}
 use Rattle.sk_base.specs.declared.rank.Rank.{Rank}
 use Rattle.sk_base.specs.declared.rank.Order.{Order}
 use Rattle.sk_base.specs.Before.{is_before}
 use Rattle.sk_model.specs.Page.{best_first}
-use Rattle.sk_model.proofs.OrderLaws.{NoneBefore, Rises, rises_best_first, best_first_permutation, both_so}
+use Rattle.sk_model.proofs.OrderLaws.{NoneBefore, Rises, rises_best_first, best_first_permutation}
 use Rattle.sk_heap.proofs.HeapLaws.{is_weighed, no_lighter, no_heavier}
 use Rattle.sk_seen.specs.Shown.{is_behind, Shown}
 use Rattle.sk_seen.proofs.ShownLaws.{shown_front}
@@ -23,18 +23,6 @@ heavy weight ranks = sum_by (λ r. cond (nat_le weight r.weight) 1 0) ranks
 -- Each of them does.
 abbrev pub AllHeavy : ℕ → List Rank → Type 0
 AllHeavy weight ranks = AllByRecursion (λ (r : Rank). weight ≤ r.weight) ranks
-
-is_up : (a b : ℕ) → nat_le a b ≡ true → a ≤ b
-is_up a b e = grind (arith, nat_tests)
-
-not_up : (a b : ℕ) → nat_le a b ≡ false → b < a
-not_up a b e = grind (arith, nat_tests)
-
-up_is : (a b : ℕ) → a ≤ b → nat_le a b ≡ true
-up_is a b l = grind (arith, nat_tests)
-
-up_not : (a b : ℕ) → b < a → nat_le a b ≡ false
-up_not a b l = grind (arith, nat_tests)
 
 module _ (weight : ℕ) where
   pub heavy_more : (x : Rank) (xs : List Rank) (h : Bool) → nat_le weight x.weight ≡ h → heavy weight (x ∷ xs) ≡ cond h 1 0 + heavy weight xs
@@ -57,7 +45,7 @@ module _ (weight : ℕ) where
 
   all_counted : (xs : List Rank) → AllHeavy weight xs → heavy weight xs ≡ length xs
   all_counted [] h = refl
-  all_counted (x ∷ xs) h = omega (arith, heavy_more x xs true (up_is weight x.weight h.0), all_counted xs h.1)
+  all_counted (x ∷ xs) h = omega (arith, heavy_more x xs true (le-leb weight x.weight h.0), all_counted xs h.1)
 
   -- what was seen of heavy ones: as many, or one of them is behind
   abbrev OneBehind : (Rank → Bool) → Type 0
@@ -68,7 +56,7 @@ module _ (weight : ℕ) where
   heavy_shown behind (x ∷ xs) ys (inl h) = over (nat_le weight x.weight) refl (heavy_shown behind xs ys h.1)
     where
       over : (b : Bool) → nat_le weight x.weight ≡ b → (heavy weight xs ≤ heavy weight ys) ⊎ OneBehind behind → (heavy weight (x ∷ xs) ≤ heavy weight ys) ⊎ OneBehind behind
-      over true e rest = inr (x, is_up weight x.weight e, h.0)
+      over true e rest = inr (x, leb-true weight x.weight e, h.0)
       over false e (inl less) = inl (omega (arith, less, heavy_more x xs false e))
       over false e (inr one) = inr one
   heavy_shown behind (x ∷ xs) ys (inr h) = beside h.0 h.1 h.2 h.4 (heavy_shown behind xs h.1 h.5)
@@ -83,7 +71,7 @@ module _ (weight : ℕ) where
       beside s more is (inr both) (inl less) = light (nat_le weight x.weight) refl
         where
           light : (b : Bool) → nat_le weight x.weight ≡ b → (heavy weight (x ∷ xs) ≤ heavy weight ys) ⊎ OneBehind behind
-          light true e = inr (x, is_up weight x.weight e, both.0)
+          light true e = inr (x, leb-true weight x.weight e, both.0)
           light false e =
               let all : heavy weight ys ≡ heavy weight (s ∷ more) = ap (heavy weight) is in
               inl (omega (arith, less, all, heavy_more x xs false e, heavy_more s more (nat_le weight s.weight) refl))
@@ -94,7 +82,7 @@ module _ (weight : ℕ) where
     none_heavy x [] n less = refl
     none_heavy x (y ∷ ys) n less =
         let lower = no_heavier order.by order.falling y x w n.0 in
-        omega (arith, heavy_more y ys false (up_not weight y.weight (omega (arith, lower, less))), none_heavy x ys n.1 less)
+        omega (arith, heavy_more y ys false (lt-leb weight y.weight (omega (arith, lower, less))), none_heavy x ys n.1 less)
 
     -- the first so many are heavy, where so many are
     top : (k : ℕ) (xs : List Rank) → Rises order xs → k ≤ heavy weight xs → (k ≤ length xs) × AllHeavy weight (take k xs)
@@ -103,13 +91,13 @@ module _ (weight : ℕ) where
     top (suc k) (x ∷ xs) r most = by_first (nat_le weight x.weight) refl (top k xs r.1)
       where
         by_first : (b : Bool) → nat_le weight x.weight ≡ b → (k ≤ heavy weight xs → (k ≤ length xs) × AllHeavy weight (take k xs)) → (suc k ≤ length (x ∷ xs)) × AllHeavy weight (take (suc k) (x ∷ xs))
-        by_first true e more = let rest = more (omega (arith, most, heavy_more x xs true e)) in (omega (arith, rest.0), (is_up weight x.weight e, rest.1))
-        by_first false e more = absurd (omega (arith, most, heavy_more x xs false e, none_heavy x xs r.0 (not_up weight x.weight e)))
+        by_first true e more = let rest = more (omega (arith, most, heavy_more x xs true e)) in (omega (arith, rest.0), (leb-true weight x.weight e, rest.1))
+        by_first false e more = absurd (omega (arith, most, heavy_more x xs false e, none_heavy x xs r.0 (leb-false weight x.weight e)))
 
     behind_light : (r : Rank) (held : List Rank) → is_behind order held r ≡ true → weight ≤ r.weight → AllHeavy weight held
     behind_light r [] e most = tt
     behind_light r (h ∷ held) e most =
-        let both = both_so (is_before order h r) (is_behind order held r) e in
+        let both = and_parts (is_before order h r) (is_behind order held r) e in
         let lower = no_lighter order.by order.falling h r w both.0 in
         (omega (arith, lower, most), behind_light r held both.1 most)
 
@@ -129,7 +117,7 @@ module _ (weight : ℕ) where
     same_filtered : (p : Rank → Bool) (xs : List Rank) → list_all p xs ≡ true → filter p xs ≡ xs
     same_filtered p [] e = refl
     same_filtered p (x ∷ xs) e =
-        let both = both_so (p x) (list_all p xs) e in
+        let both = and_parts (p x) (list_all p xs) e in
         ap (λ b. cond b (x ∷ filter p xs) (filter p xs)) both.0 ∙ ap (λ ys. x ∷ ys) (same_filtered p xs both.1)
 
     take_long : (k : ℕ) (xs : List Rank) → k ≤ length xs → length (take k xs) ≡ k

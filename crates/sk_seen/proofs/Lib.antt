@@ -1,7 +1,7 @@
 pub mod ShownLaws
 pub mod FrontLaws
 pub mod WalkLaws
-pub mod ToldLaws
+pub mod TellsLaws
 pub mod PageLaws
 pub mod NeedLaws
 pub mod HeavyLaws

@@ -2,6 +2,7 @@
 use Rattle.std.proofs.Common.{◌≡◌, ◌≤◌, ◌<◌, ◌⊎◌, ℕ, Bool, true, false, cond, max, nat_lt, nat_le, ◌||◌, ◌&&◌, List, Option, None, Some, refl, sym, ap, arith, inl, inr, true≢false}
 use Rattle.std.specs.List.Sorted.{IsSortedBy}
 use Rattle.std.proofs.lemmas.Bool.Decides.{nat_tests}
+use Rattle.std.proofs.lemmas.Bool.{leb-true, ltb-false, ltb-true}
 use Rattle.sk_base.specs.declared.find.Find.{Find}
 use Rattle.sk_base.specs.declared.rank.Rank.{Rank}
 use Rattle.sk_base.specs.Before.{is_before}
@@ -15,20 +16,11 @@ use Rattle.sk_seen.specs.Pages.{Pages}
 use Rattle.sk_seen.specs.Needs.{is_above, is_settled, need_at, need_for}
 use Rattle.sk_seen.proofs.PageLaws.{page_is_full, page_passes, page_of_none}
 
-less : (a b : ℕ) → nat_lt a b ≡ true → a < b
-less a b e = grind (arith, nat_tests)
-
-no_less : (a b : ℕ) → nat_lt a b ≡ false → b ≤ a
-no_less a b e = grind (arith, nat_tests)
-
-most : (a b : ℕ) → nat_le a b ≡ true → a ≤ b
-most a b e = grind (arith, nat_tests)
-
 one_of : (a b : ℕ) → (a ≤ b) ⊎ (b < a)
 one_of a b =
     elim (nat_lt b a) as (λ t. nat_lt b a ≡ t → (a ≤ b) ⊎ (b < a)) [
-      | true ↦ λ e. inr (less b a e)
-      | false ↦ λ e. inl (no_less b a e)
+      | true ↦ λ e. inr (ltb-true b a e)
+      | false ↦ λ e. inl (ltb-false b a e)
     ] refl
 
 module _ (find : Find) (docs : Docs) where
@@ -77,7 +69,7 @@ module _ (find : Find) (docs : Docs) where
     above_passes : (o : Option ℕ) (ceiling : ℕ) → need_of held ≡ o → is_above o ceiling ≡ true → IsFull find docs saw × ((r : Rank) → r.weight ≤ ceiling → last < r.id → IsPassed find docs saw r)
     above_passes None ceiling e h = let both = page_of_none find docs last saw held c pages e in (both.0, λ r w above. both.1 r)
     above_passes (Some n) ceiling e h =
-        let more : ceiling < n = less ceiling n h in
+        let more : ceiling < n = ltb-true ceiling n h in
         (page_is_full find docs last saw held c pages n e (omega (arith, more)), λ r w above. page_passes find docs last saw held c pages sorted n e r (omega (arith, w, more)) above)
 
     pub settled_is : (seen ceiling : ℕ) → is_settled find.options seen held ceiling ≡ true
@@ -85,11 +77,11 @@ module _ (find : Find) (docs : Docs) where
     settled_is seen ceiling h =
         elim (nat_lt ceiling find.options.cutoff) as (λ b. nat_lt ceiling find.options.cutoff ≡ b → (b || (nat_le (wanted find) seen && is_above (need_of held) ceiling)) ≡ true
         → (ceiling < find.options.cutoff) ⊎ ((find.options.cutoff ≤ ceiling) × (wanted find ≤ seen) × IsFull find docs saw × ((r : Rank) → r.weight ≤ ceiling → last < r.id → IsPassed find docs saw r))) [
-          | true ↦ λ e g. inl (less ceiling find.options.cutoff e)
+          | true ↦ λ e g. inl (ltb-true ceiling find.options.cutoff e)
           | false ↦ λ e g.
               let b = both_true (nat_le (wanted find) seen) (is_above (need_of held) ceiling) g in
               let p = above_passes (need_of held) ceiling refl b.1 in
-              inr (no_less ceiling find.options.cutoff e, most (wanted find) seen b.0, p.0, p.1)
+              inr (ltb-false ceiling find.options.cutoff e, leb-true (wanted find) seen b.0, p.0, p.1)
         ] refl h
       where
         both_true : (a b : Bool) → (a && b) ≡ true → (a ≡ true) × (b ≡ true)

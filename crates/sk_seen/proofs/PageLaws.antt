@@ -15,20 +15,21 @@ use Rattle.sk_base.specs.Numbers.{Docs}
 use Rattle.sk_model.specs.Matches.{key_of}
 use Rattle.sk_model.specs.Page.{place, best_first, kept_of, kept}
 use Rattle.sk_model.specs.Counts.{kept_by}
-use Rattle.sk_model.proofs.OrderLaws.{before_order, both_so, Rises, rises_best_first, best_first_permutation, sorted_is}
+use Rattle.sk_model.proofs.OrderLaws.{before_order, Rises, rises_best_first, best_first_permutation, sorted_is}
 use Rattle.sk_heap.specs.declared.hit.Hit.{Hit}
 use Rattle.sk_heap.specs.Held.{Held, ranks_of, placed, last_weight, need_behind, need_of, offered, without}
 use Rattle.sk_heap.proofs.HeapLaws.{full_by, ranks_placed, need_keeps_out}
 use Rattle.sk_collapse.specs.Collapsed.{Collapsed, kept_in}
 use Rattle.sk_collapse.specs.Verdicts.{Judges, without_rank}
 use Rattle.sk_collapse.specs.declared.verdict.Verdict.{Verdict}
-use Rattle.sk_collapse.proofs.CollapseLaws.{distinct_from, differ_more, best_more_kept, best_for_kept, kept_sorted, kept_differ, length-without_rank}
-use Rattle.sk_collapse.proofs.PlacedLaws.{Distinct, distinct_best}
-use Rattle.std.proofs.lemmas.List.Kept.{AllPairs-cons}
+use Rattle.sk_collapse.proofs.CollapseLaws.{distinct_from, differ_more, best_for_kept, kept_sorted, kept_differ, length-without_rank, pairs_distinct}
+use Rattle.sk_collapse.proofs.PlacedLaws.{distinct_best, take_placed}
+use Rattle.std.proofs.lemmas.Bool.{and_from, and_parts}
+use Rattle.sk_model.proofs.HeldLaws.{each_weaker}
 use Rattle.sk_seen.specs.Shown.{is_behind}
 use Rattle.sk_seen.specs.Walks.{page_end, held_by, IsFull, IsPassed}
 use Rattle.sk_seen.specs.Pages.{CollapsesBy, judged, SeesBy, Offers, Pages}
-use Rattle.sk_seen.proofs.FrontLaws.{both_are, before_through}
+use Rattle.sk_seen.proofs.FrontLaws.{before_through}
 
 -- ---- lists
 
@@ -37,7 +38,7 @@ all_take P zero xs h = tt
 all_take P (suc n) [] h = tt
 all_take P (suc n) (x ∷ xs) h = (h.0, all_take P n xs h.1)
 
-all_filter : {X : Type 0} (P : X → Type 0) (p : X → Bool) (xs : List X) → AllByRecursion P xs → AllByRecursion P (filter p xs)
+pub all_filter : {X : Type 0} (P : X → Type 0) (p : X → Bool) (xs : List X) → AllByRecursion P xs → AllByRecursion P (filter p xs)
 all_filter P p [] h = tt
 all_filter P p (x ∷ xs) h =
     elim (p x) as (λ b. AllByRecursion P (cond b (x ∷ filter p xs) (filter p xs))) [
@@ -52,10 +53,6 @@ all_placed P order x (y ∷ ys) p h =
       | true ↦ (p, h)
       | false ↦ (h.0, all_placed P order x ys p h.1)
     ]
-
-all_weaker : {X : Type 0} (P Q : X → Type 0) → ((x : X) → P x → Q x) → (xs : List X) → AllByRecursion P xs → AllByRecursion Q xs
-all_weaker P Q f [] h = tt
-all_weaker P Q f (x ∷ xs) h = (f x h.0, all_weaker P Q f xs h.1)
 
 ranks_take : (n : ℕ) (hits : List Hit) → ranks_of (take n hits) ≡ take n (ranks_of hits)
 ranks_take zero hits = refl
@@ -110,29 +107,29 @@ module _ (order : Order) where
     leads_take : (n : ℕ) (xs : List Rank) → list_all leads xs ≡ true → list_all leads (take n xs) ≡ true
     leads_take zero xs h = refl
     leads_take (suc n) [] h = refl
-    leads_take (suc n) (x ∷ xs) h = let b = both_so (leads x) (list_all leads xs) h in both_are (leads x) (list_all leads (take n xs)) b.0 (leads_take n xs b.1)
+    leads_take (suc n) (x ∷ xs) h = let b = and_parts (leads x) (list_all leads xs) h in and_from (leads x) (list_all leads (take n xs)) b.0 (leads_take n xs b.1)
 
     leads_less : (n : ℕ) (xs : List Rank) → list_all leads (take (suc n) xs) ≡ true → list_all leads (take n xs) ≡ true
     leads_less zero xs h = refl
     leads_less (suc n) [] h = refl
-    leads_less (suc n) (x ∷ xs) h = let b = both_so (leads x) (list_all leads (take (suc n) xs)) h in both_are (leads x) (list_all leads (take n xs)) b.0 (leads_less n xs b.1)
+    leads_less (suc n) (x ∷ xs) h = let b = and_parts (leads x) (list_all leads (take (suc n) xs)) h in and_from (leads x) (list_all leads (take n xs)) b.0 (leads_less n xs b.1)
 
     leads_without : (id : ℕ) (xs : List Rank) → list_all leads xs ≡ true → list_all leads (without_rank id xs) ≡ true
     leads_without id [] h = refl
     leads_without id (x ∷ xs) h =
-        let b = both_so (leads x) (list_all leads xs) h in
+        let b = and_parts (leads x) (list_all leads xs) h in
         elim (x.id == id) as (λ c. list_all leads (cond (not c) (x ∷ without_rank id xs) (without_rank id xs)) ≡ true) [
           | true ↦ leads_without id xs b.1
-          | false ↦ both_are (leads x) (list_all leads (without_rank id xs)) b.0 (leads_without id xs b.1)
+          | false ↦ and_from (leads x) (list_all leads (without_rank id xs)) b.0 (leads_without id xs b.1)
         ]
 
     leads_placed : (x : Rank) (xs : List Rank) → leads x ≡ true → list_all leads xs ≡ true → list_all leads (place order x xs) ≡ true
-    leads_placed x [] e h = both_are (leads x) true e refl
+    leads_placed x [] e h = and_from (leads x) true e refl
     leads_placed x (y ∷ ys) e h =
-        let b = both_so (leads y) (list_all leads ys) h in
+        let b = and_parts (leads y) (list_all leads ys) h in
         elim (is_before order x y) as (λ c. list_all leads (cond c (x ∷ y ∷ ys) (y ∷ place order x ys)) ≡ true) [
-          | true ↦ both_are (leads x) (list_all leads (y ∷ ys)) e h
-          | false ↦ both_are (leads y) (list_all leads (place order x ys)) b.0 (leads_placed x ys e b.1)
+          | true ↦ and_from (leads x) (list_all leads (y ∷ ys)) e h
+          | false ↦ and_from (leads y) (list_all leads (place order x ys)) b.0 (leads_placed x ys e b.1)
         ]
 
     -- a match that comes to so many
@@ -140,17 +137,17 @@ module _ (order : Order) where
     leads_more zero x xs l h = refl
     leads_more (suc n) x [] l h = absurd (omega (arith, l))
     leads_more (suc n) x (y ∷ ys) l h =
-        let b = both_so (leads y) (list_all leads (take n ys)) h in
+        let b = and_parts (leads y) (list_all leads (take n ys)) h in
         elim (is_before order x y) as (λ c. is_before order x y ≡ c → list_all leads (take (suc n) (cond c (x ∷ y ∷ ys) (y ∷ place order x ys))) ≡ true) [
-          | true ↦ λ e. both_are (leads x) (list_all leads (take n (y ∷ ys))) (before_then x y r e b.0) (leads_less n (y ∷ ys) h)
-          | false ↦ λ e. both_are (leads y) (list_all leads (take n (place order x ys))) b.0 (leads_more n x ys (omega (arith, l)) b.1)
+          | true ↦ λ e. and_from (leads x) (list_all leads (take n (y ∷ ys))) (before_then x y r e b.0) (leads_less n (y ∷ ys) h)
+          | false ↦ λ e. and_from (leads y) (list_all leads (take n (place order x ys))) b.0 (leads_more n x ys (omega (arith, l)) b.1)
         ] refl
 
     leads_at : (n i : ℕ) (xs : List Rank) (d : Rank) → i < n → i < length xs → list_all leads (take n xs) ≡ true → leads (get_or xs i d) ≡ true
     leads_at zero i xs d l m h = absurd (omega (arith, l))
     leads_at (suc n) i [] d l m h = absurd (omega (arith, m))
-    leads_at (suc n) zero (x ∷ xs) d l m h = (both_so (leads x) (list_all leads (take n xs)) h).0
-    leads_at (suc n) (suc i) (x ∷ xs) d l m h = leads_at n i xs d (omega (arith, l)) (omega (arith, m)) (both_so (leads x) (list_all leads (take n xs)) h).1
+    leads_at (suc n) zero (x ∷ xs) d l m h = (and_parts (leads x) (list_all leads (take n xs)) h).0
+    leads_at (suc n) (suc i) (x ∷ xs) d l m h = leads_at n i xs d (omega (arith, l)) (omega (arith, m)) (and_parts (leads x) (list_all leads (take n xs)) h).1
 
   -- what stands before a place differs from what stands there
   other_ids : (a b : ℕ) → a ≢ b → (a == b) ≡ false
@@ -192,10 +189,6 @@ module _ (order : Order) where
           subst (λ zs. list_all (leads r) (take n (place order x zs)) ≡ true) (sym (apart_front n among.0 xs y (more among.0 n e) among.1.0 among.1.1 differ))
           (leads_more r n x (take n xs) (omega (arith, long, l)) (leads_take r n (take n xs) h))
 
-pairs_from : (xs : List Rank) → Distinct xs → AllPairs (λ x y. x.id ≢ y.id) xs
-pairs_from [] d = λ i j e l m. absurd (omega (arith, m))
-pairs_from (x ∷ xs) d = AllPairs-cons (λ x y. x.id ≢ y.id) x xs (All-from_recursion (λ y. x.id ≢ y.id) xs d.0) (pairs_from xs d.1)
-
 -- ---- what is kept under a verdict
 
 module _ (find : Find) (docs : Docs) where
@@ -226,7 +219,7 @@ module _ (find : Find) (docs : Docs) where
 
   -- the kept matches stand in order, and their ids differ
   kept_orders : (newest : List Rank) → AllPairs (λ x y. x.id ≢ y.id) newest → (o : Option Collapse) (k : Rank → List ℕ) → IsSortedBy (is_before find.order) (kept find.order o k newest) × AllPairs (λ x y. x.id ≢ y.id) (kept find.order o k newest)
-  kept_orders newest differ None k = (sorted_from find.order (best_first find.order newest) (rises_best_first find.order newest), pairs_from (best_first find.order newest) (distinct_best find.order newest (distinct_from newest differ)))
+  kept_orders newest differ None k = (sorted_from find.order (best_first find.order newest) (rises_best_first find.order newest), pairs_distinct (best_first find.order newest) (distinct_best find.order newest (distinct_from newest differ)))
   kept_orders newest differ (Some c) k = (kept_sorted find.order c.max k newest differ, kept_differ find.order c.max k newest differ)
 
   module _ (last : ℕ) (saw : List Rank) (held : Held) (c : Option Collapsed) (pages : Pages find docs last saw held c) (x : Rank) (later : last < x.id) where
@@ -237,10 +230,10 @@ module _ (find : Find) (docs : Docs) where
     After = kept_by find docs (x ∷ pages.newest)
 
     pub fresh : All (λ (r : Rank). r.id ≢ x.id) pages.newest
-    fresh = All-from_recursion (λ (r : Rank). r.id ≢ x.id) pages.newest (all_weaker (λ (r : Rank). r.id ≤ last) (λ (r : Rank). r.id ≢ x.id) (λ r l e. absurd (omega (arith, l, e, later))) pages.newest pages.low)
+    fresh = All-from_recursion (λ (r : Rank). r.id ≢ x.id) pages.newest (each_weaker (λ (r : Rank). r.id ≤ last) (λ (r : Rank). r.id ≢ x.id) (λ r l e. absurd (omega (arith, l, e, later))) pages.newest pages.low)
 
     pub fresh_hits : All (λ (h : Hit). h.rank.id ≢ x.id) held.hits
-    fresh_hits = All-from_recursion (λ (h : Hit). h.rank.id ≢ x.id) held.hits (all_weaker (λ (h : Hit). h.rank.id ≤ last) (λ (h : Hit). h.rank.id ≢ x.id) (λ h l e. absurd (omega (arith, l, e, later))) held.hits pages.under)
+    fresh_hits = All-from_recursion (λ (h : Hit). h.rank.id ≢ x.id) held.hits (each_weaker (λ (h : Hit). h.rank.id ≤ last) (λ (h : Hit). h.rank.id ≢ x.id) (λ h l e. absurd (omega (arith, l, e, later))) held.hits pages.under)
 
     differs : AllPairs (λ x y. x.id ≢ y.id) (x ∷ pages.newest)
     differs = differ_more x pages.newest pages.differ fresh
@@ -256,7 +249,7 @@ module _ (find : Find) (docs : Docs) where
       hits_after Verdict.Keep j =
           offered_is held pages.order pages.most
           ∙ ap (λ rs. take (page_end find) (place find.order x rs)) pages.hits
-          ∙ sym (best_more_kept find.order (page_end find) x Before)
+          ∙ sym (take_placed find.order (page_end find) x Before)
           ∙ ap (take (page_end find)) (sym j)
       hits_after (Verdict.KeepFor id) j =
           let y : Rank = j.0 in
@@ -298,14 +291,14 @@ module _ (find : Find) (docs : Docs) where
         newest = x ∷ pages.newest;
         same = best_last find.order pages.newest saw x pages.same differs;
         differ = differs;
-        low = (omega arith, all_weaker (λ (r : Rank). r.id ≤ last) (λ (r : Rank). r.id ≤ x.id) (λ r l. omega (arith, l, later)) pages.newest pages.low);
+        low = (omega arith, each_weaker (λ (r : Rank). r.id ≤ last) (λ (r : Rank). r.id ≤ x.id) (λ r l. omega (arith, l, later)) pages.newest pages.low);
         order = same_order v ∙ pages.order;
         most = same_most v ∙ pages.most;
         room = same_room v ∙ pages.room;
         hits = hits_after v j;
         keys = all_judged (λ (h : Hit). h.key ≡ key_of find.collapse docs h.rank) (own ∙ ap key (sym is)) v pages.keys;
         under = all_judged (λ (h : Hit). h.rank.id ≤ x.id) (subst (λ (r : Rank). r.id ≤ x.id) (sym is) (omega arith)) v
-            (all_weaker (λ (h : Hit). h.rank.id ≤ last) (λ (h : Hit). h.rank.id ≤ x.id) (λ h l. omega (arith, l, later)) held.hits pages.under);
+            (each_weaker (λ (h : Hit). h.rank.id ≤ last) (λ (h : Hit). h.rank.id ≤ x.id) (λ h l. omega (arith, l, later)) held.hits pages.under);
         collapse = collapse;
       }
 
@@ -388,13 +381,13 @@ module _ (find : Find) (docs : Docs) where
     newest = pages.newest;
     same = pages.same;
     differ = pages.differ;
-    low = all_weaker (λ (r : Rank). r.id ≤ last) (λ (r : Rank). r.id ≤ later) (λ r l. omega (arith, l, up)) pages.newest pages.low;
+    low = each_weaker (λ (r : Rank). r.id ≤ last) (λ (r : Rank). r.id ≤ later) (λ r l. omega (arith, l, up)) pages.newest pages.low;
     order = pages.order;
     most = pages.most;
     room = pages.room;
     hits = pages.hits;
     keys = pages.keys;
-    under = all_weaker (λ (h : Hit). h.rank.id ≤ last) (λ (h : Hit). h.rank.id ≤ later) (λ h l. omega (arith, l, up)) held.hits pages.under;
+    under = each_weaker (λ (h : Hit). h.rank.id ≤ last) (λ (h : Hit). h.rank.id ≤ later) (λ h l. omega (arith, l, up)) held.hits pages.under;
     collapse = pages.collapse;
   }
 
@@ -406,7 +399,7 @@ module _ (find : Find) (docs : Docs) where
 
     all_behind : (r : Rank) (hits : List Hit) → AllByRecursion (λ (h : Hit). is_before held.order h.rank r ≡ true) hits → is_behind held.order (ranks_of hits) r ≡ true
     all_behind r [] h = refl
-    all_behind r (x ∷ hits) h = both_are (is_before held.order x.rank r) (is_behind held.order (ranks_of hits) r) h.0 (all_behind r hits h.1)
+    all_behind r (x ∷ hits) h = and_from (is_before held.order x.rank r) (is_behind held.order (ranks_of hits) r) h.0 (all_behind r hits h.1)
 
     pub page_is_full : (n : ℕ) → need_of held ≡ Some n → 0 < n → IsFull find docs saw
     page_is_full n e some =
@@ -418,7 +411,7 @@ module _ (find : Find) (docs : Docs) where
 
     pub page_passes : IsSortedBy (λ (x y : Hit). is_before held.order x.rank y.rank) held.hits → (n : ℕ) → need_of held ≡ Some n → (r : Rank) → r.weight < n → last < r.id → IsPassed find docs saw r
     page_passes sorted n e r less above =
-        let after = need_keeps_out held n r sorted e less (All-from_recursion (λ (h : Hit). h.rank.id < r.id) held.hits (all_weaker (λ (h : Hit). h.rank.id ≤ last) (λ (h : Hit). h.rank.id < r.id) (λ h l. omega (arith, l, above)) held.hits pages.under)) in
+        let after = need_keeps_out held n r sorted e less (All-from_recursion (λ (h : Hit). h.rank.id < r.id) held.hits (each_weaker (λ (h : Hit). h.rank.id ≤ last) (λ (h : Hit). h.rank.id < r.id) (λ h l. omega (arith, l, above)) held.hits pages.under)) in
         subst (λ (rs : List Rank). is_behind find.order rs r ≡ true) held_is
         (subst (λ (o : Order). is_behind o (ranks_of held.hits) r ≡ true) pages.order (all_behind r held.hits (recursion_from_All (λ (h : Hit). is_before held.order h.rank r ≡ true) held.hits after)))
 

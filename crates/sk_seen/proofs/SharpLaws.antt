@@ -9,7 +9,7 @@ use Rattle.sk_query.specs.Trees.{Tree, parts, Trees}
 use Rattle.sk_model.specs.Allowance.{key_readings, value_readings, extra}
 use Rattle.sk_model.specs.Settled.{stop_point}
 use Rattle.sk_model.specs.Sharp.{is_plain, flat_lists, ups, stop_number, rare_lists, rare_readings, rare_number, terms_in, of_two, decay_of, decay_number}
-use Rattle.sk_seen.specs.Told.{IsSpent}
+use Rattle.sk_seen.specs.Tells.{IsSpent}
 
 -- a plain find goes by relevance and does not collapse
 pub plain_is : (find : Find) → is_plain find ≡ true → (find.order.by ≡ OrderBy.Relevance) × (find.collapse ≡ None)

@@ -1,10 +1,12 @@
 -- A search by relevance, without collapsing, near a point at which its page is settled: before it the tree is asked for no more than the document there scores, and from it on for more than the weight that settles it.
-use Rattle.std.proofs.Common.{◌≡◌, ◌≢◌, ◌≤◌, ◌<◌, ◌+◌, ◌-◌, ◌⊎◌, ℕ, Bool, true, false, cond, ◌&&◌, ◌||◌, ◌==◌, nat_le, nat_lt, max, min, List, [], ◌∷◌, ◌++◌, length, take, Option, None, Some, option_map, refl, sym, ap, ◌∙◌, subst, arith, inl, inr, true≢false, length-take}
+use Rattle.std.proofs.Common.{◌≡◌, ◌≢◌, ◌≤◌, ◌<◌, ◌+◌, ◌-◌, ◌⊎◌, ℕ, Bool, true, false, cond, ◌&&◌, ◌||◌, ◌==◌, nat_le, nat_lt, max, min, List, [], ◌∷◌, ◌++◌, length, take, Option, None, Some, option_map, refl, sym, ap, ◌∙◌, subst, arith, inl, inr, length-take}
 use Rattle.std.specs.List.{AllByRecursion, cons_option}
 use Rattle.std.specs.Option.{option_and_then, IsSomeAnd}
 use Rattle.std.specs.List.Sorted.{IsSortedBy}
 use Rattle.std.proofs.lemmas.Bool.Decides.{nat_tests}
 use Rattle.std.proofs.lemmas.List.{length-map}
+use Rattle.std.proofs.lemmas.Bool.{le-ltb, leb-false, leb-true, ltb-false, ltb-true}
+use Rattle.sk_model.proofs.SettledLaws.{both_none, is_none, some_left}
 use Rattle.sk_base.specs.declared.find.Find.{Find}
 use Rattle.sk_base.specs.declared.rank.Order.{Order}
 use Rattle.sk_base.specs.declared.rank.OrderBy.{OrderBy}
@@ -38,43 +40,11 @@ use Rattle.sk_seen.proofs.HeavyLaws.{heavy, heavy_more, AllHeavy, filled, full_o
 
 -- ---- tests
 
-is_up : (a b : ℕ) → nat_le a b ≡ true → a ≤ b
-is_up a b e = grind (arith, nat_tests)
-
-not_up : (a b : ℕ) → nat_le a b ≡ false → b < a
-not_up a b e = grind (arith, nat_tests)
-
-is_less : (a b : ℕ) → nat_lt a b ≡ true → a < b
-is_less a b e = grind (arith, nat_tests)
-
-no_less : (a b : ℕ) → nat_lt a b ≡ false → b ≤ a
-no_less a b e = grind (arith, nat_tests)
-
-less_not : (a b : ℕ) → b ≤ a → nat_lt a b ≡ false
-less_not a b l = grind (arith, nat_tests)
-
-is_zero : (n : ℕ) → (n == 0) ≡ true → n ≡ 0
-is_zero n e = grind (arith, nat_tests)
-
 not_zero : (n : ℕ) → (n == 0) ≡ false → 1 ≤ n
 not_zero n e = grind (arith, nat_tests)
 
 zero_not : (n : ℕ) → 1 ≤ n → (n == 0) ≡ false
 zero_not n l = grind (arith, nat_tests)
-
-both_zero : (a b : ℕ) → ((a == 0) && (b == 0)) ≡ true → (a ≡ 0) × (b ≡ 0)
-both_zero a b e = by_first (a == 0) refl e
-  where
-    by_first : (t : Bool) → (a == 0) ≡ t → (t && (b == 0)) ≡ true → (a ≡ 0) × (b ≡ 0)
-    by_first true f g = (is_zero a f, is_zero b g)
-    by_first false f g = absurd (true≢false (sym g))
-
-some_left : (a b : ℕ) → ((a == 0) && (b == 0)) ≡ false → 1 ≤ a + b
-some_left a b e = by_first (a == 0) refl e
-  where
-    by_first : (t : Bool) → (a == 0) ≡ t → (t && (b == 0)) ≡ false → 1 ≤ a + b
-    by_first true f g = let some = not_zero b g in omega (arith, some)
-    by_first false f g = let some = not_zero a f in omega (arith, some)
 
 -- ---- at which match a page is settled
 
@@ -110,7 +80,7 @@ module _ (weight : ℕ) where
       → (1 ≤ (n - 1) + less_heavy weight m x → Within (n - 1) (less_heavy weight m x) xs ys ⊎ Beyond (n - 1) (less_heavy weight m x) xs ys)
       → Within n m (x ∷ xs) ys ⊎ Beyond n m (x ∷ xs) ys
   split_step n m x xs ys true f rest =
-      let none = both_zero (n - 1) (less_heavy weight m x) f in
+      let none = both_none (n - 1) (less_heavy weight m x) f in
       inl (omega (arith, none.0), omega (arith, none.1, heavy_left m x xs), λ last low. at_first n m x xs ys last f low.0)
   split_step n m x xs ys false f rest = onward (rest (some_left (n - 1) (less_heavy weight m x) f))
     where
@@ -149,9 +119,9 @@ module _ (weight : ℕ) where
       → cond last y.id (settled_from (n - 1) (less_heavy weight m y) weight ys) ≡ id
       → (settled_from (n - 1) (less_heavy weight m y) weight ys ≡ id → AnyOf (Settles id (n - 1) (less_heavy weight m y)) ys)
       → AnyOf (Settles id n m) (y ∷ ys)
-  settles_step n m id y ys true true e f is rest = inl (is, λ _ _. is_up weight y.weight e)
+  settles_step n m id y ys true true e f is rest = inl (is, λ _ _. leb-true weight y.weight e)
   settles_step n m id y ys false true e f is rest =
-      let none = both_zero (n - 1) (less_heavy weight m y) f in
+      let none = both_none (n - 1) (less_heavy weight m y) f in
       inl (is, λ _ some. absurd (omega (arith, some, none.1, less_false m y e)))
   settles_step n m id y ys h false e f is rest =
       let left = some_left (n - 1) (less_heavy weight m y) f in
@@ -183,7 +153,7 @@ module _ (query : Tree) (find : Find) where
           ] refl h
         where
           either : nat_le find.options.cutoff w ≡ true → P (ranked query find d w) ⊎ AnyOf 0 P (found_by query find docs) → AnyDoc (λ e w. P (ranked query find e w)) (d ∷ docs)
-          either f (inl p) = inl (w, e, is_up find.options.cutoff w f, p)
+          either f (inl p) = inl (w, e, leb-true find.options.cutoff w f, p)
           either f (inr g) = inr (rest g)
 
   -- that document is the one with its id
@@ -305,7 +275,7 @@ module _ (find : Find) (docs : Docs) (by : find.order.by ≡ OrderBy.Relevance) 
         let full : page_end find ≤ length held.hits = omega (arith, hits_long, long) in
         let least = last_heavy (settling_weight find weight) held.hits (to_hits (settling_weight find weight) held.hits (subst (AllHeavy (settling_weight find weight)) (sym on_page) all)) (omega (arith, full, some)) in (
           cond find.order.falling lightest (lightest + 1),
-          need_some some ∙ ap (λ b. cond b (Some 0) (Some (cond find.order.falling lightest (lightest + 1)))) (less_not (length held.hits) held.most (omega (arith, full, pages.most))),
+          need_some some ∙ ap (λ b. cond b (Some 0) (Some (cond find.order.falling lightest (lightest + 1)))) (le-ltb (length held.hits) held.most (omega (arith, full, pages.most))),
           above find.order.falling least,
         )
       where
@@ -322,16 +292,16 @@ module _ (find : Find) (docs : Docs) (by : find.order.by ≡ OrderBy.Relevance) 
         at_weight false s l = omega (arith, l)
 
         by_lightest : (b : Bool) → nat_le (settling_weight find weight) lightest ≡ b → page_end find ≤ length held.hits → lightest < settling_weight find weight
-        by_lightest false e long = not_up (settling_weight find weight) lightest e
+        by_lightest false e long = leb-false (settling_weight find weight) lightest e
         by_lightest true e long =
-            let all = of_hits lightest (settling_weight find weight) held.hits (is_up (settling_weight find weight) lightest e) (all_heavy held.order (by_weight held.order.by held_by_weight) held.hits sorted) in
+            let all = of_hits lightest (settling_weight find weight) held.hits (leb-true (settling_weight find weight) lightest e) (all_heavy held.order (by_weight held.order.by held_by_weight) held.hits sorted) in
             let many = full_of_heavy (settling_weight find weight) find.order (by_weight find.order.by by) (page_end find) found saw (subst (λ rs. Shown (is_behind find.order rs) found saw) (held_flat saw) shown) (omega (arith, hits_long, long)) (subst (AllHeavy (settling_weight find weight)) on_page all) in
             absurd (omega (arith, many, few))
 
         by_full : (b : Bool) → nat_lt (length held.hits) held.most ≡ b → (n : ℕ) × (need_of held ≡ Some n) × (n ≤ settling_weight find weight)
         by_full true e = (0, need_some some ∙ ap (λ b. cond b (Some 0) (Some (cond find.order.falling lightest (lightest + 1)))) e, omega arith)
         by_full false e =
-            let long = no_less (length held.hits) held.most e in (
+            let long = ltb-false (length held.hits) held.most e in (
               cond find.order.falling lightest (lightest + 1),
               need_some some ∙ ap (λ b. cond b (Some 0) (Some (cond find.order.falling lightest (lightest + 1)))) e,
               at_weight find.order.falling (settling_weight find weight) (by_lightest (nat_le (settling_weight find weight) lightest) refl (omega (arith, long, pages.most))),
@@ -383,17 +353,17 @@ module _ (query : Tree) (find : Find) (docs : Docs) (by : find.order.by ≡ Orde
     how = by_tests (wanted find == 0) (nat_lt weight find.options.cutoff) refl refl
       where
         by_tests : (a b : Bool) → (wanted find == 0) ≡ a → nat_lt weight find.options.cutoff ≡ b → ((point ≡ 0) × Needless) ⊎ Settling
-        by_tests true b e f = inl (ap (λ t. cond (t || nat_lt weight find.options.cutoff) 0 (settled_from (wanted find) (page_end find) (settling_weight find weight) (found_by query find docs))) e, inl (is_zero (wanted find) e))
+        by_tests true b e f = inl (ap (λ t. cond (t || nat_lt weight find.options.cutoff) 0 (settled_from (wanted find) (page_end find) (settling_weight find weight) (found_by query find docs))) e, inl (is_none (wanted find) e))
         by_tests false true e f =
             inl (
               ap (λ t. cond (t || nat_lt weight find.options.cutoff) 0 (settled_from (wanted find) (page_end find) (settling_weight find weight) (found_by query find docs))) e
                   ∙ ap (λ t. cond t 0 (settled_from (wanted find) (page_end find) (settling_weight find weight) (found_by query find docs))) f,
-              inr (is_less weight find.options.cutoff f),
+              inr (ltb-true weight find.options.cutoff f),
             )
         by_tests false false e f =
             inr (
               not_zero (wanted find) e,
-              no_less weight find.options.cutoff f,
+              ltb-false weight find.options.cutoff f,
               ap (λ t. cond (t || nat_lt weight find.options.cutoff) 0 (settled_from (wanted find) (page_end find) (settling_weight find weight) (found_by query find docs))) e
                   ∙ ap (λ t. cond t 0 (settled_from (wanted find) (page_end find) (settling_weight find weight) (found_by query find docs))) f
                   ∙ ap (settled_from (wanted find) (page_end find) (settling_weight find weight)) found_is,
@@ -417,7 +387,7 @@ module _ (query : Tree) (find : Find) (docs : Docs) (by : find.order.by ≡ Orde
       low_by k j w is_k is_j some heavy_so most true e =
           subst (λ t. t ≤ w) (sym (ap (λ b. cond b find.options.cutoff (need_at (need_of held) find.options.cutoff ceiling)) e)) most
       low_by k j w is_k is_j some heavy_so most false e =
-          let many = no_less (length saw) (wanted find) e in
+          let many = ltb-false (length saw) (wanted find) e in
           let none : k ≡ 0 = omega (arith, is_k, many, saw_long) in
           let one : 1 ≤ j = omega (arith, some, none) in
           let low = need_low find docs by flat walk.last saw held c pages sorted weight (omega (arith, is_j, one)) front walk.shown (omega (arith, is_j, one)) in
@@ -461,7 +431,7 @@ module _ (query : Tree) (find : Find) (docs : Docs) (by : find.order.by ≡ Orde
       high_low low false e = high_of (need_of held) refl e (λ n _. omega (arith, low))
 
       high_full : wanted find ≤ length front → page_end find ≤ heavy (settling_weight find weight) front → (weight < asked) ⊎ (ceiling < asked)
-      high_full many heavy_many = high_of (need_of held) refl (less_not (length saw) (wanted find) seen_many) (by_size (page_end find == 0) refl)
+      high_full many heavy_many = high_of (need_of held) refl (le-ltb (length saw) (wanted find) seen_many) (by_size (page_end find == 0) refl)
         where
           seen_many : wanted find ≤ length saw
           seen_many =
@@ -476,7 +446,7 @@ module _ (query : Tree) (find : Find) (docs : Docs) (by : find.order.by ≡ Orde
           some_is m n e = cc
 
           by_size : (b : Bool) → (page_end find == 0) ≡ b → (n : ℕ) → need_of held ≡ Some n → weight < max n find.options.cutoff
-          by_size true e n f = absurd (none_is_some (sym (need_none find docs by flat walk.last saw held c pages sorted (is_zero (page_end find) e)) ∙ f))
+          by_size true e n f = absurd (none_is_some (sym (need_none find docs by flat walk.last saw held c pages sorted (is_none (page_end find) e)) ∙ f))
             where
               none_is_some : None ≡ Some n → ⊥
               none_is_some g = cc
@@ -562,7 +532,7 @@ done_after query find held seen weight ceiling low high = by_cutoff (nat_lt ceil
 
     by_cutoff : (b : Bool) → nat_lt ceiling find.options.cutoff ≡ b → (nat_lt ceiling find.options.cutoff || (nat_le (wanted find) seen && is_above (need_of held) ceiling)) ≡ true
     by_cutoff true e = ap (λ b. b || (nat_le (wanted find) seen && is_above (need_of held) ceiling)) e
-    by_cutoff false e = ap (λ b. b || (nat_le (wanted find) seen && is_above (need_of held) ceiling)) e ∙ by_seen (nat_lt seen (wanted find)) refl (no_less ceiling find.options.cutoff e)
+    by_cutoff false e = ap (λ b. b || (nat_le (wanted find) seen && is_above (need_of held) ceiling)) e ∙ by_seen (nat_lt seen (wanted find)) refl (ltb-false ceiling find.options.cutoff e)
 
 -- the first that is given stands no later than any
 pub first_lowest : (give : ℕ → Option ℕ) (low id h w : ℕ) (document : Document) (docs : Docs) → RiseAbove low docs → document_at id docs ≡ Some document → give id ≡ Some w → first_id (weighed give docs) ≡ Some h → h ≤ id
@@ -585,9 +555,9 @@ first_lowest give low id h w document (d ∷ docs) up there is first = by_given 
     none_at o e f = cc
 
     at_or_after : (b : Bool) → (d.0 == id) ≡ b → (c : Bool) → nat_le d.0 id ≡ c → d.0 ≤ id
-    at_or_after b e true f = is_up d.0 id f
+    at_or_after b e true f = leb-true d.0 id f
     at_or_after true e false f = let same = same_id d.0 id e in omega (arith, same)
-    at_or_after false e false f = absurd (none_at (document_at id docs) (found-below d.0 id docs (let l = not_up d.0 id f in omega (arith, l)) up.1) (sym (found-other id d docs (other_id d.0 id e)) ∙ there))
+    at_or_after false e false f = absurd (none_at (document_at id docs) (found-below d.0 id docs (let l = leb-false d.0 id f in omega (arith, l)) up.1) (sym (found-other id d docs (other_id d.0 id e)) ∙ there))
 
     tail : (b : Bool) → (d.0 == id) ≡ b → give d.0 ≡ None → document_at id docs ≡ Some document
     tail true e none = absurd (none_is (give id) (ap give (sym (same_id d.0 id e)) ∙ none) is)

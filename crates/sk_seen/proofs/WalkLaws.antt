@@ -4,6 +4,8 @@ use Rattle.std.specs.List.{AllByRecursion, filter_map, cons_option}
 use Rattle.std.proofs.lemmas.Bool.Decides.{nat_tests}
 use Rattle.std.proofs.lemmas.List.{take-append-le}
 use Rattle.std.proofs.lemmas.List.Elements.{filter_map-append, filter-append}
+use Rattle.std.proofs.lemmas.Bool.{le-leb, leb-false, leb-true}
+use Rattle.sk_model.proofs.HeldLaws.{each_weaker}
 use Rattle.sk_base.specs.declared.find.Find.{Find}
 use Rattle.sk_base.specs.declared.rank.Rank.{Rank}
 use Rattle.sk_base.specs.Numbers.{Docs}
@@ -21,25 +23,12 @@ use Rattle.sk_seen.proofs.ShownLaws.{shown_same, shown_append, shown_weaker, sho
 
 -- ---- tests and lists
 
-is_most : (a b : ℕ) → nat_le a b ≡ true → a ≤ b
-is_most a b e = grind (arith, nat_tests)
-
-not_most : (a b : ℕ) → nat_le a b ≡ false → b < a
-not_most a b e = grind (arith, nat_tests)
-
-most_is : (a b : ℕ) → a ≤ b → nat_le a b ≡ true
-most_is a b l = grind (arith, nat_tests)
-
 none_some : {X : Type 0} (o : Option X) (x : X) → o ≡ None → o ≡ Some x → ⊥
 none_some o x none e = true≢false (sym (ap is_some (sym none ∙ e)))
 
-all_append : {X : Type 0} (P : X → Type 0) (xs ys : List X) → AllByRecursion P xs → AllByRecursion P ys → AllByRecursion P (xs ++ ys)
+pub all_append : {X : Type 0} (P : X → Type 0) (xs ys : List X) → AllByRecursion P xs → AllByRecursion P ys → AllByRecursion P (xs ++ ys)
 all_append P [] ys h g = g
 all_append P (x ∷ xs) ys h g = (h.0, all_append P xs ys h.1 g)
-
-all_mapped : {X : Type 0} (P Q : X → Type 0) → ((x : X) → P x → Q x) → (xs : List X) → AllByRecursion P xs → AllByRecursion Q xs
-all_mapped P Q f [] h = tt
-all_mapped P Q f (x ∷ xs) h = (f x h.0, all_mapped P Q f xs h.1)
 
 -- ---- ids and weights that are given
 
@@ -94,7 +83,7 @@ behind give last head weight d more up none h = record {
   id = h.id;
   gives = h.gives;
   quiet = (none, h.quiet);
-  above = (up.0, all_mapped (λ (e : ℕ × Document). d.0 < e.0) (λ (e : ℕ × Document). last < e.0) (λ e l. omega (arith, l, up.0)) h.skipped h.above);
+  above = (up.0, each_weaker (λ (e : ℕ × Document). d.0 < e.0) (λ (e : ℕ × Document). last < e.0) (λ e l. omega (arith, l, up.0)) h.skipped h.above);
   low = (h.higher, h.low);
   higher = omega (arith, up.0, h.higher);
   rises = h.rises;
@@ -169,7 +158,7 @@ module _ (query : Tree) (find : Find) where
     taken_passed one None last need pass above covers = refl
     taken_passed one (Some w) last need pass above covers =
         elim (nat_le cutoff w) as (λ b. nat_le cutoff w ≡ b → Shown is (cond b (ranked one w ∷ []) []) []) [
-          | true ↦ λ e. inl (pass (ranked one w) covers (is_most cutoff w e) above, refl)
+          | true ↦ λ e. inl (pass (ranked one w) covers (leb-true cutoff w e) above, refl)
           | false ↦ λ e. refl
         ] refl
 
@@ -194,8 +183,8 @@ module _ (query : Tree) (find : Find) where
         elim (nat_le cutoff v) as (λ b. nat_le cutoff v ≡ b → Shown is (cond b (ranked one v ∷ []) []) (offered one w)) [
           | true ↦ λ e.
               elim (nat_le cutoff w) as (λ c. nat_le cutoff w ≡ c → Shown is (ranked one v ∷ []) (cond c (ranked one w ∷ []) [])) [
-                | true ↦ λ f. inr (ranked one w, [], refl, refl, inr (pass (ranked one v) less (is_most cutoff v e) above, pass (ranked one w) (omega (arith, less, low)) (is_most cutoff w f) above), refl)
-                | false ↦ λ f. inl (pass (ranked one v) less (is_most cutoff v e) above, refl)
+                | true ↦ λ f. inr (ranked one w, [], refl, refl, inr (pass (ranked one v) less (leb-true cutoff v e) above, pass (ranked one w) (omega (arith, less, low)) (leb-true cutoff w f) above), refl)
+                | false ↦ λ f. inl (pass (ranked one v) less (leb-true cutoff v e) above, refl)
               ] refl
           | false ↦ λ e. subst (λ c. cond c (ranked one w ∷ []) [] ≡ []) (sym (too_light w v e low)) refl
         ] refl
@@ -206,8 +195,8 @@ module _ (query : Tree) (find : Find) where
     split_need : (v need : ℕ) → (need ≤ v) ⊎ (v < need)
     split_need v need =
         elim (nat_le need v) as (λ b. nat_le need v ≡ b → (need ≤ v) ⊎ (v < need)) [
-          | true ↦ λ e. inl (is_most need v e)
-          | false ↦ λ e. inr (not_most need v e)
+          | true ↦ λ e. inl (leb-true need v e)
+          | false ↦ λ e. inr (leb-false need v e)
         ] refl
 
     met_by : (one : ℕ × Document) (v w last need : ℕ) → PassesBelow last need → last < one.0 → CoversAt (Some v) (Some w) need → (need ≤ v) ⊎ (v < need) → Shown is (taken one (Some v)) (offered one w)
@@ -252,7 +241,7 @@ module _ (query : Tree) (find : Find) (docs : Docs) where
     low = tt;
     under = tt;
     rises = up;
-    covers = all_mapped (λ (one : ℕ × Document). give one.0 ≡ scores query find one) (covered give 0) (λ one e. subst (λ o. CoversAt (scores query find one) o 0) (sym e) (itself (scores query find one))) docs same;
+    covers = each_weaker (λ (one : ℕ × Document). give one.0 ≡ scores query find one) (covered give 0) (λ one e. subst (λ o. CoversAt (scores query find one) o 0) (sym e) (itself (scores query find one))) docs same;
     right = inl (omega arith);
   }
     where
@@ -320,8 +309,8 @@ module _ (query : Tree) (find : Find) (docs : Docs) where
           either : (n m : ℕ) → (m < n) ⊎ (n ≤ m)
           either n m =
               elim (nat_le n m) as (λ b. nat_le n m ≡ b → (m < n) ⊎ (n ≤ m)) [
-                | true ↦ λ e. inr (is_most n m e)
-                | false ↦ λ e. inl (not_most n m e)
+                | true ↦ λ e. inr (leb-true n m e)
+                | false ↦ λ e. inl (leb-false n m e)
               ] refl
 
       first_on : (length seen < wanted find) ⊎ (wanted find ≤ length seen) → take (wanted find) (found_by query find up_to) ≡ take (wanted find) (seen ++ more)
@@ -369,7 +358,7 @@ module _ (query : Tree) (find : Find) (docs : Docs) where
         covers_later : (low : ℕ) (ds : Docs) → head ≤ low → need ≤ need2 → RiseAbove low ds → AllByRecursion (covered give need) ds → AllByRecursion over_at ds → AllByRecursion (covered give2 need2) ds
         covers_later low [] from rise up h here = tt
         covers_later low (d ∷ ds) from rise up h here = (
-          covers_then (scores query find d) (give d.0) (give2 d.0) need need2 rise h.0 (subst (λ (b : Bool). CoversAt (cond b (give d.0) None) (give2 d.0) need2) (most_is (head + 1) d.0 (omega (arith, from, up.0))) here.0),
+          covers_then (scores query find d) (give d.0) (give2 d.0) need need2 rise h.0 (subst (λ (b : Bool). CoversAt (cond b (give d.0) None) (give2 d.0) need2) (le-leb (head + 1) d.0 (omega (arith, from, up.0))) here.0),
           covers_later d.0 ds (omega (arith, from, up.0)) rise up.1 h.1 here.1,
         )
 
@@ -377,8 +366,8 @@ module _ (query : Tree) (find : Find) (docs : Docs) where
         lows =
             all_append (λ (d : ℕ × Document). d.0 ≤ head) (walk.before ++ at.skipped) (at.one ∷ [])
             (all_append (λ (d : ℕ × Document). d.0 ≤ head) walk.before at.skipped
-            (all_mapped (λ (d : ℕ × Document). d.0 ≤ walk.last) (λ (d : ℕ × Document). d.0 ≤ head) (λ d l. omega (arith, l, at.higher)) walk.before walk.low)
-            (all_mapped (λ (d : ℕ × Document). d.0 < head) (λ (d : ℕ × Document). d.0 ≤ head) (λ d l. omega (arith, l)) at.skipped at.low))
+            (each_weaker (λ (d : ℕ × Document). d.0 ≤ walk.last) (λ (d : ℕ × Document). d.0 ≤ head) (λ d l. omega (arith, l, at.higher)) walk.before walk.low)
+            (each_weaker (λ (d : ℕ × Document). d.0 < head) (λ (d : ℕ × Document). d.0 ≤ head) (λ d l. omega (arith, l)) at.skipped at.low))
             (omega (arith, at.id), tt)
 
         under_more : (b : Bool) → AllByRecursion (λ (s : Rank). s.id ≤ head) (cond b (ranked query find at.one weight ∷ []) [])
@@ -403,7 +392,7 @@ module _ (query : Tree) (find : Find) (docs : Docs) where
           low = lows;
           under =
               all_append (λ (s : Rank). s.id ≤ head) seen more
-              (all_mapped (λ (s : Rank). s.id ≤ walk.last) (λ (s : Rank). s.id ≤ head) (λ s l. omega (arith, l, at.higher)) seen walk.under)
+              (each_weaker (λ (s : Rank). s.id ≤ walk.last) (λ (s : Rank). s.id ≤ head) (λ s l. omega (arith, l, at.higher)) seen walk.under)
               (under_more (nat_le find.options.cutoff weight));
           rises = at.rises;
           covers = covers_later head at.later (omega arith) rise at.rises (covers_skipped at.skipped (at.one ∷ at.later) covers_rest).1.1 over_both.1;
@@ -466,8 +455,8 @@ module _ (query : Tree) (find : Find) (docs : Docs) where
         many_of : find.options.cutoff < need → wanted find ≤ length seen
         many_of high =
             elim (nat_le (wanted find) (length seen)) as (λ b. nat_le (wanted find) (length seen) ≡ b → wanted find ≤ length seen) [
-              | true ↦ λ e. is_most (wanted find) (length seen) e
-              | false ↦ λ e. let low = walk.few (not_most (wanted find) (length seen) e) in absurd (omega (arith, low, high))
+              | true ↦ λ e. leb-true (wanted find) (length seen) e
+              | false ↦ λ e. let low = walk.few (leb-false (wanted find) (length seen) e) in absurd (omega (arith, low, high))
             ] refl
 
         all_there : found_by query find docs ≡ seen → Ended query find docs seen
@@ -481,8 +470,8 @@ module _ (query : Tree) (find : Find) (docs : Docs) where
         either low (inr both) = some_there both.0 both.1
 
         ends : (b : Bool) → nat_le need find.options.cutoff ≡ b → Ended query find docs seen
-        ends true e = let low = is_most need find.options.cutoff e in either low (none low)
-        ends false e = let high = not_most need find.options.cutoff e in some_there (many_of high) (full high)
+        ends true e = let low = leb-true need find.options.cutoff e in either low (none low)
+        ends false e = let high = leb-false need find.options.cutoff e in some_there (many_of high) (full high)
 
     full_of : IsNeed find docs seen walk.last need → find.options.cutoff < need → IsFull find docs seen
     full_of (inl low) high = absurd (omega (arith, low, high))
@@ -524,7 +513,7 @@ module _ (query : Tree) (find : Find) (docs : Docs) where
         taken_under : (one : ℕ × Document) (v : ℕ) → walk.last < one.0 → (v ≤ ceiling) ⊎ (v < need) → Shown is (taken query find one (Some v)) []
         taken_under one v above h =
             elim (nat_le find.options.cutoff v) as (λ b. nat_le find.options.cutoff v ≡ b → Shown is (cond b (ranked query find one v ∷ []) []) []) [
-              | true ↦ λ e. inl (by h (is_most find.options.cutoff v e), refl)
+              | true ↦ λ e. inl (by h (leb-true find.options.cutoff v e), refl)
               | false ↦ λ e. refl
             ] refl
           where

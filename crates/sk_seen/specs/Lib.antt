@@ -1,6 +1,6 @@
 pub mod Shown
 pub mod Walks
-pub mod Told
+pub mod Tells
 pub mod Pages
 pub mod Needs
 pub mod Calm

@@ -47,7 +47,7 @@ pub record Offers (held held2 : Held) (c c2 : Option Collapsed) (hit : Hit) : Ty
 
 -- Of the matches that were seen, none behind this id, the heap holds the kept ones up to the end of the page, each with its key.
 pub record Pages (find : Find) (docs : Docs) (last : ℕ) (saw : List Rank) (held : Held) (c : Option Collapsed) : Type 0 where
-  -- the same matches, the newest first
+  -- The same matches, the newest first.
   pub newest : List Rank
   pub same : best_first find.order saw ≡ best_first find.order newest
   pub differ : AllPairs (λ x y. x.id ≢ y.id) newest

@@ -7,7 +7,7 @@ use Rattle.serde_json.specs.Written.{compact_text}
 use Rattle.sk_query.specs.declared.form.Form.{Form}
 use Rattle.sk_query.specs.Trees.{unbounded, bytes, Tree, nothing, all, term, wildcard, parts, near, phrase, synonym, scale, range, trees_from}
 use Rattle.sk_query.specs.Trees.{number as number_limit}
-use Rattle.sk_shown.specs.Writing.{value_of}
+use Rattle.sk_shown.specs.Writing.{json_of}
 
 -- `+red "fox den" -lang:fr`
 abbrev loved_and_hated : Tree
@@ -24,7 +24,7 @@ its_value =
     (item (object (member (codes "term") (string (codes "Lfr")) no_members))
     no_items))) no_members)
 
-pub its_value-is : value_of loved_and_hated ≡ its_value
+pub its_value-is : json_of loved_and_hated ≡ its_value
 its_value-is = refl
 
 -- a query of each form without a query inside
@@ -39,7 +39,7 @@ leaves =
     ∷ (synonym (codes "a" ∷ codes "b" ∷ []), (object (member (codes "synonym") (array (item (string (codes "a")) (item (string (codes "b")) no_items))) no_members)))
     ∷ []
 
-pub leaves-hold : map (λ row. value_of row.0) leaves ≡ map (λ row. row.1) leaves
+pub leaves-hold : map (λ row. json_of row.0) leaves ≡ map (λ row. row.1) leaves
 leaves-hold = refl
 
 -- ranges: open ends are null, a number is a number, and bytes are a string, which may be empty
@@ -52,7 +52,7 @@ ranges =
     ∷ (range 1 (bytes (codes "7")) (number_limit 7), (object (member (codes "range") (array (item (number (unsigned 1)) (item (string (codes "7")) (item (number (unsigned 7)) no_items)))) no_members)))
     ∷ []
 
-pub ranges-hold : map (λ row. value_of row.0) ranges ≡ map (λ row. row.1) ranges
+pub ranges-hold : map (λ row. json_of row.0) ranges ≡ map (λ row. row.1) ranges
 ranges-hold = refl
 
 -- queries with queries inside
@@ -66,10 +66,10 @@ nested =
     ∷ (parts Form.Filter (trees_from (all ∷ [])), (object (member (codes "filter") (array (item (object (member (codes "all") (array no_items) no_members)) no_items)) no_members)))
     ∷ []
 
-pub nested-hold : map (λ row. value_of row.0) nested ≡ map (λ row. row.1) nested
+pub nested-hold : map (λ row. json_of row.0) nested ≡ map (λ row. row.1) nested
 nested-hold = refl
 
 -- its text
-pub its_text : compact_text (value_of loved_and_hated) ≡ codes "{\"and_not\":[{\"and_maybe\":[{\"term\":\"red\"},{\"phrase\":[2,\"fox\",\"den\"]}]},{\"term\":\"Lfr\"}]}"
+pub its_text : compact_text (json_of loved_and_hated) ≡ codes "{\"and_not\":[{\"and_maybe\":[{\"term\":\"red\"},{\"phrase\":[2,\"fox\",\"den\"]}]},{\"term\":\"Lfr\"}]}"
 unfolding serde_json_on_literals digits
 its_text = refl

@@ -19,26 +19,26 @@ abbrev pub windowed : ℕ → List (List ℕ) → Items
 windowed w texts = item (number (unsigned w)) (strings_of texts)
 
 -- An end of a range: null where it is open, a number, or a string.
-abbrev pub value_of_limit : Limit → Data
-value_of_limit unbounded = null
-value_of_limit (number_limit n) = number (unsigned n)
-value_of_limit (bytes_limit s) = string s
+abbrev pub json_of_limit : Limit → Data
+json_of_limit unbounded = null
+json_of_limit (number_limit n) = number (unsigned n)
+json_of_limit (bytes_limit s) = string s
 
 abbrev mutual
   -- The value of a tree: an object with one member, by its form.
-  pub value_of : Tree → Data
-  value_of nothing = named (codes "nothing") (array no_items)
-  value_of all = named (codes "all") (array no_items)
-  value_of (term text) = named (codes "term") (string text)
-  value_of (wildcard prefix) = named (codes "wildcard") (string prefix)
-  value_of (parts form ts) = named (name_of form) (array (values_of ts))
-  value_of (near w texts) = named (codes "near") (array (windowed w texts))
-  value_of (phrase w texts) = named (codes "phrase") (array (windowed w texts))
-  value_of (synonym texts) = named (codes "synonym") (array (strings_of texts))
-  value_of (scale f t) = named (codes "scale") (array (item (number (unsigned f)) (item (value_of t) no_items)))
-  value_of (range slot lo hi) = named (codes "range") (array (item (number (unsigned slot)) (item (value_of_limit lo) (item (value_of_limit hi) no_items))))
+  pub json_of : Tree → Data
+  json_of nothing = named (codes "nothing") (array no_items)
+  json_of all = named (codes "all") (array no_items)
+  json_of (term text) = named (codes "term") (string text)
+  json_of (wildcard prefix) = named (codes "wildcard") (string prefix)
+  json_of (parts form ts) = named (name_of form) (array (values_of ts))
+  json_of (near w texts) = named (codes "near") (array (windowed w texts))
+  json_of (phrase w texts) = named (codes "phrase") (array (windowed w texts))
+  json_of (synonym texts) = named (codes "synonym") (array (strings_of texts))
+  json_of (scale f t) = named (codes "scale") (array (item (number (unsigned f)) (item (json_of t) no_items)))
+  json_of (range slot lo hi) = named (codes "range") (array (item (number (unsigned slot)) (item (json_of_limit lo) (item (json_of_limit hi) no_items))))
 
   -- The values of trees, in order.
   pub values_of : Trees → Items
   values_of no_trees = no_items
-  values_of (tree t ts) = item (value_of t) (values_of ts)
+  values_of (tree t ts) = item (json_of t) (values_of ts)

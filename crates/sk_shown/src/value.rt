@@ -5,7 +5,7 @@ ghost use Rattle.serde_json.specs.View.{view, items_view};
 ghost use Rattle.sk_query.specs.Trees.{limit_of, query_view, queries_view};
 ghost use Rattle.sk_query.specs.Fits.{fits_tree};
 ghost use Rattle.sk_query.specs.Reading.{tree_of};
-ghost use Rattle.sk_shown.specs.Writing.{named, windowed, value_of_limit, value_of, values_of};
+ghost use Rattle.sk_shown.specs.Writing.{named, windowed, json_of_limit, json_of, values_of};
 
 use serde_json::{Map, Value};
 use sk_base::Text;
@@ -14,15 +14,15 @@ use std::alloc::{AllocError, Global};
 
 /// The JSON value of a query: an object with one member, by its form.
 pub fn to_json(alloc: Global, query: &Query) -> Result<Value, AllocError>
-    ensures value { IfOk result (λ value. view value ≡ value_of (query_view query.now)) }
+    ensures value { IfOk result (λ value. view value ≡ json_of (query_view query.now)) }
     ensures reads_back { fits_tree (query_view query.now) ≡ true → IfOk result (λ value. tree_of (view value) ≡ Some (query_view query.now)) }
 {
-    value_of(alloc, query)
+    json_of(alloc, query)
 }
 
-#[cycle(value_of)]
-fn value_of(alloc: Global, query: &Query) -> Result<Value, AllocError>
-    ensures { IfOk result (λ value. view value ≡ value_of (query_view query.now)) }
+#[cycle(json_of)]
+fn json_of(alloc: Global, query: &Query) -> Result<Value, AllocError>
+    ensures { IfOk result (λ value. view value ≡ json_of (query_view query.now)) }
 {
     match query {
         Query::Nothing => array_named(alloc, "nothing", Vec::new(alloc)),
@@ -51,27 +51,27 @@ fn value_of(alloc: Global, query: &Query) -> Result<Value, AllocError>
         Query::Scale(factor, part) => {
             let mut items = Vec::new(alloc);
             items.push(Value::from(*factor))?;
-            items.push(value_of(alloc, part)?)?;
+            items.push(json_of(alloc, part)?)?;
             array_named(alloc, "scale", items)
         }
         Query::Range(slot, lo, hi) => {
             let mut items = Vec::new(alloc);
             items.push(Value::from(*slot))?;
-            items.push(value_of_bound(alloc, lo)?)?;
-            items.push(value_of_bound(alloc, hi)?)?;
+            items.push(json_of_bound(alloc, lo)?)?;
+            items.push(json_of_bound(alloc, hi)?)?;
             array_named(alloc, "range", items)
         }
     }
 }
 
 /// The values of queries, in order.
-#[cycle(value_of)]
+#[cycle(json_of)]
 fn values_of(alloc: Global, parts: &[Query]) -> Result<Vec<Value>, AllocError>
     ensures { IfOk result (λ made. items_view made.items ≡ values_of (queries_view parts.now)) }
 {
     let mut made = Vec::new(alloc);
     'parts: for part in parts {
-        made.push(value_of(alloc, part)?)?;
+        made.push(json_of(alloc, part)?)?;
     }
     Ok(made)
 }
@@ -98,8 +98,8 @@ fn with_strings(alloc: Global, items: Vec<Value>, texts: &[Text]) -> Result<Vec<
 }
 
 /// An end of a range.
-fn value_of_bound(alloc: Global, bound: &Bound) -> Result<Value, AllocError>
-    ensures { IfOk result (λ value. view value ≡ value_of_limit (limit_of bound.now)) }
+fn json_of_bound(alloc: Global, bound: &Bound) -> Result<Value, AllocError>
+    ensures { IfOk result (λ value. view value ≡ json_of_limit (limit_of bound.now)) }
 {
     match bound {
         Bound::Unbounded => Ok(Value::Null),

@@ -13,7 +13,7 @@ fn row(first: u32, last: u32, count: u32, greatest: u32) -> ChunkHead {
     }
 }
 
-// The ids from 1 to 128, each as its own wdf but the first.
+/// The ids from 1 to 128, each as its own wdf but the first.
 fn filled(alloc: Global) -> Result<Chunk, AllocError> {
     let mut chunk = Chunk::one(alloc, 1, 3)?;
     'ids: for id in 2..129u32 {

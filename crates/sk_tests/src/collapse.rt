@@ -6,7 +6,7 @@ use sk_collapse::{Collapser, Verdict};
 use std::alloc::Global;
 use std::test::Fail;
 
-// A match without a value.
+/// A match without a value.
 fn rank(alloc: Global, weight: u64, id: u32) -> Rank
     ensures { (result.weight ≡ weight) × (result.id ≡ id) }
 {

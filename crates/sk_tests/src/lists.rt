@@ -7,7 +7,7 @@ use std::marker::Brand;
 use std::sync::ledger::{Blank, Ledger};
 use std::test::Fail;
 
-// The head behind a seek.
+/// The head behind a seek.
 fn sought<L: Ledger>(blank: Blank, list: &List, target: u32) -> (u32, Option<u32>, u32)
     requires name { blank.name ≡ L.name }
     requires parts { blank.parts ≡ L.parts }

@@ -25,7 +25,7 @@ fn each_call_succeeds_with_memory(rt: HostRuntime) -> Result<(), Fail> {
     Ok(())
 }
 
-// Odd ids, and then one between two of them.
+/// Odd ids, and then one between two of them.
 #[test]
 fn a_list_of_many_pieces(rt: HostRuntime) -> Result<(), Fail> {
     let mut list = Pieces::new(rt.alloc());

@@ -7,7 +7,7 @@ use std::marker::Brand;
 use std::sync::ledger::{Blank, Ledger};
 use std::test::Fail;
 
-// The entry at the place, read and counted.
+/// The entry at the place, read and counted.
 fn read<L: Ledger>(entries: &[u32], steps: &mut Steps<L>) -> u32
     ensures { steps.new ≡ steps.old + length entries.now }
 {
@@ -19,7 +19,7 @@ fn read<L: Ledger>(entries: &[u32], steps: &mut Steps<L>) -> u32
     last
 }
 
-// All that is done under one counter: its body makes the counter and passes it on.
+/// All that is done under one counter: its body makes the counter and passes it on.
 fn counted<L: Ledger>(blank: Blank, entries: &[u32]) -> u32
     requires name { blank.name ≡ L.name }
     requires parts { blank.parts ≡ L.parts }

@@ -8,7 +8,7 @@ use std::marker::Brand;
 use std::sync::ledger::{Blank, Ledger};
 use std::test::Fail;
 
-// The document's value, read once.
+/// The document's value, read once.
 fn read_one<L: Ledger>(blank: Blank, list: &SlotList, id: DocId) -> &[u8]
     requires name { blank.name ≡ L.name }
     requires parts { blank.parts ≡ L.parts }
@@ -18,7 +18,7 @@ fn read_one<L: Ledger>(blank: Blank, list: &SlotList, id: DocId) -> &[u8]
     list.get(id, &mut steps)
 }
 
-// The first id whose value is at least `lo`, and the first from the target on; and how many entries were come past.
+/// The first id whose value is at least `lo`, and the first from the target on; and how many entries were come past.
 fn two_ids<L: Ledger>(
     blank: Blank,
     list: &SlotList,
@@ -54,7 +54,7 @@ fn each_call_succeeds_with_memory(rt: HostRuntime) -> Result<(), Fail> {
     Ok(())
 }
 
-// Odd ids, and then one between two of them.
+/// Odd ids, and then one between two of them.
 #[test]
 fn a_list_of_many_pieces(rt: HostRuntime) -> Result<(), Fail> {
     let mut list = SlotList::new(rt.alloc());

@@ -4,7 +4,7 @@ use Rattle.ucd_category.specs.GeneralCategory.{general_category}
 use Rattle.ucd_category.specs.declared.GeneralCategory.{GeneralCategory}
 use Rattle.ucd_category.specs.declared.GeneralCategory.TheVariants.{UppercaseLetter, LowercaseLetter, TitlecaseLetter, ModifierLetter, OtherLetter, NonspacingMark, SpacingMark, EnclosingMark, DecimalNumber, LetterNumber, OtherNumber, ConnectorPunctuation}
 
--- letters, marks, numbers and connectors
+-- Letters, marks, numbers and connectors.
 abbrev pub is_word_category : GeneralCategory → Bool
 is_word_category UppercaseLetter = true
 is_word_category LowercaseLetter = true
@@ -28,12 +28,12 @@ is_word_char c = is_word_category (general_category c)
 abbrev pub is_apostrophe : ℕ → Bool
 is_apostrophe c = c == 0x27 || c == 0x2019
 
--- the first of these characters is a word character
+-- The first of these characters is a word character.
 abbrev pub begins_word : List ℕ → Bool
 begins_word [] = false
 begins_word (c ∷ cs) = is_word_char c
 
--- the last of these characters is a word character
+-- The last of these characters is a word character.
 abbrev pub ends_word : List ℕ → Bool
 ends_word [] = false
 ends_word (c ∷ []) = is_word_char c
@@ -43,10 +43,10 @@ ends_word (c ∷ d ∷ cs) = ends_word (d ∷ cs)
 abbrev pub belongs : Bool → ℕ → List ℕ → Bool
 belongs after c behind = is_word_char c || (after && is_apostrophe c && begins_word behind)
 
--- how c is written in a word: either apostrophe as U+0027
+-- How c is written in a word: either apostrophe as U+0027.
 abbrev pub written : ℕ → ℕ
 written c = if is_apostrophe c then 0x27 else c
 
--- the bytes of a piece of text, each character as it is written in a word
+-- The bytes of a piece of text, each character as it is written in a word.
 abbrev pub written_bytes : List ℕ → List ℕ
 written_bytes text = encode_utf8_all (map written (chars text))

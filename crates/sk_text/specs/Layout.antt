@@ -4,17 +4,17 @@ use Rattle.sk_text.specs.declared.word.Word.{Word}
 use Rattle.sk_text.specs.Characters.{belongs, ends_word, written}
 use Rattle.sk_text.specs.Terms.{term_of}
 
--- each character of the piece belongs to a word, or each does not, where `before` stands before the piece and `behind` follows it
+-- Each character of the piece belongs to a word, or each does not, where `before` stands before the piece and `behind` follows it.
 abbrev pub EachBelongs : Bool → List ℕ → List ℕ → List ℕ → Type 0
 EachBelongs which before [] behind = Unit {0}
 EachBelongs which before (c ∷ cs) behind =
     (belongs (ends_word before) c (cs ++ behind) ≡ which) × EachBelongs which (before ++ c ∷ []) cs behind
 
--- all of the piece belongs to words
+-- All of the piece belongs to words.
 abbrev pub IsInside : List ℕ → List ℕ → List ℕ → Type 0
 IsInside = EachBelongs true
 
--- nothing of the piece belongs to a word
+-- Nothing of the piece belongs to a word.
 abbrev pub IsOutside : List ℕ → List ℕ → List ℕ → Type 0
 IsOutside = EachBelongs false
 
@@ -30,7 +30,7 @@ pub record IsNext (n : ℕ) (before gap run rest : List ℕ) (w : Word) : Type 0
   pub number : w.number ≡ n
   pub term : w.term ≡ term_of (encode_utf8_all (map written run))
 
--- what is left behind `before` is gap and word by turns, the next of number n, and at last a gap
+-- What is left behind `before` is gap and word by turns, the next of number n, and at last a gap.
 abbrev pub AreLaid : ℕ → List ℕ → List ℕ → List Word → Type 0
 AreLaid n before left [] = IsOutside before left []
 AreLaid n before left (w ∷ ws) =

@@ -3,10 +3,10 @@ use Rattle.std.specs.Prelude.{ℕ, List, length, ◌==◌, if◌then◌else◌, 
 use Rattle.unicode_normalization.specs.Forms.{nfc, nfd}
 use Rattle.caseless.specs.Caseless.{default_case_fold}
 
--- the word apart (NFD), without case, and put together again (NFC)
+-- The word apart (NFD), without case, and put together again (NFC).
 abbrev pub folded_bytes : List ℕ → List ℕ
 folded_bytes word = encode_utf8_all (nfc (default_case_fold (nfd (chars word))))
 
--- the term of a word: what it folds to, or the word itself where that is empty
+-- The term of a word: what it folds to, or the word itself where that is empty.
 unfoldable pub term_of : List ℕ → List ℕ
 term_of word = if length (folded_bytes word) == 0 then word else folded_bytes word

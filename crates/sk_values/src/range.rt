@@ -32,8 +32,8 @@ fn is_to(hi: &Option<Bytes>, value: &[u8]) -> bool
     }
 }
 
-// Whether the first does not come behind the second. Numbers, which are eight bytes, are compared in one step, and
-// others byte by byte: most values are short, and differ soon.
+/// Whether the first does not come behind the second. Numbers, which are eight bytes, are compared in one step, and
+/// others byte by byte: most values are short, and differ soon.
 fn is_at_most(a: &[u8], b: &[u8]) -> bool
     ensures { result ≡ is_le (slice_cmp nat_cmp a.now b.now) }
 {
@@ -51,7 +51,7 @@ fn is_at_most(a: &[u8], b: &[u8]) -> bool
     a.len() <= b.len()
 }
 
-// The number of eight bytes, the highest of them first.
+/// The number of eight bytes, the highest of them first.
 fn number(bytes: &[u8]) -> u64
     requires { length bytes.now ≡ 8 }
     ensures { result ≡ big_endian 0 bytes.now }

@@ -23,7 +23,7 @@ pub struct RangeCursor {
     hi: Option<Bytes>,
 }
 
-// A place in a list, behind so many entries of a piece. It keeps how many of all entries it is behind.
+/// A place in a list, behind so many entries of a piece. It keeps how many of all entries it is behind.
 #[derive(Clone, Copy, Debug)]
 struct Place {
     piece: usize,
@@ -114,8 +114,8 @@ impl RangeCursor {
     }
 }
 
-// The place of the first entry from a place on whose id is at least the target. Mostly that is the place itself. Else
-// its piece is found by last ids, and the pieces before that are only asked how many entries they have.
+/// The place of the first entry from a place on whose id is at least the target. Mostly that is the place itself. Else
+/// its piece is found by last ids, and the pieces before that are only asked how many entries they have.
 fn place_from(list: &SlotList, start: Place, target: DocId) -> Place
     requires { IsPlaceIn start list.now }
     ensures at { IsPlaceIn result list.now }
@@ -142,7 +142,7 @@ fn place_from(list: &SlotList, start: Place, target: DocId) -> Place
     place
 }
 
-// Whether the next entry of the piece has an id that is at least the target. It looks at the id alone.
+/// Whether the next entry of the piece has an id that is at least the target. It looks at the id alone.
 fn stands_at(pieces: &[Piece<Bytes>], place: Place, target: DocId) -> bool
     requires { IsPlaceIn place pieces.now }
     ensures { result ≡ true → drop place.passed (flat pieces.now) ≡ from target (drop place.passed (flat pieces.now)) }
@@ -155,7 +155,7 @@ fn stands_at(pieces: &[Piece<Bytes>], place: Place, target: DocId) -> bool
     next < entries.len() && target <= entries[next].0
 }
 
-// Reads on from a place to the first value between the ends, and gives the place behind it with its id, or the end.
+/// Reads on from a place to the first value between the ends, and gives the place behind it with its id, or the end.
 fn stop_from<L: Ledger>(
     list: &SlotList,
     start: Place,
@@ -187,7 +187,7 @@ fn stop_from<L: Ledger>(
     (place, None)
 }
 
-// The same within a piece.
+/// The same within a piece.
 fn stop_in<L: Ledger>(
     piece: &Piece<Bytes>,
     place: u32,
@@ -214,7 +214,7 @@ fn stop_in<L: Ledger>(
     (end, None)
 }
 
-// Reads the entry at this place of a piece, counted from 0. All that a cursor reads it reads by this.
+/// Reads the entry at this place of a piece, counted from 0. All that a cursor reads it reads by this.
 fn entry<'a, L: Ledger>(piece: &'a Piece<Bytes>, i: u32, steps: &mut Steps<L>) -> (DocId, &'a [u8])
     requires { i < length piece.now }
     ensures id { result.0 ≡ id_at piece.now i }

@@ -27,7 +27,7 @@ pub(crate) fn first_reaching(pieces: &[Piece<Bytes>], start: usize, target: DocI
     first_between(pieces, from, pieces.len(), target)
 }
 
-// The first piece between two places that ends at the target or behind it; the later place where there is none.
+/// The first piece between two places that ends at the target or behind it; the later place where there is none.
 fn first_between(pieces: &[Piece<Bytes>], start: usize, end: usize, target: DocId) -> usize
     requires sound { AreRuns pieces.now }
     requires order { start ≤ end }

@@ -1,5 +1,5 @@
 -- The bounds of a query, by its variant.
-use Rattle.std.proofs.Common.{◌≡◌, ◌≤◌, ◌<◌, ◌-◌, ◌^◌, ◌⊎◌, ℕ, List, Vec, Global, min, inl, inr, refl, sym, ap, ◌∙◌, arith}
+use Rattle.std.proofs.Common.{◌≡◌, ◌≤◌, ◌-◌, ◌^◌, ◌⊎◌, ℕ, List, Vec, Global, min, inl, inr, ap, ◌∙◌, arith}
 use Rattle.sk_base.specs.declared.find.Scheme.{Scheme}
 use Rattle.sk_base.specs.Numbers.{Docs}
 use Rattle.sk_query.specs.declared.query.Query.{Query}

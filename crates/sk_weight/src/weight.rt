@@ -2,10 +2,7 @@
 ghost use Rattle.std.specs.Prelude.{◌≡◌, ◌≤◌, ◌<◌, ◌+◌, ◌*◌, ◌^◌, ℕ, IfSome, IsSomeAnd};
 ghost use Rattle.sk_model.specs.Weights.{weigh, weigh_by};
 
-use sk_base::{Scheme, Weight};
-
-// Each wdf is less.
-const WDFS: u64 = 536_870_912;
+use sk_base::{MOST_WDF, Scheme, Weight};
 
 /// The weight of a wdf.
 pub fn weigh(scheme: Scheme, wdf: u32) -> Weight
@@ -61,7 +58,7 @@ fn whole(need: Weight, factor: u64) -> Option<u32>
     ensures least { (wdf : ℕ) → wdf < 2 ^ 29 → need ≤ wdf * factor → IsSomeAnd result (λ n. n ≤ wdf) }
 {
     let least = need.div_ceil(factor);
-    if least < WDFS {
+    if least <= u64::from(MOST_WDF) {
         Some(least as u32)
     } else {
         None

@@ -7,10 +7,7 @@ ghost use Rattle.sk_weight.specs.Together.{IsTogether};
 
 use crate::together::Together;
 use crate::weight::weigh_by;
-use sk_base::{Scheme, Stats, Text, Weight};
-
-// No wdf is greater.
-const MOST_WDF: u64 = 536_870_911;
+use sk_base::{MOST_WDF, Scheme, Stats, Text, Weight};
 
 /// A word's: the weight of its greatest wdf, and 0 where no document has it.
 pub fn word_ceil<S: Stats>(stats: &S, scheme: Scheme, factor: u64, word: &Text) -> Weight
@@ -31,7 +28,7 @@ pub fn joint_ceil(scheme: Scheme, factor: u64, long: u64, greatest: u64) -> Weig
     ensures { result ≡ joint_ceil scheme factor long greatest }
 {
     if long > 0 {
-        weigh_by(factor, scheme, greatest.min(MOST_WDF))
+        weigh_by(factor, scheme, greatest.min(u64::from(MOST_WDF)))
     } else {
         0
     }

@@ -1,5 +1,5 @@
 -- The tree is on the index, and its need rises.
-use Rattle.std.proofs.Common.{◌≤◌, arith}
+use Rattle.std.proofs.Common.{arith}
 use Rattle.sk_walks.proofs.is_lawful.Goals as goal
 
 pub open-requires : goal.open-requires

@@ -1,4 +1,4 @@
-use Rattle.std.proofs.Common.{◌≤◌, length, arith}
+use Rattle.std.proofs.Common.{length, arith}
 use Rattle.sk_grammar.specs.Pieces.{value_piece}
 use Rattle.sk_grammar.proofs.PieceLaws.{value_takes}
 use Rattle.sk_lexer.proofs.FieldLemmas.{short_ok, length-le-byte_len}

@@ -1,4 +1,4 @@
-use Rattle.std.proofs.Common.{◌≡◌, ◌≤◌, length, map, [], false, chars, ap, sym, ◌∙◌, arith}
+use Rattle.std.proofs.Common.{length, map, [], false, ap, sym, ◌∙◌, arith}
 use Rattle.std.proofs.lemmas.List.{take_all}
 use Rattle.std.proofs.lemmas.Str.{chars_from_encodes}
 use Rattle.sk_text.specs.Words.{words_from}

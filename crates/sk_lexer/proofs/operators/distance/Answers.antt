@@ -1,4 +1,4 @@
-use Rattle.std.proofs.Common.{◌≡◌, length, drop, Some, [], sym, ap, ◌∙◌, arith}
+use Rattle.std.proofs.Common.{sym, ap, ◌∙◌, arith}
 use Rattle.std.proofs.lemmas.List.{drop_all}
 use Rattle.sk_lexer.specs.Shown.{distance_behind}
 use Rattle.sk_lexer.proofs.OperatorLemmas.{distance_is}

@@ -1,4 +1,4 @@
-use Rattle.std.proofs.Common.{◌≡◌, ◌≤◌, ◌+◌, ap, sym, ◌∙◌, drop, arith}
+use Rattle.std.proofs.Common.{◌+◌, ap, sym, ◌∙◌, drop, arith}
 use Rattle.sk_text.specs.Characters.{belongs}
 use Rattle.sk_grammar.specs.Characters.{group_len}
 use Rattle.sk_lexer.proofs.GroupLemmas.{ends_at, group_in, group_past}

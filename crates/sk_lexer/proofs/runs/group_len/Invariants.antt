@@ -1,4 +1,4 @@
-use Rattle.std.proofs.Common.{◌≡◌, ◌≤◌, false, drop, length}
+use Rattle.std.proofs.Common.{◌≡◌, ◌≤◌, false, drop}
 use Rattle.sk_grammar.specs.Characters.{group_len}
 use Rattle.sk_lexer.proofs.GroupLemmas.{ends_at}
 use Rattle.sk_lexer.proofs.runs.group_len.Given as goal

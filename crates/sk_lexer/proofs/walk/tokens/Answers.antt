@@ -1,4 +1,4 @@
-use Rattle.std.proofs.Common.{◌≡◌, ◌≤◌, IfOk, chars, sym, ap, ◌∙◌, subst, arith}
+use Rattle.std.proofs.Common.{◌≡◌, IfOk, chars, sym, ap, ◌∙◌, subst, arith}
 use Rattle.sk_grammar.specs.Cutting.{byte_len, tokens_from, tokens_in}
 use Rattle.sk_grammar.proofs.CuttingLaws.{cut_once}
 use Rattle.sk_lexer.proofs.WalkLemmas.{byte_len-chars}

@@ -1,5 +1,4 @@
-use Rattle.std.proofs.Common.{◌≡◌, ◌≤◌, ◌<◌, ◌+◌, ◌-◌, ◌==◌, false, length, drop, sym, ap, ◌∙◌, refl, subst, arith, length-drop}
-use Rattle.std.proofs.lemmas.Bool.Decides.{nat_tests}
+use Rattle.std.proofs.Common.{◌≡◌, ◌<◌, ◌+◌, ◌-◌, length, sym, ap, ◌∙◌, subst, arith, length-drop}
 use Rattle.sk_grammar.specs.Pieces.{Piece}
 use Rattle.sk_grammar.proofs.PieceLaws.{Takes}
 use Rattle.sk_lexer.specs.Shown.{shown}

@@ -19,7 +19,7 @@ use Rattle.sk_nodes.specs.Flat.{OpensNest}
 use Rattle.sk_nodes.proofs.NestLaws.{parts_flat, nest_opens, split_nest, joint_others, one_term, term_opens, term_flat}
 use Rattle.sk_nodes.specs.OpenedLed.{CanLead, OpensLed, OpensFollowing}
 use Rattle.sk_nodes.proofs.LedLaws.{odd_follows, parts_rare, rare_opened, term_lone, lone_leads, lone_following, split_leads, split_follows}
-use Rattle.std.proofs.Common.{List, [], ◌∷◌}
+use Rattle.std.proofs.Common.{[], ◌∷◌}
 use Rattle.sk_nodes.specs.Opened.{count_in}
 use Rattle.sk_nodes.proofs.CountLaws.{counted}
 use Rattle.sk_nodes.proofs.OpenedFadingLaws.{term_alone, split_decays, one_alone, one_not_two, many_not_one, odd_not_or, parts_or}

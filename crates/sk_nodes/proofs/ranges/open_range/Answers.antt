@@ -12,7 +12,8 @@ use Rattle.sk_nodes.specs.Leaves.{weighed}
 use Rattle.sk_nodes.specs.Span.{unweighed, span_rest}
 use Rattle.sk_nodes.proofs.NodeLaws.{shape_of-Nothing}
 use Rattle.sk_nodes.proofs.ListLaws.{nothing_opened}
-use Rattle.sk_nodes.proofs.SpanLaws.{length-slot, crossed_scores, shape_of-Span, span_opens}
+use Rattle.sk_index.proofs.NumberLemmas.{length-slot_values}
+use Rattle.sk_nodes.proofs.SpanLaws.{crossed_scores, shape_of-Span, span_opens}
 use Rattle.sk_nodes.proofs.ranges.open_range.Goals as goal
 
 pub returns-then-is_crossed-clause-opens : goal.returns-then-is_crossed-clause-opens
@@ -32,5 +33,5 @@ returns-clause-opens g c =
 pub returns-clause-within : goal.returns-clause-within
 returns-clause-within g c =
     let i = c.args.index.now in
-    let long : length (flat c.values.result.now) ≡ slot_length_of c.args.slot i.live.documents = ap length c.values.ensures.entries ∙ length-slot c.args.slot i.live.documents in
+    let long : length (flat c.values.result.now) ≡ slot_length_of c.args.slot i.live.documents = ap length c.values.ensures.entries ∙ length-slot_values c.args.slot i.live.documents in
     omega (arith, long, c.length.ensures.value, c.in_ok-raise.ensures.ok)

@@ -1,5 +1,4 @@
-use Rattle.std.proofs.Common.{◌∙◌, ap, sym, map, refl, arith}
-use Rattle.sk_base.specs.Numbers.{length_of, greatest_of}
+use Rattle.std.proofs.Common.{◌∙◌, ap, sym, refl, arith}
 use Rattle.sk_query.specs.Trees.{synonym, query_view, queries_view}
 use Rattle.sk_query.proofs.ViewLaws.{view-Synonym}
 use Rattle.sk_model.specs.Bounds.{ceil, ceils, sum_in, terms_ceil, lengths_of, greatests_of}

@@ -1,8 +1,7 @@
 use Rattle.std.proofs.Common.{◌∙◌, ap, sym, min, refl, arith}
-use Rattle.sk_base.specs.Numbers.{live_of}
 use Rattle.sk_query.specs.Trees.{synonym, query_view, queries_view}
 use Rattle.sk_query.proofs.ViewLaws.{view-Synonym}
-use Rattle.sk_model.specs.Bounds.{static_count, statics, lengths_of, least_length, at_most_live}
+use Rattle.sk_model.specs.Bounds.{static_count, statics, lengths_of, least_length}
 use Rattle.sk_weight.proofs.TogetherLemmas.{end_together, capped_same}
 use Rattle.sk_weight.proofs.BoundLemmas.{placed}
 use Rattle.sk_weight.proofs.bounds.+static_count.Goals as goal

@@ -1,4 +1,4 @@
-use Rattle.std.proofs.Common.{◌∙◌, ap, map, refl, arith}
+use Rattle.std.proofs.Common.{map, refl, arith}
 use Rattle.sk_model.specs.Bounds.{term_ceil}
 use Rattle.sk_weight.proofs.TogetherLemmas.{end_together}
 use Rattle.sk_weight.proofs.words.word_ceils.Goals as goal

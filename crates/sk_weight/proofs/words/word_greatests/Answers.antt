@@ -1,4 +1,4 @@
-use Rattle.std.proofs.Common.{◌∙◌, ap, map, refl, arith}
+use Rattle.std.proofs.Common.{map, refl, arith}
 use Rattle.sk_base.specs.Numbers.{greatest_of}
 use Rattle.sk_weight.proofs.TogetherLemmas.{end_together}
 use Rattle.sk_weight.proofs.words.word_greatests.Goals as goal

@@ -1,9 +1,8 @@
-use Rattle.std.proofs.Common.{◌≡◌, ◌∙◌, sym, subst, ap, IfOk, Result, Ok, Err}
-use Rattle.sk_query.specs.Trees.{Tree, query_view}
+use Rattle.std.proofs.Common.{◌∙◌, sym, subst, ap, IfOk, Result, Ok, Err}
 use Rattle.sk_asked.specs.Asked.{asked}
 use Rattle.sk_run.specs.FindAnswers.{AnswersAsk}
 use Rattle.sk_engine.specs.Finds.{FoundFor}
-use Rattle.sk_engine.specs.Sessions.{fields_of, response_of}
+use Rattle.sk_engine.specs.Sessions.{response_of}
 use Rattle.sk_engine.proofs.session.Session.find.Goals as goal
 
 if_ok : {A E : Type 0} (r : Result A E) (P Q : A → Type 0) → ((a : A) → P a → Q a) → IfOk r P → IfOk r Q

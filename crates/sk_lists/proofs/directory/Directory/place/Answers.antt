@@ -6,7 +6,7 @@ use Rattle.sk_sorted.specs.Entries.{top_id}
 use Rattle.sk_runs.specs.Runs.{RunsRise}
 use Rattle.sk_chunks.specs.Postings.{Postings}
 use Rattle.sk_lists.specs.Lists.{Runs}
-use Rattle.sk_lists.proofs.DirectoryLemmas.{tops_parted}
+use Rattle.sk_runs.proofs.EditLaws.{tops_parted}
 use Rattle.sk_lists.proofs.directory.Directory.place.Goals as goal
 
 pub returns-clause-before : goal.returns-clause-before

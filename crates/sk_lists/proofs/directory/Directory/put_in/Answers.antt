@@ -4,7 +4,8 @@ use mathlib.Core.Bool.{true≢false}
 use Rattle.sk_runs.specs.Runs.{flat}
 use Rattle.sk_chunks.specs.Postings.{greatest_wdf}
 use Rattle.sk_lists.specs.Lists.{Runs}
-use Rattle.sk_lists.proofs.DirectoryLemmas.{same_read, read_set, has_run, greatest_was, grows, count_fits, length_new, flat_put, directory_put}
+use Rattle.sk_runs.proofs.EditLaws.{same_read, read_set}
+use Rattle.sk_lists.proofs.DirectoryLemmas.{has_run, greatest_was, grows, count_fits, length_new, flat_put, directory_put}
 use Rattle.sk_lists.proofs.directory.Directory.put_in.Goals as goal
 
 pub returns-in_err-insert-clause-succeeds : goal.returns-in_err-insert-clause-succeeds

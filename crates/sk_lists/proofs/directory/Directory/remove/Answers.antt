@@ -2,7 +2,7 @@
 use Rattle.std.proofs.Common.{◌≡◌, length, sym, ap, arith}
 use Rattle.sk_runs.proofs.RunLaws.{fits_place}
 use Rattle.sk_lists.specs.Lists.{Runs}
-use Rattle.sk_lists.proofs.DirectoryLemmas.{nowhere, nothing_without}
+use Rattle.sk_runs.proofs.EditLaws.{nowhere, nothing_without}
 use Rattle.sk_lists.proofs.directory.Directory.remove.Goals as goal
 
 pub returns-then-at-len-clause-after : goal.returns-then-at-len-clause-after

@@ -3,7 +3,8 @@ use Rattle.std.proofs.Common.{◌<◌, length, sym, ap, subst, ◌∙◌, arith}
 use Rattle.sk_runs.specs.Runs.{flat}
 use Rattle.sk_chunks.specs.Postings.{greatest_wdf}
 use Rattle.sk_lists.specs.Lists.{Runs, IsDirectory}
-use Rattle.sk_lists.proofs.DirectoryLemmas.{same_read, read_set, has_run, greatest_was, length_new, length_out, nil_is, nothing_out, flat_without, directory_without, flat_gone, directory_gone}
+use Rattle.sk_runs.proofs.EditLaws.{same_read, read_set, length_out, nil_is}
+use Rattle.sk_lists.proofs.DirectoryLemmas.{has_run, greatest_was, length_new, nothing_out, flat_without, directory_without, flat_gone, directory_gone}
 use Rattle.sk_lists.proofs.directory.Directory.take_out.Goals as goal
 
 pub invariant_of-self : goal.invariant_of-self

@@ -27,7 +27,7 @@ use Rattle.sk_report.specs.Reports.{ReportsFor}
 use Rattle.sk_model.proofs.CountLaws.{found_within}
 use Rattle.sk_model.proofs.KeptLaws.{kept_alike, kept_front, kept_others, dropped_front, kept_few, kept_each}
 use Rattle.sk_seen.specs.Walks.{page_end, held_by, IsFull, Ended}
-use Rattle.sk_seen.specs.Told.{TellsHit, IsUpper, Tells}
+use Rattle.sk_seen.specs.Tells.{TellsHit, IsUpper, Tells}
 use Rattle.sk_seen.proofs.ShownLaws.{Beside, shown_beside}
 use Rattle.sk_seen.proofs.FrontLaws.{front_alike}
 use Rattle.sk_seen.proofs.SharpLaws.{within_stop, within_rare, within_decay}

@@ -2,7 +2,7 @@ use Rattle.std.proofs.Common.{◌≡◌, ◌++◌, option_map}
 use Rattle.std.specs.Vec.Iter.{into_iter_items}
 use Rattle.serde_json.specs.View.{items_view}
 use Rattle.sk_json.specs.Values.{texts_of}
-use Rattle.sk_record.proofs.taken.texts_of.Given as goal
+use Rattle.sk_record.proofs.taken.into_texts.Given as goal
 
 -- the strings so far, and those of the items that are left, are those of all
 abbrev pub invariant-items : goal.invariant-items
