@@ -13,6 +13,7 @@ pub mod StandingLaws
 pub mod WordLaws
 pub mod StopLaws
 pub mod NestLaws
+pub mod PartsLaws
 pub mod AnyLaws
 pub mod AnyOpenLaws
 pub mod OrderLaws

@@ -15,6 +15,7 @@ ghost use Rattle.sk_model.specs.Sharp.{terms_in};
 ghost use Rattle.sk_decay.specs.Sides.{paired, greatest_under};
 ghost use Rattle.sk_nodes.specs.Shapes.{odd};
 ghost use Rattle.sk_nodes.specs.Flat.{SplitsTerms};
+ghost use Rattle.sk_nodes.specs.Parts.{Splits, AreSides};
 ghost use Rattle.sk_nodes.specs.OpenedLed.{first_length, last_length, CanLead, SplitsOff, IsOrdered, SplitsLed};
 ghost use Rattle.sk_nodes.specs.Opened.{count_in, score_of, part_scores, is_nest, joint_score_of, others_of, query_size, parts_size, AreParts};
 
@@ -81,12 +82,7 @@ pub(crate) fn odd_parts(form: Form, parts: &[Query], _factor: u64) -> Option<&[Q
     requires parts { AreParts form _factor (queries_view parts.now) }
     ensures nest { IfNone result (is_nest form (count_in (queries_view parts.now)) ≡ true) }
     ensures odd { IfSome result (λ sides. is_nest form (count_in (queries_view parts.now)) ≡ false) }
-    ensures parts { IfSome result (λ sides. AreParts Form.Xor _factor (queries_view sides.now)) }
-    ensures size { IfSome result (λ sides. parts_size (queries_view sides.now) ≡ parts_size (queries_view parts.now)) }
-    ensures scores { IfSome result (λ sides. (scheme : Scheme) (o : Option Document) → joint_score_of form (queries_view parts.now) scheme _factor o ≡ combined Form.Xor (part_scores (queries_view sides.now) scheme _factor o)) }
-    ensures ceiling { IfSome result (λ sides. (scheme : Scheme) (docs : Docs) → ceil_of form (ceils (queries_view parts.now) scheme _factor docs) ≡ sum_in (ceils (queries_view sides.now) scheme _factor docs)) }
-    ensures fits { IfSome result (λ sides. (scheme : Scheme) (docs : Docs) → All IsLight docs → sum_in (ceils (queries_view sides.now) scheme _factor docs) < 2 ^ 63) }
-    ensures readings { IfSome result (λ sides. (docs : Docs) → leaves_readings (queries_view parts.now) docs ≡ leaves_readings (queries_view sides.now) docs) }
+    ensures sides { IfSome result (λ sides. AreSides form Form.Xor _factor (queries_view parts.now) (queries_view sides.now)) }
 {
     if is_nest(form, parts) {
         return None;
@@ -100,12 +96,7 @@ pub(crate) fn any_parts(form: Form, parts: &[Query], _factor: u64) -> Option<&[Q
     requires parts { AreParts form _factor (queries_view parts.now) }
     ensures form { IfSome result (λ sides. form ≡ Form.Or) }
     ensures many { IfSome result (λ sides. 3 ≤ count_in (queries_view parts.now)) }
-    ensures parts { IfSome result (λ sides. AreParts Form.Xor _factor (queries_view sides.now)) }
-    ensures size { IfSome result (λ sides. parts_size (queries_view sides.now) ≡ parts_size (queries_view parts.now)) }
-    ensures scores { IfSome result (λ sides. (scheme : Scheme) (o : Option Document) → joint_score_of form (queries_view parts.now) scheme _factor o ≡ combined Form.Or (part_scores (queries_view sides.now) scheme _factor o)) }
-    ensures ceiling { IfSome result (λ sides. (scheme : Scheme) (docs : Docs) → ceil_of form (ceils (queries_view parts.now) scheme _factor docs) ≡ sum_in (ceils (queries_view sides.now) scheme _factor docs)) }
-    ensures fits { IfSome result (λ sides. (scheme : Scheme) (docs : Docs) → All IsLight docs → sum_in (ceils (queries_view sides.now) scheme _factor docs) < 2 ^ 63) }
-    ensures readings { IfSome result (λ sides. (docs : Docs) → leaves_readings (queries_view parts.now) docs ≡ leaves_readings (queries_view sides.now) docs) }
+    ensures sides { IfSome result (λ sides. AreSides form Form.Or _factor (queries_view parts.now) (queries_view sides.now)) }
     ensures terms { IfSome result (λ sides. terms_in (queries_view parts.now) ≡ terms_in (queries_view sides.now)) }
 {
     if is_many(form, parts.len()) {
@@ -155,15 +146,7 @@ pub(crate) fn split_parts<'a>(
     requires parts { AreParts form _factor (queries_view parts.now) }
     requires many { 2 ≤ length parts.now }
     requires nest { is_nest form (count_in (queries_view parts.now)) ≡ true }
-    ensures front { AreParts form _factor (queries_view result.0.now) }
-    ensures back { AreParts (others_of form) _factor (queries_view result.1.now) }
-    ensures front_size { parts_size (queries_view result.0.now) < parts_size (queries_view parts.now) }
-    ensures back_size { parts_size (queries_view result.1.now) < parts_size (queries_view parts.now) }
-    ensures scores { (scheme : Scheme) (o : Option Document) → joint_score_of form (queries_view parts.now) scheme _factor o ≡ paired form (joint_score_of form (queries_view result.0.now) scheme _factor o) (joint_score_of (others_of form) (queries_view result.1.now) scheme _factor o) }
-    ensures ceiling { (scheme : Scheme) (docs : Docs) → greatest_under form (ceil_of form (ceils (queries_view result.0.now) scheme _factor docs)) (ceil_of (others_of form) (ceils (queries_view result.1.now) scheme _factor docs)) ≤ ceil_of form (ceils (queries_view parts.now) scheme _factor docs) }
-    ensures fits { (scheme : Scheme) (docs : Docs) → All IsLight docs → ceil_of form (ceils (queries_view result.0.now) scheme _factor docs) + ceil_of (others_of form) (ceils (queries_view result.1.now) scheme _factor docs) < 2 ^ 63 }
-    ensures readings { (docs : Docs) → leaves_readings (queries_view parts.now) docs ≡ leaves_readings (queries_view result.0.now) docs + leaves_readings (queries_view result.1.now) docs }
-    ensures terms { (lists : List (List ℕ)) → terms_in (queries_view parts.now) ≡ Some lists → SplitsTerms lists (terms_in (queries_view result.0.now)) (terms_in (queries_view result.1.now)) }
+    ensures splits { Splits form _factor (queries_view parts.now) (queries_view result.0.now) (queries_view result.1.now) }
     ensures led { (lists : List (List ℕ)) → CanLead form lists → terms_in (queries_view parts.now) ≡ Some lists → SplitsLed form lists index.now.live.documents (terms_in (queries_view result.0.now)) (terms_in (queries_view result.1.now)) }
 {
     match form {
@@ -183,15 +166,7 @@ fn split_and<'a>(index: &Index, parts: &'a [Query], _factor: u64) -> (&'a [Query
     requires factor { _factor ≤ 65536 }
     requires parts { AreParts Form.And _factor (queries_view parts.now) }
     requires many { 2 ≤ length parts.now }
-    ensures front { AreParts Form.And _factor (queries_view result.0.now) }
-    ensures back { AreParts (others_of Form.And) _factor (queries_view result.1.now) }
-    ensures front_size { parts_size (queries_view result.0.now) < parts_size (queries_view parts.now) }
-    ensures back_size { parts_size (queries_view result.1.now) < parts_size (queries_view parts.now) }
-    ensures scores { (scheme : Scheme) (o : Option Document) → joint_score_of Form.And (queries_view parts.now) scheme _factor o ≡ paired Form.And (joint_score_of Form.And (queries_view result.0.now) scheme _factor o) (joint_score_of (others_of Form.And) (queries_view result.1.now) scheme _factor o) }
-    ensures ceiling { (scheme : Scheme) (docs : Docs) → greatest_under Form.And (ceil_of Form.And (ceils (queries_view result.0.now) scheme _factor docs)) (ceil_of (others_of Form.And) (ceils (queries_view result.1.now) scheme _factor docs)) ≤ ceil_of Form.And (ceils (queries_view parts.now) scheme _factor docs) }
-    ensures fits { (scheme : Scheme) (docs : Docs) → All IsLight docs → ceil_of Form.And (ceils (queries_view result.0.now) scheme _factor docs) + ceil_of (others_of Form.And) (ceils (queries_view result.1.now) scheme _factor docs) < 2 ^ 63 }
-    ensures readings { (docs : Docs) → leaves_readings (queries_view parts.now) docs ≡ leaves_readings (queries_view result.0.now) docs + leaves_readings (queries_view result.1.now) docs }
-    ensures terms { (lists : List (List ℕ)) → terms_in (queries_view parts.now) ≡ Some lists → SplitsTerms lists (terms_in (queries_view result.0.now)) (terms_in (queries_view result.1.now)) }
+    ensures splits { Splits Form.And _factor (queries_view parts.now) (queries_view result.0.now) (queries_view result.1.now) }
     ensures led { (lists : List (List ℕ)) → terms_in (queries_view parts.now) ≡ Some lists → SplitsLed Form.And lists index.now.live.documents (terms_in (queries_view result.0.now)) (terms_in (queries_view result.1.now)) }
 {
     if is_longer(index, parts) {
@@ -217,15 +192,7 @@ fn split_in_order(form: Form, parts: &[Query], _factor: u64) -> (&[Query], &[Que
     requires parts { AreParts form _factor (queries_view parts.now) }
     requires many { 2 ≤ length parts.now }
     requires nest { is_nest form (count_in (queries_view parts.now)) ≡ true }
-    ensures front { AreParts form _factor (queries_view result.0.now) }
-    ensures back { AreParts (others_of form) _factor (queries_view result.1.now) }
-    ensures front_size { parts_size (queries_view result.0.now) < parts_size (queries_view parts.now) }
-    ensures back_size { parts_size (queries_view result.1.now) < parts_size (queries_view parts.now) }
-    ensures scores { (scheme : Scheme) (o : Option Document) → joint_score_of form (queries_view parts.now) scheme _factor o ≡ paired form (joint_score_of form (queries_view result.0.now) scheme _factor o) (joint_score_of (others_of form) (queries_view result.1.now) scheme _factor o) }
-    ensures ceiling { (scheme : Scheme) (docs : Docs) → greatest_under form (ceil_of form (ceils (queries_view result.0.now) scheme _factor docs)) (ceil_of (others_of form) (ceils (queries_view result.1.now) scheme _factor docs)) ≤ ceil_of form (ceils (queries_view parts.now) scheme _factor docs) }
-    ensures fits { (scheme : Scheme) (docs : Docs) → All IsLight docs → ceil_of form (ceils (queries_view result.0.now) scheme _factor docs) + ceil_of (others_of form) (ceils (queries_view result.1.now) scheme _factor docs) < 2 ^ 63 }
-    ensures readings { (docs : Docs) → leaves_readings (queries_view parts.now) docs ≡ leaves_readings (queries_view result.0.now) docs + leaves_readings (queries_view result.1.now) docs }
-    ensures terms { (lists : List (List ℕ)) → terms_in (queries_view parts.now) ≡ Some lists → SplitsTerms lists (terms_in (queries_view result.0.now)) (terms_in (queries_view result.1.now)) }
+    ensures splits { Splits form _factor (queries_view parts.now) (queries_view result.0.now) (queries_view result.1.now) }
     ensures led { (lists : List (List ℕ)) (docs : Docs) → CanLead form lists → IsOrdered form lists docs → terms_in (queries_view parts.now) ≡ Some lists → SplitsLed form lists docs (terms_in (queries_view result.0.now)) (terms_in (queries_view result.1.now)) }
 {
     let count = parts.len();

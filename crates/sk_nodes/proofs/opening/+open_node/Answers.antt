@@ -112,7 +112,7 @@ open_parts-returns-clause-nest g t c =
     IfOk-weaker c.pair_of.result _ _
     (λ p h lists joint e.
     split_nest i c.args.form c.others_of.result (shape_of c.in_ok-ta.a) (shape_of c.in_ok-tb.b) (shape_of p.1) lists (terms_in (queries_view c.split_parts.result.0.now)) (terms_in (queries_view c.split_parts.result.1.now)) _ _ _ _
-    joint (c.others_of.ensures ∙ joint_others c.args.form joint) (c.in_ok-ta.ensures.nest) (c.in_ok-tb.ensures.nest) h (c.split_parts.ensures.terms lists e)) c.pair_of.ensures.nest
+    joint (c.others_of.ensures ∙ joint_others c.args.form joint) (c.in_ok-ta.ensures.nest) (c.in_ok-tb.ensures.nest) h (c.split_parts.ensures.splits.terms lists e)) c.pair_of.ensures.nest
 
 pub open_node-returns-in-Some-clause-rare : goal.open_node-returns-in-Some-clause-rare
 open_node-returns-in-Some-clause-rare g t c =
@@ -156,7 +156,7 @@ open_parts-returns-clause-follows g t c =
     IfOk-weaker c.pair_of.result _ _
     (λ p h lists so e.
     split_follows i c.args.form c.others_of.result c.in_ok-ta.ta (shape_of c.in_ok-ta.a) c.in_ok-tb.tb (shape_of c.in_ok-tb.b) (shape_of p.1) (queries_view c.split_parts.result.0.now) (queries_view c.split_parts.result.1.now) lists _ _ _ _
-    so c.others_of.ensures c.split_parts.ensures.front.some c.split_parts.ensures.back.some c.in_ok-ta.ensures.follows c.in_ok-tb.ensures.follows h.0 (c.split_parts.ensures.terms lists e)) c.pair_of.ensures.leads
+    so c.others_of.ensures c.split_parts.ensures.splits.front.some c.split_parts.ensures.splits.back.some c.in_ok-ta.ensures.follows c.in_ok-tb.ensures.follows h.0 (c.split_parts.ensures.splits.terms lists e)) c.pair_of.ensures.leads
 
 pub open_parts-returns-in-Some-odd_parts-clause-follows : goal.open_parts-returns-in-Some-odd_parts-clause-follows
 open_parts-returns-in-Some-odd_parts-clause-follows g t c lists so e = absurd (odd_follows c.args.form (queries_view c.args.parts.now) lists c.in-Some-odd_parts.ensures.odd so e)
@@ -193,7 +193,7 @@ open_parts-returns-clause-fading g t c =
     IfOk-weaker c.pair_of.result _ _
     (λ p h x y is e.
     split_decays i c.args.scheme c.args.factor c.args.form c.others_of.result c.in_ok-ta.ta (shape_of c.in_ok-ta.a) c.in_ok-tb.tb (shape_of c.in_ok-tb.b) (shape_of p.1) (queries_view c.split_parts.result.0.now) (queries_view c.split_parts.result.1.now) x y _ _ _ _
-    is c.split_parts.ensures.front.some c.split_parts.ensures.back.some c.in_ok-ta.ensures.begun c.in_ok-tb.ensures.begun h (c.split_parts.ensures.terms (x ∷ y ∷ []) e)) c.pair_of.ensures.fades
+    is c.split_parts.ensures.splits.front.some c.split_parts.ensures.splits.back.some c.in_ok-ta.ensures.begun c.in_ok-tb.ensures.begun h (c.split_parts.ensures.splits.terms (x ∷ y ∷ []) e)) c.pair_of.ensures.fades
 
 pub open_parts-returns-in-Some-odd_parts-clause-begun : goal.open_parts-returns-in-Some-odd_parts-clause-begun
 open_parts-returns-in-Some-odd_parts-clause-begun g t c term e = absurd (many_not_one (queries_view c.args.parts.now) term (omega (arith, counted c.args.parts.now, c.in_default.ensures.many)) e)

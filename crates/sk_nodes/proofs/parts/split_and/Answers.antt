@@ -1,10 +1,10 @@
 -- What holds of an and holds of its first part and of the others, which are put together first.
 use Rattle.std.proofs.Common.{◌≡◌, ◌<◌, arith}
-use Rattle.sk_query.specs.declared.form.Form.{Form}
 use Rattle.sk_query.specs.Trees.{queries_view}
 use Rattle.sk_nodes.specs.Opened.{count_in}
 use Rattle.sk_nodes.proofs.CountLaws.{counted}
-use Rattle.sk_nodes.proofs.OpenLaws.{joined, parts_joined, split_back, split_front_size, turned_fits}
+use Rattle.sk_nodes.proofs.OpenLaws.{joined, parts_joined}
+use Rattle.sk_nodes.proofs.PartsLaws.{turned_splits}
 use Rattle.sk_nodes.proofs.LedLaws.{turns_led, terms_count}
 use Rattle.sk_nodes.proofs.parts.split_and.Goals as goal
 
@@ -17,14 +17,8 @@ first_some c = omega (arith, counted c.split_at.result.0.now, c.split_at.ensures
 others_some : (c : goal.After-others-1) → 0 < count_in (queries_view c.split_at.result.1.now)
 others_some c = omega (arith, counted c.split_at.result.1.now, c.split_at.ensures.back_len, c.requires.many)
 
-pub returns-then-is_longer-clause-front : goal.returns-then-is_longer-clause-front
-returns-then-is_longer-clause-front c = split_back Form.And c.args._factor _ _ _ (whole c) c.requires.parts (first_some c) (others_some c)
-
-pub returns-then-is_longer-clause-back_size : goal.returns-then-is_longer-clause-back_size
-returns-then-is_longer-clause-back_size c = split_front_size Form.And c.args._factor _ _ _ (whole c) c.requires.parts (first_some c) (others_some c)
-
-pub returns-then-is_longer-clause-fits : goal.returns-then-is_longer-clause-fits
-returns-then-is_longer-clause-fits c = turned_fits c.args._factor _ _ _ (whole c) c.requires.parts (others_some c) (first_some c) c.requires.factor
+pub returns-then-is_longer-clause-splits : goal.returns-then-is_longer-clause-splits
+returns-then-is_longer-clause-splits c = turned_splits c.args._factor _ _ _ (whole c) c.requires.parts (others_some c) (first_some c) c.requires.factor
 
 pub returns-then-is_longer-clause-led : goal.returns-then-is_longer-clause-led
 returns-then-is_longer-clause-led c lists terms =

@@ -1,0 +1,36 @@
+-- How the parts of a query come to nodes of two sides, and to the sides of one node.
+use Rattle.std.specs.Prelude.{◌≡◌, ◌≤◌, ◌<◌, ◌+◌, ◌^◌, ℕ, All, List, Option, Some}
+use Rattle.sk_base.specs.declared.find.Scheme.{Scheme}
+use Rattle.sk_base.specs.Loads.{IsLight}
+use Rattle.sk_base.specs.Numbers.{Docs}
+use Rattle.sk_query.specs.declared.form.Form.{Form}
+use Rattle.sk_query.specs.Trees as Query
+use Rattle.sk_model.specs.Documents.{Document}
+use Rattle.sk_model.specs.Combining.{combined}
+use Rattle.sk_model.specs.Bounds.{sum_in, ceils, ceil_of}
+use Rattle.sk_model.specs.Allowance.{leaves_readings}
+use Rattle.sk_model.specs.Sharp.{terms_in}
+use Rattle.sk_decay.specs.Sides.{paired, greatest_under}
+use Rattle.sk_nodes.specs.Flat.{SplitsTerms}
+use Rattle.sk_nodes.specs.Opened.{part_scores, joint_score_of, others_of, parts_size, AreParts}
+
+-- The parts of a form were split into those that are put together first and the others: a node of two sides gives what the form does.
+pub record Splits (form : Form) (factor : ℕ) (whole first others : Query.Trees) : Type 0 where
+  pub front : AreParts form factor first
+  pub back : AreParts (others_of form) factor others
+  pub front_size : parts_size first < parts_size whole
+  pub back_size : parts_size others < parts_size whole
+  pub scores : (scheme : Scheme) (o : Option Document) → joint_score_of form whole scheme factor o ≡ paired form (joint_score_of form first scheme factor o) (joint_score_of (others_of form) others scheme factor o)
+  pub ceiling : (scheme : Scheme) (docs : Docs) → greatest_under form (ceil_of form (ceils first scheme factor docs)) (ceil_of (others_of form) (ceils others scheme factor docs)) ≤ ceil_of form (ceils whole scheme factor docs)
+  pub fits : (scheme : Scheme) (docs : Docs) → All IsLight docs → ceil_of form (ceils first scheme factor docs) + ceil_of (others_of form) (ceils others scheme factor docs) < 2 ^ 63
+  pub readings : (docs : Docs) → leaves_readings whole docs ≡ leaves_readings first docs + leaves_readings others docs
+  pub terms : (lists : List (List ℕ)) → terms_in whole ≡ Some lists → SplitsTerms lists (terms_in first) (terms_in others)
+
+-- The parts of a form are sides of one node, which makes of their scores what the form `joint` does.
+pub record AreSides (form joint : Form) (factor : ℕ) (whole sides : Query.Trees) : Type 0 where
+  pub parts : AreParts Form.Xor factor sides
+  pub size : parts_size sides ≡ parts_size whole
+  pub scores : (scheme : Scheme) (o : Option Document) → joint_score_of form whole scheme factor o ≡ combined joint (part_scores sides scheme factor o)
+  pub ceiling : (scheme : Scheme) (docs : Docs) → ceil_of form (ceils whole scheme factor docs) ≡ sum_in (ceils sides scheme factor docs)
+  pub fits : (scheme : Scheme) (docs : Docs) → All IsLight docs → sum_in (ceils sides scheme factor docs) < 2 ^ 63
+  pub readings : (docs : Docs) → leaves_readings whole docs ≡ leaves_readings sides docs
