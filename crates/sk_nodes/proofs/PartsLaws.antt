@@ -35,9 +35,9 @@ turned_splits factor ts fs bs e are front_some back_some small =
       back_size = straight.front_size;
       scores = λ scheme o. straight.scores scheme o ∙ both-turned (joint_score_of Form.And bs scheme factor o) (joint_score_of Form.And fs scheme factor o);
       ceiling = λ scheme docs.
-        subst (λ (n : ℕ). n ≤ ceil_of Form.And (ceils ts scheme factor docs)) (add_comm (ceil_of Form.And (ceils bs scheme factor docs)) (ceil_of Form.And (ceils fs scheme factor docs))) (straight.ceiling scheme docs);
+          subst (λ (n : ℕ). n ≤ ceil_of Form.And (ceils ts scheme factor docs)) (add_comm (ceil_of Form.And (ceils bs scheme factor docs)) (ceil_of Form.And (ceils fs scheme factor docs))) (straight.ceiling scheme docs);
       fits = λ scheme docs light.
-        subst (λ (n : ℕ). n < 2 ^ 63) (add_comm (ceil_of Form.And (ceils bs scheme factor docs)) (ceil_of Form.And (ceils fs scheme factor docs))) (straight.fits scheme docs light);
+          subst (λ (n : ℕ). n < 2 ^ 63) (add_comm (ceil_of Form.And (ceils bs scheme factor docs)) (ceil_of Form.And (ceils fs scheme factor docs))) (straight.fits scheme docs light);
       readings = λ docs. straight.readings docs ∙ add_comm (leaves_readings bs docs) (leaves_readings fs docs);
       terms = λ lists found. turned_terms ts bs fs lists e found;
     }

@@ -3,6 +3,7 @@ ghost use Rattle.std.specs.Prelude.{◌≡◌, ◌≤◌, ◌<◌, ◌+◌, ◌^
 ghost use Rattle.sk_query.specs.declared.form.Form.TheVariants as Form;
 ghost use Rattle.sk_model.specs.Combining.{combined, where_so};
 ghost use Rattle.sk_decay.specs.Sides.{paired, greatest_under};
+ghost use Rattle.sk_nodes.specs.Accounts.{Spends};
 ghost use Rattle.sk_nodes.specs.Shapes.{pair, odd, any, no_sides, side, shape_of, sides_on};
 ghost use Rattle.sk_nodes.specs.Left.{rest, rests, unread_of, unread_in, greatest_sum};
 ghost use Rattle.sk_nodes.specs.Sound.{IsTop, IsOdd, IsTested, Sound, AreSound};
@@ -110,9 +111,7 @@ pub(crate) fn odd_of<L: Ledger>(
     ensures sound { Sound index.now (shape_of result.1) }
     ensures gives { (id : ℕ) → rest index.now (shape_of result.1) id ≡ combined Form.Xor (rests index.now (sides_on tops.items nodes.items) id) }
     ensures ceiling { result.0.greatest ≤ greatest_sum (sides_on tops.items nodes.items) }
-    ensures paid { spent.new + unread_of index.now (shape_of result.1) ≤ spent.old + unread_in index.now (sides_on tops.items nodes.items) }
-    ensures counted { steps.new + spent.old ≡ steps.old + spent.new }
-    ensures later { spent.old ≤ spent.new }
+    ensures spends { Spends (unread_in index.now (sides_on tops.items nodes.items)) (unread_of index.now (shape_of result.1)) spent.old spent.new steps.old steps.new }
 {
     let mut top = Top::ended();
     begin_odd(&mut top, &mut tops, &mut nodes, index, spent, steps);
@@ -135,9 +134,7 @@ fn begin_odd<L: Ledger>(
     ensures sound { IsOdd (sides_on tops.new nodes.new) (AreSound index.now (sides_on tops.new nodes.new)) }
     ensures gives { (id : ℕ) → rest index.now (odd (sides_on tops.new nodes.new)) id ≡ combined Form.Xor (rests index.now (sides_on tops.old nodes.old) id) }
     ensures ceiling { top.new.greatest ≤ greatest_sum (sides_on tops.old nodes.old) }
-    ensures paid { spent.new + unread_in index.now (sides_on tops.new nodes.new) ≤ spent.old + unread_in index.now (sides_on tops.old nodes.old) }
-    ensures counted { steps.new + spent.old ≡ steps.old + spent.new }
-    ensures later { spent.old ≤ spent.new }
+    ensures spends { Spends (unread_in index.now (sides_on tops.old nodes.old)) (unread_in index.now (sides_on tops.new nodes.new)) spent.old spent.new steps.old steps.new }
 {
     seek_odd(top, tops, nodes, index, 0, 0, spent, steps);
 }
@@ -157,9 +154,7 @@ pub(crate) fn any_of<L: Ledger>(
     ensures sound { Sound index.now (shape_of result.1) }
     ensures gives { (id : ℕ) → rest index.now (shape_of result.1) id ≡ combined Form.Or (rests index.now (sides_on tops.items nodes.items) id) }
     ensures ceiling { result.0.greatest ≤ greatest_sum (sides_on tops.items nodes.items) }
-    ensures paid { spent.new + unread_of index.now (shape_of result.1) ≤ spent.old + unread_in index.now (sides_on tops.items nodes.items) }
-    ensures counted { steps.new + spent.old ≡ steps.old + spent.new }
-    ensures later { spent.old ≤ spent.new }
+    ensures spends { Spends (unread_in index.now (sides_on tops.items nodes.items)) (unread_of index.now (shape_of result.1)) spent.old spent.new steps.old steps.new }
     ensures stays { Stays index.now 0 0 spent.old spent.new (any (sides_on tops.items nodes.items)) (shape_of result.1) }
     ensures leads { Leads index.now 0 0 spent.old spent.new (any (sides_on tops.items nodes.items)) (shape_of result.1) }
 {
@@ -184,9 +179,7 @@ fn begin_any<L: Ledger>(
     ensures sound { IsOdd (sides_on tops.new nodes.new) (AreSound index.now (sides_on tops.new nodes.new)) }
     ensures gives { (id : ℕ) → rest index.now (any (sides_on tops.new nodes.new)) id ≡ combined Form.Or (rests index.now (sides_on tops.old nodes.old) id) }
     ensures ceiling { top.new.greatest ≤ greatest_sum (sides_on tops.old nodes.old) }
-    ensures paid { spent.new + unread_in index.now (sides_on tops.new nodes.new) ≤ spent.old + unread_in index.now (sides_on tops.old nodes.old) }
-    ensures counted { steps.new + spent.old ≡ steps.old + spent.new }
-    ensures later { spent.old ≤ spent.new }
+    ensures spends { Spends (unread_in index.now (sides_on tops.old nodes.old)) (unread_in index.now (sides_on tops.new nodes.new)) spent.old spent.new steps.old steps.new }
     ensures stays { Stays index.now 0 0 spent.old spent.new (any (sides_on tops.old nodes.old)) (any (sides_on tops.new nodes.new)) }
     ensures leads { Leads index.now 0 0 spent.old spent.new (any (sides_on tops.old nodes.old)) (any (sides_on tops.new nodes.new)) }
 {

@@ -5,6 +5,7 @@ ghost use Rattle.sk_runs.specs.Runs.{flat};
 ghost use Rattle.sk_lists.specs.Seeks.{count_to};
 ghost use Rattle.sk_model.specs.Covers.{Covers};
 ghost use Rattle.sk_index.specs.Indexed.{Indexed, runs_in};
+ghost use Rattle.sk_nodes.specs.Accounts.{Spends};
 ghost use Rattle.sk_nodes.specs.Leaves.{list_in, weighed, leaf_rest, leaf_unread, leaf_greatest, IsThere, entries_of, head_of, AtMost, IsLeafOn, AreLight, IsLeafTop};
 ghost use Rattle.sk_nodes.specs.Sound.{IsTop};
 ghost use Rattle.sk_nodes.specs.Left.{from_on};
@@ -62,9 +63,7 @@ impl Leaf {
         ensures lone { OpensLone index.now top.new (leaf result) (length (list_in index.now number)) spent.old spent.new }
         ensures begun { Begins index.now top.new (leaf result) (list_in index.now number) (leaf_greatest factor scheme (list_in index.now number)) }
         ensures begins { (point : ℕ) → spent.new + count_to point (entries_of index.now result) ≤ spent.old + (min 1 (length (list_in index.now number)) + count_to point (list_in index.now number)) }
-        ensures paid { spent.new + leaf_unread index.now result ≤ spent.old + length (list_in index.now number) }
-        ensures counted { steps.new + spent.old ≡ steps.old + spent.new }
-        ensures later { spent.old ≤ spent.new }
+        ensures spends { Spends (length (list_in index.now number)) (leaf_unread index.now result) spent.old spent.new steps.old steps.new }
     {
         let list = list_of(index, number);
         let length = list.length();
@@ -104,9 +103,7 @@ impl Leaf {
         ensures falls { top.new.greatest ≤ self.old.greatest }
         ensures own { self.new.greatest ≡ self.old.greatest }
         ensures moves { (point : ℕ) → target ≤ point + 1 → spent.new + count_to point (entries_of index.now self.new) ≤ spent.old + count_to point (entries_of index.now self.old) }
-        ensures paid { spent.new + leaf_unread index.now self.new ≤ spent.old + leaf_unread index.now self.old }
-        ensures counted { steps.new + spent.old ≡ steps.old + spent.new }
-        ensures later { spent.old ≤ spent.new }
+        ensures spends { Spends (leaf_unread index.now self.old) (leaf_unread index.now self.new) spent.old spent.new steps.old steps.new }
     {
         let list = list_of(index, self.number);
         self.need_wdf = self.wdf_for(need);
@@ -141,9 +138,7 @@ impl Leaf {
         ensures falls { top.new.greatest ≤ top.old.greatest }
         ensures own { self.new.greatest ≡ self.old.greatest }
         ensures moves { (point : ℕ) → target ≤ point + 1 → spent.new + count_to point (entries_of index.now self.new) ≤ spent.old + count_to point (entries_of index.now self.old) }
-        ensures paid { spent.new + leaf_unread index.now self.new ≤ spent.old + leaf_unread index.now self.old }
-        ensures counted { steps.new + spent.old ≡ steps.old + spent.new }
-        ensures later { spent.old ≤ spent.new }
+        ensures spends { Spends (leaf_unread index.now self.old) (leaf_unread index.now self.new) spent.old spent.new steps.old steps.new }
     {
         let list = list_of(index, self.number);
         self.need_wdf = self.wdf_for(need);

@@ -2,6 +2,7 @@
 ghost use Rattle.std.specs.Prelude.{◌≡◌, ◌≤◌, ◌<◌, ◌+◌, ◌^◌, ℕ};
 ghost use Rattle.sk_model.specs.Covers.{Covers};
 ghost use Rattle.sk_decay.specs.Sides.{paired, greatest_under};
+ghost use Rattle.sk_nodes.specs.Accounts.{Spends};
 ghost use Rattle.sk_nodes.specs.Shapes.{pair, odd, any, tested, shape_of, size_of, sides_on, sizes_in};
 ghost use Rattle.sk_nodes.specs.Left.{rest, from_on, unread_of, unread_in, greatest_sum};
 ghost use Rattle.sk_nodes.specs.Sound.{IsTop, IsPair, IsOdd, IsTested, Sound, AreSound};
@@ -46,9 +47,7 @@ pub(crate) fn reach<L: Ledger>(
     ensures reached { target ≤ top.new.head }
     ensures falls { top.new.greatest ≤ top.old.greatest }
     ensures smaller { size_of (shape_of node.new) ≤ size_of (shape_of node.old) }
-    ensures paid { spent.new + unread_of index.now (shape_of node.new) ≤ spent.old + unread_of index.now (shape_of node.old) }
-    ensures counted { steps.new + spent.old ≡ steps.old + spent.new }
-    ensures later { spent.old ≤ spent.new }
+    ensures spends { Spends (unread_of index.now (shape_of node.old)) (unread_of index.now (shape_of node.new)) spent.old spent.new steps.old steps.new }
     ensures stays { Stays index.now target need spent.old spent.new (shape_of node.old) (shape_of node.new) }
     ensures leads { Leads index.now target need spent.old spent.new (shape_of node.old) (shape_of node.new) }
     ensures at { IsLed index.now (shape_of node.old) → IsAtLead index.now top.old (shape_of node.old) → IsAtLead index.now top.new (shape_of node.new) }
@@ -102,9 +101,7 @@ fn reach_inner<L: Ledger>(
     ensures reached { target ≤ top.new.head }
     ensures falls { top.new.greatest ≤ top.old.greatest }
     ensures smaller { size_of (shape_of node.new) ≤ size_of (shape_of node.old) }
-    ensures paid { spent.new + unread_of index.now (shape_of node.new) ≤ spent.old + unread_of index.now (shape_of node.old) }
-    ensures counted { steps.new + spent.old ≡ steps.old + spent.new }
-    ensures later { spent.old ≤ spent.new }
+    ensures spends { Spends (unread_of index.now (shape_of node.old)) (unread_of index.now (shape_of node.new)) spent.old spent.new steps.old steps.new }
     ensures stays { Stays index.now target need spent.old spent.new (shape_of node.old) (shape_of node.new) }
     ensures leads { Leads index.now target need spent.old spent.new (shape_of node.old) (shape_of node.new) }
     ensures at { IsLed index.now (shape_of node.old) → IsAtLead index.now top.old (shape_of node.old) → IsAtLead index.now top.new (shape_of node.new) }
@@ -137,9 +134,7 @@ fn seek<L: Ledger>(
     ensures covers { Covers (from_on target (rest index.now (shape_of node.old))) (rest index.now (shape_of node.new)) need }
     ensures reached { target ≤ top.new.head }
     ensures smaller { size_of (shape_of node.new) ≤ size_of (shape_of node.old) }
-    ensures paid { spent.new + unread_of index.now (shape_of node.new) ≤ spent.old + unread_of index.now (shape_of node.old) }
-    ensures counted { steps.new + spent.old ≡ steps.old + spent.new }
-    ensures later { spent.old ≤ spent.new }
+    ensures spends { Spends (unread_of index.now (shape_of node.old)) (unread_of index.now (shape_of node.new)) spent.old spent.new steps.old steps.new }
     ensures stays { Stays index.now target need spent.old spent.new (shape_of node.old) (shape_of node.new) }
     ensures leads { Leads index.now target need spent.old spent.new (shape_of node.old) (shape_of node.new) }
     ensures at { IsLed index.now (shape_of node.old) → IsAtLead index.now top.new (shape_of node.new) }
@@ -186,9 +181,7 @@ pub(crate) fn seek_pair<L: Ledger>(
     ensures reached { target ≤ top.new.head }
     ensures falls { top.new.greatest ≤ greatest_under form ta.old.greatest tb.old.greatest }
     ensures smaller { size_of (shape_of a.new) + size_of (shape_of b.new) ≤ size_of (shape_of a.old) + size_of (shape_of b.old) }
-    ensures paid { spent.new + (unread_of index.now (shape_of a.new) + unread_of index.now (shape_of b.new)) ≤ spent.old + (unread_of index.now (shape_of a.old) + unread_of index.now (shape_of b.old)) }
-    ensures counted { steps.new + spent.old ≡ steps.old + spent.new }
-    ensures later { spent.old ≤ spent.new }
+    ensures spends { Spends (unread_of index.now (shape_of a.old) + unread_of index.now (shape_of b.old)) (unread_of index.now (shape_of a.new) + unread_of index.now (shape_of b.new)) spent.old spent.new steps.old steps.new }
     ensures stays { Stays index.now target need spent.old spent.new (pair form ta.old (shape_of a.old) tb.old (shape_of b.old)) (pair form ta.new (shape_of a.new) tb.new (shape_of b.new)) }
     ensures leads { Leads index.now target need spent.old spent.new (pair form ta.old (shape_of a.old) tb.old (shape_of b.old)) (pair form ta.new (shape_of a.new) tb.new (shape_of b.new)) }
     ensures at { IsLed index.now (pair form ta.old (shape_of a.old) tb.old (shape_of b.old)) → IsAtLead index.now top.new (pair form ta.new (shape_of a.new) tb.new (shape_of b.new)) }
@@ -256,9 +249,7 @@ fn seek_sides<L: Ledger>(
     ensures reached { target ≤ top.new.head }
     ensures falls { top.new.greatest ≤ greatest_under form ta.old.greatest tb.old.greatest }
     ensures smaller { size_of (shape_of a.new) + size_of (shape_of b.new) ≤ size_of (shape_of a.old) + size_of (shape_of b.old) }
-    ensures paid { spent.new + (unread_of index.now (shape_of a.new) + unread_of index.now (shape_of b.new)) ≤ spent.old + (unread_of index.now (shape_of a.old) + unread_of index.now (shape_of b.old)) }
-    ensures counted { steps.new + spent.old ≡ steps.old + spent.new }
-    ensures later { spent.old ≤ spent.new }
+    ensures spends { Spends (unread_of index.now (shape_of a.old) + unread_of index.now (shape_of b.old)) (unread_of index.now (shape_of a.new) + unread_of index.now (shape_of b.new)) spent.old spent.new steps.old steps.new }
     ensures stays { Stays index.now target need spent.old spent.new (pair form ta.old (shape_of a.old) tb.old (shape_of b.old)) (pair form ta.new (shape_of a.new) tb.new (shape_of b.new)) }
     ensures leads { Leads index.now target need spent.old spent.new (pair form ta.old (shape_of a.old) tb.old (shape_of b.old)) (pair form ta.new (shape_of a.new) tb.new (shape_of b.new)) }
     ensures at { IsLed index.now (pair form ta.old (shape_of a.old) tb.old (shape_of b.old)) → IsAtLead index.now top.new (pair form ta.new (shape_of a.new) tb.new (shape_of b.new)) }
@@ -329,9 +320,7 @@ pub(crate) fn seek_odd<L: Ledger>(
     ensures reached { target ≤ top.new.head }
     ensures falls { top.new.greatest ≤ greatest_sum (sides_on tops.old nodes.old) }
     ensures smaller { sizes_in (sides_on tops.new nodes.new) ≤ sizes_in (sides_on tops.old nodes.old) }
-    ensures paid { spent.new + unread_in index.now (sides_on tops.new nodes.new) ≤ spent.old + unread_in index.now (sides_on tops.old nodes.old) }
-    ensures counted { steps.new + spent.old ≡ steps.old + spent.new }
-    ensures later { spent.old ≤ spent.new }
+    ensures spends { Spends (unread_in index.now (sides_on tops.old nodes.old)) (unread_in index.now (sides_on tops.new nodes.new)) spent.old spent.new steps.old steps.new }
 {
     let mut from = target;
     'all: loop {
@@ -369,9 +358,7 @@ pub(crate) fn seek_any<L: Ledger>(
     ensures reached { target ≤ top.new.head }
     ensures falls { top.new.greatest ≤ greatest_sum (sides_on tops.old nodes.old) }
     ensures smaller { sizes_in (sides_on tops.new nodes.new) ≤ sizes_in (sides_on tops.old nodes.old) }
-    ensures paid { spent.new + unread_in index.now (sides_on tops.new nodes.new) ≤ spent.old + unread_in index.now (sides_on tops.old nodes.old) }
-    ensures counted { steps.new + spent.old ≡ steps.old + spent.new }
-    ensures later { spent.old ≤ spent.new }
+    ensures spends { Spends (unread_in index.now (sides_on tops.old nodes.old)) (unread_in index.now (sides_on tops.new nodes.new)) spent.old spent.new steps.old steps.new }
     ensures stays { Stays index.now target need spent.old spent.new (any (sides_on tops.old nodes.old)) (any (sides_on tops.new nodes.new)) }
     ensures leads { Leads index.now target need spent.old spent.new (any (sides_on tops.old nodes.old)) (any (sides_on tops.new nodes.new)) }
 {
@@ -403,9 +390,7 @@ fn seek_all<L: Ledger>(
     ensures reached { target ≤ top.new.head }
     ensures falls { top.new.greatest ≤ greatest_sum (sides_on tops.old nodes.old) }
     ensures smaller { sizes_in (sides_on tops.new nodes.new) ≤ sizes_in (sides_on tops.old nodes.old) }
-    ensures paid { spent.new + unread_in index.now (sides_on tops.new nodes.new) ≤ spent.old + unread_in index.now (sides_on tops.old nodes.old) }
-    ensures counted { steps.new + spent.old ≡ steps.old + spent.new }
-    ensures later { spent.old ≤ spent.new }
+    ensures spends { Spends (unread_in index.now (sides_on tops.old nodes.old)) (unread_in index.now (sides_on tops.new nodes.new)) spent.old spent.new steps.old steps.new }
     ensures stays { Stays index.now target _need spent.old spent.new (any (sides_on tops.old nodes.old)) (any (sides_on tops.new nodes.new)) }
     ensures leads { Leads index.now target _need spent.old spent.new (any (sides_on tops.old nodes.old)) (any (sides_on tops.new nodes.new)) }
 {
@@ -439,9 +424,7 @@ fn seek_some<L: Ledger>(
     ensures reached { target ≤ top.new.head }
     ensures falls { top.new.greatest ≤ greatest_sum (sides_on tops.old nodes.old) }
     ensures smaller { sizes_in (sides_on tops.new nodes.new) ≤ sizes_in (sides_on tops.old nodes.old) }
-    ensures paid { spent.new + unread_in index.now (sides_on tops.new nodes.new) ≤ spent.old + unread_in index.now (sides_on tops.old nodes.old) }
-    ensures counted { steps.new + spent.old ≡ steps.old + spent.new }
-    ensures later { spent.old ≤ spent.new }
+    ensures spends { Spends (unread_in index.now (sides_on tops.old nodes.old)) (unread_in index.now (sides_on tops.new nodes.new)) spent.old spent.new steps.old steps.new }
     ensures stays { Stays index.now target need spent.old spent.new (any (sides_on tops.old nodes.old)) (any (sides_on tops.new nodes.new)) }
     ensures leads { Leads index.now target need spent.old spent.new (any (sides_on tops.old nodes.old)) (any (sides_on tops.new nodes.new)) }
 {
@@ -491,9 +474,7 @@ fn lead<L: Ledger>(
     ensures led { HaveLed index.now need from last result (sides_on tops.old nodes.old) (sides_on tops.new nodes.new) }
     ensures falls { greatest_sum (sides_on tops.new nodes.new) ≤ greatest_sum (sides_on tops.old nodes.old) }
     ensures smaller { sizes_in (sides_on tops.new nodes.new) ≤ sizes_in (sides_on tops.old nodes.old) }
-    ensures paid { spent.new + unread_in index.now (sides_on tops.new nodes.new) ≤ spent.old + unread_in index.now (sides_on tops.old nodes.old) }
-    ensures counted { steps.new + spent.old ≡ steps.old + spent.new }
-    ensures later { spent.old ≤ spent.new }
+    ensures spends { Spends (unread_in index.now (sides_on tops.old nodes.old)) (unread_in index.now (sides_on tops.new nodes.new)) spent.old spent.new steps.old steps.new }
     ensures kept { AreKept index.now from spent.old spent.new (sides_on tops.old nodes.old) (sides_on tops.new nodes.new) }
 {
     if most < need {
@@ -542,9 +523,7 @@ fn weigh<L: Ledger>(
     ensures weighed { AreWeighed index.now need id others result (sides_on tops.old nodes.old) (sides_on tops.new nodes.new) }
     ensures falls { greatest_sum (sides_on tops.new nodes.new) ≤ greatest_sum (sides_on tops.old nodes.old) }
     ensures smaller { sizes_in (sides_on tops.new nodes.new) ≤ sizes_in (sides_on tops.old nodes.old) }
-    ensures paid { spent.new + unread_in index.now (sides_on tops.new nodes.new) ≤ spent.old + unread_in index.now (sides_on tops.old nodes.old) }
-    ensures counted { steps.new + spent.old ≡ steps.old + spent.new }
-    ensures later { spent.old ≤ spent.new }
+    ensures spends { Spends (unread_in index.now (sides_on tops.old nodes.old)) (unread_in index.now (sides_on tops.new nodes.new)) spent.old spent.new steps.old steps.new }
     ensures kept { AreKept index.now id spent.old spent.new (sides_on tops.old nodes.old) (sides_on tops.new nodes.new) }
 {
     if others + most < need {
@@ -610,9 +589,7 @@ fn reach_all<L: Ledger>(
     ensures reached { AreFrom target (sides_on tops.new nodes.new) }
     ensures falls { greatest_sum (sides_on tops.new nodes.new) ≤ greatest_sum (sides_on tops.old nodes.old) }
     ensures smaller { sizes_in (sides_on tops.new nodes.new) ≤ sizes_in (sides_on tops.old nodes.old) }
-    ensures paid { spent.new + unread_in index.now (sides_on tops.new nodes.new) ≤ spent.old + unread_in index.now (sides_on tops.old nodes.old) }
-    ensures counted { steps.new + spent.old ≡ steps.old + spent.new }
-    ensures later { spent.old ≤ spent.new }
+    ensures spends { Spends (unread_in index.now (sides_on tops.old nodes.old)) (unread_in index.now (sides_on tops.new nodes.new)) spent.old spent.new steps.old steps.new }
     ensures kept { AreKept index.now target spent.old spent.new (sides_on tops.old nodes.old) (sides_on tops.new nodes.new) }
 {
     let count = tops.len().min(nodes.len());
@@ -644,9 +621,7 @@ fn reach_few<L: Ledger>(
     ensures reached { AreFrom target (sides_on tops.new nodes.new) }
     ensures falls { greatest_sum (sides_on tops.new nodes.new) ≤ greatest_sum (sides_on tops.old nodes.old) }
     ensures smaller { sizes_in (sides_on tops.new nodes.new) ≤ sizes_in (sides_on tops.old nodes.old) }
-    ensures paid { spent.new + unread_in index.now (sides_on tops.new nodes.new) ≤ spent.old + unread_in index.now (sides_on tops.old nodes.old) }
-    ensures counted { steps.new + spent.old ≡ steps.old + spent.new }
-    ensures later { spent.old ≤ spent.new }
+    ensures spends { Spends (unread_in index.now (sides_on tops.old nodes.old)) (unread_in index.now (sides_on tops.new nodes.new)) spent.old spent.new steps.old steps.new }
     ensures kept { AreKept index.now target spent.old spent.new (sides_on tops.old nodes.old) (sides_on tops.new nodes.new) }
 {
     if let Some((top, tops)) = tops.split_first_mut() {
@@ -679,9 +654,7 @@ pub(crate) fn seek_tested<L: Ledger>(
     ensures reached { target ≤ top.new.head }
     ensures falls { top.new.greatest ≤ below.old.greatest }
     ensures smaller { size_of (shape_of node.new) ≤ size_of (shape_of node.old) }
-    ensures paid { spent.new + (unread_of index.now (shape_of node.new) + entries_from index.now test.new.next test.new.numbers.items) ≤ spent.old + (unread_of index.now (shape_of node.old) + entries_from index.now test.old.next test.old.numbers.items) }
-    ensures counted { steps.new + spent.old ≡ steps.old + spent.new }
-    ensures later { spent.old ≤ spent.new }
+    ensures spends { Spends (unread_of index.now (shape_of node.old) + entries_from index.now test.old.next test.old.numbers.items) (unread_of index.now (shape_of node.new) + entries_from index.now test.new.next test.new.numbers.items) spent.old spent.new steps.old steps.new }
 {
     let mut from = target;
     'tests: loop {

@@ -12,6 +12,7 @@ ghost use Rattle.sk_model.specs.Bounds.{sum_in, ceil, ceils, ceil_of, term_ceil,
 ghost use Rattle.sk_model.specs.Allowance.{leaf_readings, leaves_readings};
 ghost use Rattle.sk_model.specs.Sharp.{terms_in, flat_lists, rare_lists, rare_readings};
 ghost use Rattle.sk_lists.specs.Seeks.{count_to};
+ghost use Rattle.sk_nodes.specs.Accounts.{Pays};
 ghost use Rattle.sk_nodes.specs.Leaves.{IsThere, list_in, weighed, leaf_greatest};
 ghost use Rattle.sk_nodes.specs.Shapes.{shape_of, sides_on};
 ghost use Rattle.sk_nodes.specs.Left.{rest, unread_of, unread_in};
@@ -59,11 +60,9 @@ pub(crate) fn open_node<L: Ledger>(
     requires room { spent.old ≤ most.old }
     requires small { most.old < 2 ^ 128 }
     ensures opens { IfOk result (λ p. Opens index.now p.0 (shape_of p.1) (score_of (query_view query.now) scheme factor) (ceil (query_view query.now) scheme factor index.now.live.documents)) }
-    ensures paid { IfOk result (λ p. spent.new + unread_of index.now (shape_of p.1) + most.old ≤ spent.old + most.new) }
-    ensures within { IfOk result (λ p. most.new ≤ most.old + leaf_readings (query_view query.now) index.now.live.documents) }
+    ensures pays { IfOk result (λ p. Pays spent.old spent.new most.old most.new (unread_of index.now (shape_of p.1)) (leaf_readings (query_view query.now) index.now.live.documents)) }
     ensures counted { steps.new + spent.old ≡ steps.old + spent.new }
     ensures later { spent.old ≤ spent.new }
-    ensures room { IfOk result (λ p. spent.new ≤ most.new) }
     ensures small { most.new < 2 ^ 128 }
     ensures alone { IfOk result (λ p. (t : List ℕ) (form : Form) → query_view query.now ≡ QueryTree.term t → OpensNest index.now form (shape_of p.1) (t ∷ []) spent.old spent.new) }
     ensures flat { IfOk result (λ p. (lists : List (List ℕ)) → flat_lists (query_view query.now) index.now.live.documents ≡ Some lists → OpensFlat index.now (shape_of p.1) lists spent.old spent.new) }
@@ -167,11 +166,9 @@ fn open_standing<L: Ledger>(
     requires room { spent.old ≤ most.old }
     requires small { most.old < 2 ^ 128 }
     ensures opens { IfOk result (λ p. Opens index.now p.0 (shape_of p.1) (score_of (standing_query standing window words.now) scheme factor) (terms_ceil scheme factor words.now index.now.live.documents)) }
-    ensures paid { IfOk result (λ p. spent.new + unread_of index.now (shape_of p.1) + most.old ≤ spent.old + most.new) }
-    ensures within { IfOk result (λ p. most.new ≤ most.old + (lengths_of words.now index.now.live.documents + lengths_of words.now index.now.live.documents)) }
+    ensures pays { IfOk result (λ p. Pays spent.old spent.new most.old most.new (unread_of index.now (shape_of p.1)) (lengths_of words.now index.now.live.documents + lengths_of words.now index.now.live.documents)) }
     ensures counted { steps.new + spent.old ≡ steps.old + spent.new }
     ensures later { spent.old ≤ spent.new }
-    ensures room { IfOk result (λ p. spent.new ≤ most.new) }
     ensures small { most.new < 2 ^ 128 }
 {
     let numbers = numbers_of(alloc, index, words)?;
@@ -225,11 +222,9 @@ fn open_parts<L: Ledger>(
     requires room { spent.old ≤ most.old }
     requires small { most.old < 2 ^ 128 }
     ensures opens { IfOk result (λ p. Opens index.now p.0 (shape_of p.1) (joint_score_of form (queries_view parts.now) scheme factor) (ceil_of form (ceils (queries_view parts.now) scheme factor index.now.live.documents))) }
-    ensures paid { IfOk result (λ p. spent.new + unread_of index.now (shape_of p.1) + most.old ≤ spent.old + most.new) }
-    ensures within { IfOk result (λ p. most.new ≤ most.old + leaves_readings (queries_view parts.now) index.now.live.documents) }
+    ensures pays { IfOk result (λ p. Pays spent.old spent.new most.old most.new (unread_of index.now (shape_of p.1)) (leaves_readings (queries_view parts.now) index.now.live.documents)) }
     ensures counted { steps.new + spent.old ≡ steps.old + spent.new }
     ensures later { spent.old ≤ spent.new }
-    ensures room { IfOk result (λ p. spent.new ≤ most.new) }
     ensures small { most.new < 2 ^ 128 }
     ensures nest { IfOk result (λ p. (lists : List (List ℕ)) → IsJoint form → terms_in (queries_view parts.now) ≡ Some lists → OpensNest index.now form (shape_of p.1) lists spent.old spent.new) }
     ensures led { IfOk result (λ p. (lists : List (List ℕ)) → CanLead form lists → terms_in (queries_view parts.now) ≡ Some lists → OpensLed index.now form p.0 (shape_of p.1) lists spent.old spent.new) }
@@ -290,11 +285,9 @@ fn open_sides<L: Ledger>(
     requires small { most.old < 2 ^ 128 }
     ensures opens { IfOk result (λ p. OpensSides index.now (sides_on p.0.items p.1.items) (part_scores (queries_view parts.now) scheme factor) (sum_in (ceils (queries_view parts.now) scheme factor index.now.live.documents))) }
     ensures even { IfOk result (λ p. length p.0.items ≡ length p.1.items) }
-    ensures paid { IfOk result (λ p. spent.new + unread_in index.now (sides_on p.0.items p.1.items) + most.old ≤ spent.old + most.new) }
-    ensures within { IfOk result (λ p. most.new ≤ most.old + leaves_readings (queries_view parts.now) index.now.live.documents) }
+    ensures pays { IfOk result (λ p. Pays spent.old spent.new most.old most.new (unread_in index.now (sides_on p.0.items p.1.items)) (leaves_readings (queries_view parts.now) index.now.live.documents)) }
     ensures counted { steps.new + spent.old ≡ steps.old + spent.new }
     ensures later { spent.old ≤ spent.new }
-    ensures room { IfOk result (λ p. spent.new ≤ most.new) }
     ensures small { most.new < 2 ^ 128 }
     ensures terms { IfOk result (λ p. (lists : List (List ℕ)) → terms_in (queries_view parts.now) ≡ Some lists → OpensTerms index.now (sides_on p.0.items p.1.items) lists spent.old spent.new) }
 {
@@ -327,11 +320,9 @@ fn open_all<L: Ledger>(
     requires room { spent.old ≤ most.old }
     requires small { most.old < 2 ^ 128 }
     ensures opens { IfOk result (λ p. Opens index.now p.0 (shape_of p.1) (score_of QueryTree.all scheme _factor) 0) }
-    ensures paid { IfOk result (λ p. spent.new + unread_of index.now (shape_of p.1) + most.old ≤ spent.old + most.new) }
-    ensures within { IfOk result (λ p. most.new ≤ most.old + leaf_readings QueryTree.all index.now.live.documents) }
+    ensures pays { IfOk result (λ p. Pays spent.old spent.new most.old most.new (unread_of index.now (shape_of p.1)) (leaf_readings QueryTree.all index.now.live.documents)) }
     ensures counted { steps.new + spent.old ≡ steps.old + spent.new }
     ensures later { spent.old ≤ spent.new }
-    ensures room { IfOk result (λ p. spent.new ≤ most.new) }
     ensures small { most.new < 2 ^ 128 }
 {
     let (top, node) = open_leaf(index, None, scheme, 0, most, spent, steps)?;
@@ -353,11 +344,9 @@ fn open_term<L: Ledger>(
     requires room { spent.old ≤ most.old }
     requires small { most.old < 2 ^ 128 }
     ensures opens { IfOk result (λ p. Opens index.now p.0 (shape_of p.1) (score_of (QueryTree.term word.now) scheme factor) (term_ceil scheme factor word.now index.now.live.documents)) }
-    ensures paid { IfOk result (λ p. spent.new + unread_of index.now (shape_of p.1) + most.old ≤ spent.old + most.new) }
-    ensures within { IfOk result (λ p. most.new ≤ most.old + length_of word.now index.now.live.documents) }
+    ensures pays { IfOk result (λ p. Pays spent.old spent.new most.old most.new (unread_of index.now (shape_of p.1)) (length_of word.now index.now.live.documents)) }
     ensures counted { steps.new + spent.old ≡ steps.old + spent.new }
     ensures later { spent.old ≤ spent.new }
-    ensures room { IfOk result (λ p. spent.new ≤ most.new) }
     ensures small { most.new < 2 ^ 128 }
     ensures nest { IfOk result (λ p. (form : Form) → OpensNest index.now form (shape_of p.1) (word.now ∷ []) spent.old spent.new) }
     ensures lone { IfOk result (λ p. OpensLone index.now p.0 (shape_of p.1) (length_of word.now index.now.live.documents) spent.old spent.new) }
@@ -388,11 +377,10 @@ pub(crate) fn open_numbered<L: Ledger>(
     requires room { spent.old ≤ most.old }
     requires small { most.old < 2 ^ 128 }
     ensures opens { IfOk result (λ p. Opens index.now p.0 (shape_of p.1) (score_of (QueryTree.term (term_at index.now.terms number)) scheme factor) (term_ceil scheme factor (term_at index.now.terms number) index.now.live.documents)) }
-    ensures paid { IfOk result (λ p. spent.new + unread_of index.now (shape_of p.1) + most.old ≤ spent.old + most.new) }
-    ensures within { IfOk result (λ p. most.new ≡ most.old + length_of (term_at index.now.terms number) index.now.live.documents) }
+    ensures pays { IfOk result (λ p. Pays spent.old spent.new most.old most.new (unread_of index.now (shape_of p.1)) (length_of (term_at index.now.terms number) index.now.live.documents)) }
+    ensures exact { IfOk result (λ p. most.new ≡ most.old + length_of (term_at index.now.terms number) index.now.live.documents) }
     ensures counted { steps.new + spent.old ≡ steps.old + spent.new }
     ensures later { spent.old ≤ spent.new }
-    ensures room { IfOk result (λ p. spent.new ≤ most.new) }
     ensures small { most.new < 2 ^ 128 }
     ensures nest { IfOk result (λ p. (form : Form) → OpensNest index.now form (shape_of p.1) (term_at index.now.terms number ∷ []) spent.old spent.new) }
     ensures lone { IfOk result (λ p. OpensLone index.now p.0 (shape_of p.1) (length_of (term_at index.now.terms number) index.now.live.documents) spent.old spent.new) }
@@ -421,11 +409,10 @@ fn open_leaf<L: Ledger>(
     ensures sound { IfOk result (λ p. Sound index.now (shape_of p.1)) }
     ensures gives { IfOk result (λ p. (id : ℕ) → rest index.now (shape_of p.1) id ≡ weighed factor scheme (list_in index.now number) id) }
     ensures ceiling { IfOk result (λ p. p.0.greatest ≤ leaf_greatest factor scheme (list_in index.now number)) }
-    ensures paid { IfOk result (λ p. spent.new + unread_of index.now (shape_of p.1) + most.old ≤ spent.old + most.new) }
-    ensures within { IfOk result (λ p. most.new ≡ most.old + length (list_in index.now number)) }
+    ensures pays { IfOk result (λ p. Pays spent.old spent.new most.old most.new (unread_of index.now (shape_of p.1)) (length (list_in index.now number))) }
+    ensures exact { IfOk result (λ p. most.new ≡ most.old + length (list_in index.now number)) }
     ensures counted { steps.new + spent.old ≡ steps.old + spent.new }
     ensures later { spent.old ≤ spent.new }
-    ensures room { IfOk result (λ p. spent.new ≤ most.new) }
     ensures small { most.new < 2 ^ 128 }
     ensures alone { IfOk result (λ p. (form : Form) → IsNest form (shape_of p.1)) }
     ensures begins { IfOk result (λ p. (point : ℕ) → spent.new + room_to index.now point (shape_of p.1) ≤ spent.old + (min 1 (length (list_in index.now number)) + count_to point (list_in index.now number))) }

@@ -1,6 +1,7 @@
 //! Terms that have to stand near, or as a phrase.
 ghost use Rattle.std.specs.Prelude.{◌≡◌, ◌≤◌, ◌<◌, ◌+◌, ◌^◌, true, false, max, length, Some};
 ghost use Rattle.sk_model.specs.Combining.{where_so};
+ghost use Rattle.sk_nodes.specs.Accounts.{Spends};
 ghost use Rattle.sk_nodes.specs.Skips.{IsLight};
 ghost use Rattle.sk_nodes.specs.Proximity.{stand, positions_at, holds, entries_from, AreThere, IsInAll, CanTest, IsSameTest};
 
@@ -51,9 +52,7 @@ impl Proximity {
         ensures fails { result ≡ false → IsLight need (where_so (holds index.now self.old below.now.head) (Some below.now.weight)) }
         ensures same { IsSameTest self.old self.new }
         ensures next { self.new.next ≤ max self.old.next (below.now.head + 1) }
-        ensures paid { spent.new + entries_from index.now self.new.next self.old.numbers.items ≤ spent.old + entries_from index.now self.old.next self.old.numbers.items }
-        ensures counted { steps.new + spent.old ≡ steps.old + spent.new }
-        ensures later { spent.old ≤ spent.new }
+        ensures spends { Spends (entries_from index.now self.old.next self.old.numbers.items) (entries_from index.now self.new.next self.old.numbers.items) spent.old spent.new steps.old steps.new }
     {
         if below.weight < need {
             return false;
@@ -78,9 +77,7 @@ impl Proximity {
         ensures value { result ≡ holds index.now self.old head }
         ensures same { IsSameTest self.old self.new }
         ensures next { self.new.next ≡ max self.old.next (head + 1) }
-        ensures paid { spent.new + entries_from index.now self.new.next self.old.numbers.items ≤ spent.old + entries_from index.now self.old.next self.old.numbers.items }
-        ensures counted { steps.new + spent.old ≡ steps.old + spent.new }
-        ensures later { spent.old ≤ spent.new }
+        ensures spends { Spends (entries_from index.now self.old.next self.old.numbers.items) (entries_from index.now self.new.next self.old.numbers.items) spent.old spent.new steps.old steps.new }
     {
         if head < self.next {
             return true;

@@ -5,6 +5,7 @@ ghost use Rattle.sk_sorted.specs.Entries.{AreSorted};
 ghost use Rattle.sk_query.specs.Trees as QueryTree;
 ghost use Rattle.sk_query.specs.Trees.{limit_of};
 ghost use Rattle.sk_model.specs.Ranges.{end_of, is_crossed};
+ghost use Rattle.sk_nodes.specs.Accounts.{Pays};
 ghost use Rattle.sk_nodes.specs.Shapes.{shape_of};
 ghost use Rattle.sk_nodes.specs.Left.{unread_of};
 ghost use Rattle.sk_nodes.specs.Opened.{score_of, Opens};
@@ -38,11 +39,9 @@ pub(crate) fn open_range<L: Ledger>(
     requires room { spent.old ≤ most.old }
     requires small { most.old < 2 ^ 128 }
     ensures opens { IfOk result (λ p. Opens index.now p.0 (shape_of p.1) (score_of (QueryTree.range slot (limit_of lo.now) (limit_of hi.now)) scheme _factor) 0) }
-    ensures paid { IfOk result (λ p. spent.new + unread_of index.now (shape_of p.1) + most.old ≤ spent.old + most.new) }
-    ensures within { IfOk result (λ p. most.new ≤ most.old + slot_length_of slot index.now.live.documents) }
+    ensures pays { IfOk result (λ p. Pays spent.old spent.new most.old most.new (unread_of index.now (shape_of p.1)) (slot_length_of slot index.now.live.documents)) }
     ensures counted { steps.new + spent.old ≡ steps.old + spent.new }
     ensures later { spent.old ≤ spent.new }
-    ensures room { IfOk result (λ p. spent.new ≤ most.new) }
     ensures small { most.new < 2 ^ 128 }
     ensures crossed { is_crossed (end_of (limit_of lo.now)) (end_of (limit_of hi.now)) ≡ true → steps.new ≡ steps.old }
 {

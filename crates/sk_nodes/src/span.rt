@@ -5,6 +5,7 @@ ghost use Rattle.sk_sorted.specs.Entries.{AreSorted};
 ghost use Rattle.sk_values.specs.RangeCursor.{in_range};
 ghost use Rattle.sk_model.specs.Covers.{Covers};
 ghost use Rattle.sk_index.specs.Indexed.{Indexed, slot_values};
+ghost use Rattle.sk_nodes.specs.Accounts.{Spends};
 ghost use Rattle.sk_nodes.specs.Leaves.{weighed, head_of};
 ghost use Rattle.sk_nodes.specs.Shapes as Shapes;
 ghost use Rattle.sk_nodes.specs.Left.{from_on};
@@ -42,9 +43,7 @@ impl Span {
         ensures top { IsTop index.now top.new (Shapes.span result) }
         ensures gives { (id : ℕ) → span_rest index.now result id ≡ weighed 0 Scheme.Bool (unweighed (in_range lo hi (slot_values slot index.now.live.documents))) id }
         ensures ceiling { top.new.greatest ≡ 0 }
-        ensures paid { spent.new + span_unread index.now result ≤ spent.old + length (slot_values slot index.now.live.documents) }
-        ensures counted { steps.new + spent.old ≡ steps.old + spent.new }
-        ensures later { spent.old ≤ spent.new }
+        ensures spends { Spends (length (slot_values slot index.now.live.documents)) (span_unread index.now result) spent.old spent.new steps.old steps.new }
     {
         let list = index.values(slot);
         let span = Span {
@@ -72,9 +71,7 @@ impl Span {
         ensures top { IsTop index.now top.new (Shapes.span self.new) }
         ensures covers { (need : ℕ) → Covers (from_on target (span_rest index.now self.old)) (span_rest index.now self.new) need }
         ensures reached { target ≤ top.new.head }
-        ensures paid { spent.new + span_unread index.now self.new ≤ spent.old + span_unread index.now self.old }
-        ensures counted { steps.new + spent.old ≡ steps.old + spent.new }
-        ensures later { spent.old ≤ spent.new }
+        ensures spends { Spends (span_unread index.now self.old) (span_unread index.now self.new) spent.old spent.new steps.old steps.new }
     {
         let list = index.values(self.slot);
         let read = self.cursor.seek(list, target as u32, steps);

@@ -13,6 +13,7 @@ ghost use Rattle.sk_model.specs.Documents.{Document};
 ghost use Rattle.sk_model.specs.Bounds.{ceil, lengths_of, term_ceil};
 ghost use Rattle.sk_model.specs.Allowance.{leaf_readings};
 ghost use Rattle.sk_decay.specs.Sides.{paired};
+ghost use Rattle.sk_nodes.specs.Accounts.{Pays};
 ghost use Rattle.sk_nodes.specs.Shapes.{shape_of};
 ghost use Rattle.sk_nodes.specs.Left.{unread_of};
 ghost use Rattle.sk_nodes.specs.Flat.{OpensNest, OpensFlat};
@@ -56,11 +57,9 @@ pub(crate) fn open_synonym<L: Ledger>(
     requires room { spent.old ≤ most.old }
     requires small { most.old < 2 ^ 128 }
     ensures opens { IfOk result (λ p. Opens index.now p.0 (shape_of p.1) (score_of (query_view query.now) scheme factor) (ceil (query_view query.now) scheme factor index.now.live.documents)) }
-    ensures paid { IfOk result (λ p. spent.new + unread_of index.now (shape_of p.1) + most.old ≤ spent.old + most.new) }
-    ensures within { IfOk result (λ p. most.new ≤ most.old + lengths_of words.now index.now.live.documents) }
+    ensures pays { IfOk result (λ p. Pays spent.old spent.new most.old most.new (unread_of index.now (shape_of p.1)) (lengths_of words.now index.now.live.documents)) }
     ensures counted { steps.new + spent.old ≡ steps.old + spent.new }
     ensures later { spent.old ≤ spent.new }
-    ensures room { IfOk result (λ p. spent.new ≤ most.new) }
     ensures small { most.new < 2 ^ 128 }
     ensures flat { IfOk result (λ p. OpensFlat index.now (shape_of p.1) words.now spent.old spent.new) }
 {
@@ -100,11 +99,9 @@ pub(crate) fn open_wildcard<L: Ledger>(
     requires room { spent.old ≤ most.old }
     requires small { most.old < 2 ^ 128 }
     ensures opens { IfOk result (λ p. Opens index.now p.0 (shape_of p.1) (score_of (query_view query.now) scheme factor) (ceil (query_view query.now) scheme factor index.now.live.documents)) }
-    ensures paid { IfOk result (λ p. spent.new + unread_of index.now (shape_of p.1) + most.old ≤ spent.old + most.new) }
-    ensures within { IfOk result (λ p. most.new ≤ most.old + leaf_readings (QueryTree.wildcard prefix.now) index.now.live.documents) }
+    ensures pays { IfOk result (λ p. Pays spent.old spent.new most.old most.new (unread_of index.now (shape_of p.1)) (leaf_readings (QueryTree.wildcard prefix.now) index.now.live.documents)) }
     ensures counted { steps.new + spent.old ≡ steps.old + spent.new }
     ensures later { spent.old ≤ spent.new }
-    ensures room { IfOk result (λ p. spent.new ≤ most.new) }
     ensures small { most.new < 2 ^ 128 }
     ensures flat { IfOk result (λ p. OpensFlat index.now (shape_of p.1) (terms_with prefix.now index.now.live.documents) spent.old spent.new) }
 {
@@ -143,11 +140,9 @@ fn open_joint<L: Ledger>(
     requires room { spent.old ≤ most.old }
     requires small { most.old < 2 ^ 128 }
     ensures opens { IfOk result (λ p. Opens index.now p.0 (shape_of p.1) (score_of (QueryTree.synonym (map (term_at index.now.terms) numbers.now)) scheme factor) (2 ^ 45)) }
-    ensures paid { IfOk result (λ p. spent.new + unread_of index.now (shape_of p.1) + most.old ≤ spent.old + most.new) }
-    ensures within { IfOk result (λ p. most.new ≤ most.old + lengths_of (map (term_at index.now.terms) numbers.now) index.now.live.documents) }
+    ensures pays { IfOk result (λ p. Pays spent.old spent.new most.old most.new (unread_of index.now (shape_of p.1)) (lengths_of (map (term_at index.now.terms) numbers.now) index.now.live.documents)) }
     ensures counted { steps.new + spent.old ≡ steps.old + spent.new }
     ensures later { spent.old ≤ spent.new }
-    ensures room { IfOk result (λ p. spent.new ≤ most.new) }
     ensures small { most.new < 2 ^ 128 }
     ensures nest { IfOk result (λ p. OpensNest index.now (joint_form scheme) (shape_of p.1) (map (term_at index.now.terms) numbers.now) spent.old spent.new) }
 {
@@ -182,11 +177,9 @@ fn open_one<L: Ledger>(
     requires room { spent.old ≤ most.old }
     requires small { most.old < 2 ^ 128 }
     ensures opens { IfOk result (λ p. Opens index.now p.0 (shape_of p.1) (score_of (QueryTree.synonym (map (term_at index.now.terms) numbers.now)) scheme factor) (2 ^ 45)) }
-    ensures paid { IfOk result (λ p. spent.new + unread_of index.now (shape_of p.1) + most.old ≤ spent.old + most.new) }
-    ensures within { IfOk result (λ p. most.new ≤ most.old + lengths_of (map (term_at index.now.terms) numbers.now) index.now.live.documents) }
+    ensures pays { IfOk result (λ p. Pays spent.old spent.new most.old most.new (unread_of index.now (shape_of p.1)) (lengths_of (map (term_at index.now.terms) numbers.now) index.now.live.documents)) }
     ensures counted { steps.new + spent.old ≡ steps.old + spent.new }
     ensures later { spent.old ≤ spent.new }
-    ensures room { IfOk result (λ p. spent.new ≤ most.new) }
     ensures small { most.new < 2 ^ 128 }
     ensures nest { IfOk result (λ p. (form : Form) → OpensNest index.now form (shape_of p.1) (map (term_at index.now.terms) numbers.now) spent.old spent.new) }
 {

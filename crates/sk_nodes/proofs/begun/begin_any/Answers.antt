@@ -22,8 +22,10 @@ returns-clause-gives g c id =
 pub returns-clause-ceiling : goal.returns-clause-ceiling
 returns-clause-ceiling g c = let order = c.put_in_order.ensures.same c.args.index.now in omega (arith, order.greatest, c.seek_any.ensures.falls)
 
-pub returns-clause-paid : goal.returns-clause-paid
-returns-clause-paid g c = let order = c.put_in_order.ensures.same c.args.index.now in omega (arith, order.unread, c.seek_any.ensures.paid)
+pub returns-clause-spends : goal.returns-clause-spends
+returns-clause-spends g c =
+    let order = c.put_in_order.ensures.same c.args.index.now in
+    record { paid = omega (arith, order.unread, c.seek_any.ensures.spends.paid); counted = omega arith; later = omega arith }
 
 pub returns-clause-stays : goal.returns-clause-stays
 returns-clause-stays g c =

@@ -57,11 +57,15 @@ seek-returns-in-Pair-clause-smaller g t c =
     (parts_shape c.args.node.now c.in-Pair.form c.in-Pair.ta c.in-Pair.tb c.in-Pair.a c.in-Pair.b _ _ _ _ _ c.in-Pair.is c.in-Pair.form-is c.in-Pair.ta-is c.in-Pair.tb-is (c.deref_mut.ensures.value ∙ ap (λ (x : Box Node Global). x.value) c.in-Pair.a-is) (c.deref_mut-in-Pair.ensures.value ∙ ap (λ (x : Box Node Global). x.value) c.in-Pair.b-is))
     (shape_of-Pair _ _ _ _ _) (omega (arith, c.seek_sides.ensures.smaller))
 
-pub seek-returns-in-Pair-clause-paid : goal.seek-returns-in-Pair-clause-paid
-seek-returns-in-Pair-clause-paid g t c =
-    paid_along c.args.index.now _ _ _ _ c.args.spent.now c.seek_sides.new.spent
-    (parts_shape c.args.node.now c.in-Pair.form c.in-Pair.ta c.in-Pair.tb c.in-Pair.a c.in-Pair.b _ _ _ _ _ c.in-Pair.is c.in-Pair.form-is c.in-Pair.ta-is c.in-Pair.tb-is (c.deref_mut.ensures.value ∙ ap (λ (x : Box Node Global). x.value) c.in-Pair.a-is) (c.deref_mut-in-Pair.ensures.value ∙ ap (λ (x : Box Node Global). x.value) c.in-Pair.b-is))
-    (shape_of-Pair _ _ _ _ _) c.seek_sides.ensures.paid
+pub seek-returns-in-Pair-clause-spends : goal.seek-returns-in-Pair-clause-spends
+seek-returns-in-Pair-clause-spends g t c = record {
+  paid =
+      paid_along c.args.index.now _ _ _ _ c.args.spent.now c.seek_sides.new.spent
+      (parts_shape c.args.node.now c.in-Pair.form c.in-Pair.ta c.in-Pair.tb c.in-Pair.a c.in-Pair.b _ _ _ _ _ c.in-Pair.is c.in-Pair.form-is c.in-Pair.ta-is c.in-Pair.tb-is (c.deref_mut.ensures.value ∙ ap (λ (x : Box Node Global). x.value) c.in-Pair.a-is) (c.deref_mut-in-Pair.ensures.value ∙ ap (λ (x : Box Node Global). x.value) c.in-Pair.b-is))
+      (shape_of-Pair _ _ _ _ _) c.seek_sides.ensures.spends.paid;
+  counted = omega arith;
+  later = omega arith;
+}
 
 pub seek_pair-returns-then-next-ge-END-clause-top : goal.seek_pair-returns-then-next-ge-END-clause-top
 seek_pair-returns-then-next-ge-END-clause-top g t c =
@@ -166,9 +170,11 @@ seek_pair-sides-preserved g t c =
           c.sides.ta (shape_of c.sides.a) c.sides.tb (shape_of c.sides.b) c.reach.new.top (shape_of c.reach.new.node) c.sides.invariant.fades c.reach.ensures.moves
           c.reach-in-sides.new.spent c.second_target-next.result c.if-next-ge-END.false c.reach-in-sides.new.top (shape_of c.reach-in-sides.new.node) c.second_target-next.ensures c.reach-in-sides.ensures.moves
           c.in-Behind.further c.in-Behind.ensures.on c.in-Behind.ensures.both);
-      paid = omega (arith, c.reach.ensures.paid, c.reach-in-sides.ensures.paid, c.sides.invariant.paid);
-      counted = omega (arith, c.reach.ensures.counted, c.reach-in-sides.ensures.counted, c.sides.invariant.counted);
-      later = omega (arith, c.reach.ensures.later, c.reach-in-sides.ensures.later, c.sides.invariant.later);
+      spends = record {
+        paid = omega (arith, c.reach.ensures.spends.paid, c.reach-in-sides.ensures.spends.paid, c.sides.invariant.spends.paid);
+        counted = omega (arith, c.reach.ensures.spends.counted, c.reach-in-sides.ensures.spends.counted, c.sides.invariant.spends.counted);
+        later = omega (arith, c.reach.ensures.spends.later, c.reach-in-sides.ensures.spends.later, c.sides.invariant.spends.later);
+      };
     }
 
 pub seek_odd-odd_meeting-requires : goal.seek_odd-odd_meeting-requires
@@ -205,9 +211,11 @@ seek_odd-all-preserved g t c =
     record {
       far = odd_more i c.args.target c.args._need c.all.from c.in-Behind.further (sides_on c.args.tops.now c.args.nodes.now) (sides_on c.all.tops c.all.nodes) (sides_on c.reach_all.new.tops c.reach_all.new.nodes)
           c.all.invariant.far c.reach_all.ensures.sound c.reach_all.ensures.sought c.reach_all.ensures.falls c.reach_all.ensures.smaller on;
-      paid = omega (arith, c.reach_all.ensures.paid, c.all.invariant.paid);
-      counted = omega (arith, c.reach_all.ensures.counted, c.all.invariant.counted);
-      later = omega (arith, c.reach_all.ensures.later, c.all.invariant.later);
+      spends = record {
+        paid = omega (arith, c.reach_all.ensures.spends.paid, c.all.invariant.spends.paid);
+        counted = omega (arith, c.reach_all.ensures.spends.counted, c.all.invariant.spends.counted);
+        later = omega (arith, c.reach_all.ensures.spends.later, c.all.invariant.spends.later);
+      };
     }
 
 pub seek_pair-sides-init : goal.seek_pair-sides-init
@@ -224,9 +232,11 @@ seek_pair-sides-init g t c =
       leads = leads_skipped i c.args.form c.args.target c.args.need c.args.target c.skip-from.result ta a tb b ta a tb b skips spent spent (leads_begun i c.args.form c.args.target spent ta a tb b);
       stays = stays_skipped i c.args.form c.args.target c.args.need c.args.target c.skip-from.result ta a tb b ta a tb b skips spent spent (stays_begun i c.args.form c.args.target c.args.need spent ta a tb b);
       fades = fades_skipped i c.args.form c.args.target c.args.need c.args.target c.skip-from.result ta a tb b ta a tb b skips spent spent (fades_begun i c.args.form c.args.target spent ta a tb b);
-      paid = omega arith;
-      counted = omega arith;
-      later = omega arith;
+      spends = record {
+        paid = omega arith;
+        counted = omega arith;
+        later = omega arith;
+      };
     }
 
 pub reach_all-reach_all-requires : goal.reach_all-reach_all-requires
@@ -244,7 +254,7 @@ reach_all-reach_all-requires-2 g t c κs below =
     let whole = sides_split _ c.args.tops.now _ _ c.args.nodes.now _ _ c.split_at_mut-front_tops.ensures.front c.split_at_mut-front_tops.ensures.back c.split_at_mut-front_nodes.ensures.front c.split_at_mut-front_nodes.ensures.back in
     let both = both_sound i (sides_on c.split_at_mut-front_tops.result.0.now c.split_at_mut-front_nodes.result.0.now) (sides_on c.split_at_mut-front_tops.result.1.now c.split_at_mut-front_nodes.result.1.now) (subst (λ (ss : Sides). AreSound i ss) whole c.requires.sound) in (
       omega (arith, c.decreases, ap sizes_in whole, sizes_behind (sides_on c.split_at_mut-front_tops.result.0.now c.split_at_mut-front_nodes.result.0.now) (sides_on c.split_at_mut-front_tops.result.1.now c.split_at_mut-front_nodes.result.1.now), some_sizes c.split_at_mut-front_tops.result.0.now c.split_at_mut-front_nodes.result.0.now (omega (arith, c.split_at_mut-front_tops.ensures.front_len, c.if-count-le-FEW.false, c.min-count.ensures)) (omega (arith, c.split_at_mut-front_nodes.ensures.front_len, c.if-count-le-FEW.false, c.min-count.ensures))),
-      (below, (both.1, (c.requires.target, omega (arith, c.requires.room, ap (unread_in i) whole, unread_behind i (sides_on c.split_at_mut-front_tops.result.0.now c.split_at_mut-front_nodes.result.0.now) (sides_on c.split_at_mut-front_tops.result.1.now c.split_at_mut-front_nodes.result.1.now), c.reach_all.ensures.paid)))),
+      (below, (both.1, (c.requires.target, omega (arith, c.requires.room, ap (unread_in i) whole, unread_behind i (sides_on c.split_at_mut-front_tops.result.0.now c.split_at_mut-front_nodes.result.0.now) (sides_on c.split_at_mut-front_tops.result.1.now c.split_at_mut-front_nodes.result.1.now), c.reach_all.ensures.spends.paid)))),
     )
 
 pub reach_all-returns-clause-sound : goal.reach_all-returns-clause-sound
@@ -277,20 +287,26 @@ reach_all-returns-clause-smaller g t c =
     let new = sides_append c.reach_all.new.tops c.reach_all-2.new.tops c.reach_all.new.nodes c.reach_all-2.new.nodes (omega (arith, c.reach_all.auto.tops, c.reach_all.auto.nodes, c.split_at_mut-front_tops.ensures.front_len, c.split_at_mut-front_nodes.ensures.front_len)) in
     omega (arith, ap sizes_in whole, ap sizes_in new, sizes_behind (sides_on c.split_at_mut-front_tops.result.0.now c.split_at_mut-front_nodes.result.0.now) (sides_on c.split_at_mut-front_tops.result.1.now c.split_at_mut-front_nodes.result.1.now), sizes_behind (sides_on c.reach_all.new.tops c.reach_all.new.nodes) (sides_on c.reach_all-2.new.tops c.reach_all-2.new.nodes), c.reach_all.ensures.smaller, c.reach_all-2.ensures.smaller)
 
-pub reach_all-returns-clause-paid : goal.reach_all-returns-clause-paid
-reach_all-returns-clause-paid g t c =
-    let i = c.args.index.now in
-    let whole = sides_split _ c.args.tops.now _ _ c.args.nodes.now _ _ c.split_at_mut-front_tops.ensures.front c.split_at_mut-front_tops.ensures.back c.split_at_mut-front_nodes.ensures.front c.split_at_mut-front_nodes.ensures.back in
-    let new = sides_append c.reach_all.new.tops c.reach_all-2.new.tops c.reach_all.new.nodes c.reach_all-2.new.nodes (omega (arith, c.reach_all.auto.tops, c.reach_all.auto.nodes, c.split_at_mut-front_tops.ensures.front_len, c.split_at_mut-front_nodes.ensures.front_len)) in
-    omega (arith, ap (unread_in i) whole, ap (unread_in i) new, unread_behind i (sides_on c.split_at_mut-front_tops.result.0.now c.split_at_mut-front_nodes.result.0.now) (sides_on c.split_at_mut-front_tops.result.1.now c.split_at_mut-front_nodes.result.1.now), unread_behind i (sides_on c.reach_all.new.tops c.reach_all.new.nodes) (sides_on c.reach_all-2.new.tops c.reach_all-2.new.nodes), c.reach_all.ensures.paid, c.reach_all-2.ensures.paid)
+pub reach_all-returns-clause-spends : goal.reach_all-returns-clause-spends
+reach_all-returns-clause-spends g t c = record {
+  paid =
+      let i = c.args.index.now in
+      let whole = sides_split _ c.args.tops.now _ _ c.args.nodes.now _ _ c.split_at_mut-front_tops.ensures.front c.split_at_mut-front_tops.ensures.back c.split_at_mut-front_nodes.ensures.front c.split_at_mut-front_nodes.ensures.back in
+      let new = sides_append c.reach_all.new.tops c.reach_all-2.new.tops c.reach_all.new.nodes c.reach_all-2.new.nodes (omega (arith, c.reach_all.auto.tops, c.reach_all.auto.nodes, c.split_at_mut-front_tops.ensures.front_len, c.split_at_mut-front_nodes.ensures.front_len)) in
+      omega (arith, ap (unread_in i) whole, ap (unread_in i) new, unread_behind i (sides_on c.split_at_mut-front_tops.result.0.now c.split_at_mut-front_nodes.result.0.now) (sides_on c.split_at_mut-front_tops.result.1.now c.split_at_mut-front_nodes.result.1.now), unread_behind i (sides_on c.reach_all.new.tops c.reach_all.new.nodes) (sides_on c.reach_all-2.new.tops c.reach_all-2.new.nodes), c.reach_all.ensures.spends.paid, c.reach_all-2.ensures.spends.paid);
+  counted = omega arith;
+  later = omega arith;
+}
 
 pub seek_tested-tests-init : goal.seek_tested-tests-init
 seek_tested-tests-init g t c =
     record {
       far = test_begun c.args.index.now c.args.target c.args.need c.args.test.now c.args.below.now (shape_of c.args.node.now) c.requires.target c.requires.tested;
-      paid = omega arith;
-      counted = omega arith;
-      later = omega arith;
+      spends = record {
+        paid = omega arith;
+        counted = omega arith;
+        later = omega arith;
+      };
     }
 
 pub seek_tested-passes-requires-clause-all : goal.seek_tested-passes-requires-clause-all
@@ -344,9 +360,11 @@ seek_tested-tests-preserved g t c =
     record {
       far = failed_more i c.args.target c.args.need c.tests.from c.args.test.now c.args.below.now (shape_of c.args.node.now) c.tests.test c.tests.below (shape_of c.tests.node) c.reach.new.top (shape_of c.reach.new.node)
           c.tests.invariant.far c.reach.ensures.top c.reach.ensures.sound c.reach.ensures.reached c.reach.ensures.falls c.reach.ensures.smaller c.reach.ensures.covers c.passes.new.self c.passes.ensures.same c.passes.ensures.next (omega (arith, c.if-below-ge-END.false)) (c.passes.ensures.fails c.if-passes.false) (omega (arith, c.if-from-ge-END.false));
-      paid = omega (arith, same, c.reach.ensures.paid, c.passes.ensures.paid, c.tests.invariant.paid);
-      counted = omega (arith, c.reach.ensures.counted, c.passes.ensures.counted, c.tests.invariant.counted);
-      later = omega (arith, c.reach.ensures.later, c.passes.ensures.later, c.tests.invariant.later);
+      spends = record {
+        paid = omega (arith, same, c.reach.ensures.spends.paid, c.passes.ensures.spends.paid, c.tests.invariant.spends.paid);
+        counted = omega (arith, c.reach.ensures.spends.counted, c.passes.ensures.spends.counted, c.tests.invariant.spends.counted);
+        later = omega (arith, c.reach.ensures.spends.later, c.passes.ensures.spends.later, c.tests.invariant.spends.later);
+      };
     }
 
 pub seek-returns-in-Tested-clause-top : goal.seek-returns-in-Tested-clause-top
@@ -367,11 +385,15 @@ seek-returns-in-Tested-clause-smaller g t c =
     (tested_shape c.args.node.now c.in-Tested.test c.in-Tested.below c.in-Tested.node _ _ _ c.in-Tested.is c.in-Tested.test-is c.in-Tested.below-is (c.deref_mut-in-Tested.ensures.value ∙ ap (λ (x : Box Node Global). x.value) c.in-Tested.node-is))
     (shape_of-Tested _ _ _) (omega (arith, c.seek_tested.ensures.smaller))
 
-pub seek-returns-in-Tested-clause-paid : goal.seek-returns-in-Tested-clause-paid
-seek-returns-in-Tested-clause-paid g t c =
-    paid_along c.args.index.now _ _ _ _ c.args.spent.now c.seek_tested.new.spent
-    (tested_shape c.args.node.now c.in-Tested.test c.in-Tested.below c.in-Tested.node _ _ _ c.in-Tested.is c.in-Tested.test-is c.in-Tested.below-is (c.deref_mut-in-Tested.ensures.value ∙ ap (λ (x : Box Node Global). x.value) c.in-Tested.node-is))
-    (shape_of-Tested _ _ _) c.seek_tested.ensures.paid
+pub seek-returns-in-Tested-clause-spends : goal.seek-returns-in-Tested-clause-spends
+seek-returns-in-Tested-clause-spends g t c = record {
+  paid =
+      paid_along c.args.index.now _ _ _ _ c.args.spent.now c.seek_tested.new.spent
+      (tested_shape c.args.node.now c.in-Tested.test c.in-Tested.below c.in-Tested.node _ _ _ c.in-Tested.is c.in-Tested.test-is c.in-Tested.below-is (c.deref_mut-in-Tested.ensures.value ∙ ap (λ (x : Box Node Global). x.value) c.in-Tested.node-is))
+      (shape_of-Tested _ _ _) c.seek_tested.ensures.spends.paid;
+  counted = omega arith;
+  later = omega arith;
+}
 
 pub reach-returns-then-target-top-clause-stays : goal.reach-returns-then-target-top-clause-stays
 reach-returns-then-target-top-clause-stays g t c = stays_same c.args.index.now c.args.target c.args.need c.args.spent.now (shape_of c.args.node.now)
@@ -407,11 +429,15 @@ seek-returns-in-Odd-clause-smaller g t c =
     (odd_shape c.args.node.now c.in-Odd.tops c.in-Odd.nodes _ _ c.in-Odd.is (c.deref_mut-in-Odd.ensures.value ∙ ap (λ (v : Vec Top Global). v.items) c.in-Odd.tops-is) (c.deref_mut-in-Odd-2.ensures.value ∙ ap (λ (v : Vec Node Global). v.items) c.in-Odd.nodes-is))
     (odd_written _ _ c.seek_odd.new.tops c.seek_odd.new.nodes (search (rules, places)) (search (rules, places))) (omega (arith, c.seek_odd.ensures.smaller))
 
-pub seek-returns-in-Odd-clause-paid : goal.seek-returns-in-Odd-clause-paid
-seek-returns-in-Odd-clause-paid g t c =
-    paid_along c.args.index.now _ _ _ _ c.args.spent.now c.seek_odd.new.spent
-    (odd_shape c.args.node.now c.in-Odd.tops c.in-Odd.nodes _ _ c.in-Odd.is (c.deref_mut-in-Odd.ensures.value ∙ ap (λ (v : Vec Top Global). v.items) c.in-Odd.tops-is) (c.deref_mut-in-Odd-2.ensures.value ∙ ap (λ (v : Vec Node Global). v.items) c.in-Odd.nodes-is))
-    (odd_written _ _ c.seek_odd.new.tops c.seek_odd.new.nodes (search (rules, places)) (search (rules, places))) c.seek_odd.ensures.paid
+pub seek-returns-in-Odd-clause-spends : goal.seek-returns-in-Odd-clause-spends
+seek-returns-in-Odd-clause-spends g t c = record {
+  paid =
+      paid_along c.args.index.now _ _ _ _ c.args.spent.now c.seek_odd.new.spent
+      (odd_shape c.args.node.now c.in-Odd.tops c.in-Odd.nodes _ _ c.in-Odd.is (c.deref_mut-in-Odd.ensures.value ∙ ap (λ (v : Vec Top Global). v.items) c.in-Odd.tops-is) (c.deref_mut-in-Odd-2.ensures.value ∙ ap (λ (v : Vec Node Global). v.items) c.in-Odd.nodes-is))
+      (odd_written _ _ c.seek_odd.new.tops c.seek_odd.new.nodes (search (rules, places)) (search (rules, places))) c.seek_odd.ensures.spends.paid;
+  counted = omega arith;
+  later = omega arith;
+}
 
 pub seek-returns-in-Odd-clause-stays : goal.seek-returns-in-Odd-clause-stays
 seek-returns-in-Odd-clause-stays g t c =
@@ -523,7 +549,7 @@ reach-returns-then-target-top-clause-fades g t c = under_same c.args.index.now c
 pub reach-returns-in-Leaf-clause-fades : goal.reach-returns-in-Leaf-clause-fades
 reach-returns-in-Leaf-clause-fades g t c =
     under_leaf c.args.index.now c.args.target c.args.need c.args.spent.now c.advance.new.spent _ c.advance.new.self c.args.top.now _ _ (leaf_shape c.args.node.now c.in-Leaf.leaf _ c.in-Leaf.is c.in-Leaf.leaf-is) (search (rules, shape_of-Leaf))
-    c.requires.top (omega (arith, c.if-target-top.false, c.requires.target)) c.if-top-need.false c.advance.ensures.own c.advance.ensures.paid c.advance.ensures.moves
+    c.requires.top (omega (arith, c.if-target-top.false, c.requires.target)) c.if-top-need.false c.advance.ensures.own c.advance.ensures.spends.paid c.advance.ensures.moves
 
 pub reach_inner-returns-clause-moves : goal.reach_inner-returns-clause-moves
 reach_inner-returns-clause-moves g t c stands =
@@ -591,11 +617,15 @@ seek-returns-in-Any-clause-smaller g t c =
     (any_shape c.args.node.now c.in-Any.tops c.in-Any.nodes _ _ c.in-Any.is (c.deref_mut-in-Any.ensures.value ∙ ap (λ (v : Vec Top Global). v.items) c.in-Any.tops-is) (c.deref_mut-in-Any-2.ensures.value ∙ ap (λ (v : Vec Node Global). v.items) c.in-Any.nodes-is))
     (any_written _ _ c.seek_any.new.tops c.seek_any.new.nodes (search (rules, places)) (search (rules, places))) (omega (arith, c.seek_any.ensures.smaller))
 
-pub seek-returns-in-Any-clause-paid : goal.seek-returns-in-Any-clause-paid
-seek-returns-in-Any-clause-paid g t c =
-    paid_along c.args.index.now _ _ _ _ c.args.spent.now c.seek_any.new.spent
-    (any_shape c.args.node.now c.in-Any.tops c.in-Any.nodes _ _ c.in-Any.is (c.deref_mut-in-Any.ensures.value ∙ ap (λ (v : Vec Top Global). v.items) c.in-Any.tops-is) (c.deref_mut-in-Any-2.ensures.value ∙ ap (λ (v : Vec Node Global). v.items) c.in-Any.nodes-is))
-    (any_written _ _ c.seek_any.new.tops c.seek_any.new.nodes (search (rules, places)) (search (rules, places))) c.seek_any.ensures.paid
+pub seek-returns-in-Any-clause-spends : goal.seek-returns-in-Any-clause-spends
+seek-returns-in-Any-clause-spends g t c = record {
+  paid =
+      paid_along c.args.index.now _ _ _ _ c.args.spent.now c.seek_any.new.spent
+      (any_shape c.args.node.now c.in-Any.tops c.in-Any.nodes _ _ c.in-Any.is (c.deref_mut-in-Any.ensures.value ∙ ap (λ (v : Vec Top Global). v.items) c.in-Any.tops-is) (c.deref_mut-in-Any-2.ensures.value ∙ ap (λ (v : Vec Node Global). v.items) c.in-Any.nodes-is))
+      (any_written _ _ c.seek_any.new.tops c.seek_any.new.nodes (search (rules, places)) (search (rules, places))) c.seek_any.ensures.spends.paid;
+  counted = omega arith;
+  later = omega arith;
+}
 
 pub seek-returns-in-Any-clause-stays : goal.seek-returns-in-Any-clause-stays
 seek-returns-in-Any-clause-stays g t c =
@@ -668,9 +698,11 @@ seek_some-matches-init g t c =
     record {
       far = any_begun c.args.index.now c.args.target c.args.need c.args.spent.now (sides_on c.args.tops.now c.args.nodes.now) c.requires.sides;
       within = c.requires.target;
-      paid = omega arith;
-      counted = omega arith;
-      later = omega arith;
+      spends = record {
+        paid = omega arith;
+        counted = omega arith;
+        later = omega arith;
+      };
     }
 
 pub seek_some-returns-then-head-ge-END-clause-top : goal.seek_some-returns-then-head-ge-END-clause-top
@@ -690,11 +722,15 @@ seek_some-returns-then-head-ge-END-clause-covers g t c =
     c.matches.invariant.far c.lead-head.ensures.led c.lead-head.ensures.sound c.lead-head.ensures.falls c.lead-head.ensures.smaller c.lead-head.ensures.kept)
     c.end_sides.ensures.over
 
-pub seek_some-returns-then-head-ge-END-clause-paid : goal.seek_some-returns-then-head-ge-END-clause-paid
-seek_some-returns-then-head-ge-END-clause-paid g t c =
-    let i = c.args.index.now in
-    let none = ended_unread i (sides_on c.end_sides.new.tops c.end_sides.new.nodes) c.end_sides.ensures.over in
-    omega (arith, none, c.matches.invariant.paid, c.lead-head.ensures.paid)
+pub seek_some-returns-then-head-ge-END-clause-spends : goal.seek_some-returns-then-head-ge-END-clause-spends
+seek_some-returns-then-head-ge-END-clause-spends g t c = record {
+  paid =
+      let i = c.args.index.now in
+      let none = ended_unread i (sides_on c.end_sides.new.tops c.end_sides.new.nodes) c.end_sides.ensures.over in
+      omega (arith, none, c.matches.invariant.spends.paid, c.lead-head.ensures.spends.paid);
+  counted = omega arith;
+  later = omega arith;
+}
 
 pub seek_some-returns-then-head-ge-END-clause-stays : goal.seek_some-returns-then-head-ge-END-clause-stays
 seek_some-returns-then-head-ge-END-clause-stays g t c =
@@ -725,11 +761,15 @@ seek_some-returns-then-from-ge-END-clause-covers g t c =
     c.weigh-weight.ensures.weighed (omega (arith, c.if-weight-need.false)))
     c.end_sides-then-from-ge-END.ensures.over
 
-pub seek_some-returns-then-from-ge-END-clause-paid : goal.seek_some-returns-then-from-ge-END-clause-paid
-seek_some-returns-then-from-ge-END-clause-paid g t c =
-    let i = c.args.index.now in
-    let none = ended_unread i (sides_on c.end_sides-then-from-ge-END.new.tops c.end_sides-then-from-ge-END.new.nodes) c.end_sides-then-from-ge-END.ensures.over in
-    omega (arith, none, c.matches.invariant.paid, c.lead-head.ensures.paid, c.weigh-weight.ensures.paid)
+pub seek_some-returns-then-from-ge-END-clause-spends : goal.seek_some-returns-then-from-ge-END-clause-spends
+seek_some-returns-then-from-ge-END-clause-spends g t c = record {
+  paid =
+      let i = c.args.index.now in
+      let none = ended_unread i (sides_on c.end_sides-then-from-ge-END.new.tops c.end_sides-then-from-ge-END.new.nodes) c.end_sides-then-from-ge-END.ensures.over in
+      omega (arith, none, c.matches.invariant.spends.paid, c.lead-head.ensures.spends.paid, c.weigh-weight.ensures.spends.paid);
+  counted = omega arith;
+  later = omega arith;
+}
 
 pub seek_some-returns-then-from-ge-END-clause-stays : goal.seek_some-returns-then-from-ge-END-clause-stays
 seek_some-returns-then-from-ge-END-clause-stays g t c =

@@ -1,5 +1,6 @@
 -- How large the nodes are, and how far two sides have come.
 use Rattle.std.proofs.Common.{◌≡◌, ◌≤◌, ◌<◌, ◌+◌, ◌^◌, ◌-◌, ◌*◌}
+use Rattle.sk_nodes.specs.Accounts.{Spends}
 use Rattle.sk_nodes.specs.Shapes.{shape_of, size_of, sides_on, sizes_in}
 use Rattle.sk_nodes.specs.Left.{unread_of, unread_in}
 use Rattle.sk_nodes.proofs.NodeLaws.{SidesSoFar}
@@ -33,9 +34,7 @@ invariant-seek_pair-sides g l = record {
   stays : StaysSoFar l.index l.form l.target l.need l.from l.fn.spent l.spent l.fn.ta (shape_of l.fn.a) l.fn.tb (shape_of l.fn.b) l.ta (shape_of l.a) l.tb (shape_of l.b);
   leads : LeadsSoFar l.index l.form l.target l.from l.fn.spent l.spent l.fn.ta (shape_of l.fn.a) l.fn.tb (shape_of l.fn.b) l.ta (shape_of l.a) l.tb (shape_of l.b);
   fades : FadesSoFar l.index l.form l.target l.from l.fn.spent l.spent l.fn.ta (shape_of l.fn.a) l.fn.tb (shape_of l.fn.b) l.ta (shape_of l.a) l.tb (shape_of l.b);
-  paid : l.spent + (unread_of l.index (shape_of l.a) + unread_of l.index (shape_of l.b)) ≤ l.fn.spent + (unread_of l.index (shape_of l.fn.a) + unread_of l.index (shape_of l.fn.b));
-  counted : l.steps + l.fn.spent ≡ l.fn.steps + l.spent;
-  later : l.fn.spent ≤ l.spent;
+  spends : Spends (unread_of l.index (shape_of l.fn.a) + unread_of l.index (shape_of l.fn.b)) (unread_of l.index (shape_of l.a) + unread_of l.index (shape_of l.b)) l.fn.spent l.spent l.fn.steps l.steps;
 }
 
 abbrev pub decreases-seek_pair-sides : goal.decreases-seek_pair-sides
@@ -60,9 +59,7 @@ abbrev pub invariant-seek_some-matches : goal.invariant-seek_some-matches
 invariant-seek_some-matches g l = record {
   far : AnySoFar l.index l.target l.need l.from l.fn.spent l.spent (sides_on l.fn.tops l.fn.nodes) (sides_on l.tops l.nodes);
   within : l.from < 2 ^ 32;
-  paid : l.spent + unread_in l.index (sides_on l.tops l.nodes) ≤ l.fn.spent + unread_in l.index (sides_on l.fn.tops l.fn.nodes);
-  counted : l.steps + l.fn.spent ≡ l.fn.steps + l.spent;
-  later : l.fn.spent ≤ l.spent;
+  spends : Spends (unread_in l.index (sides_on l.fn.tops l.fn.nodes)) (unread_in l.index (sides_on l.tops l.nodes)) l.fn.spent l.spent l.fn.steps l.steps;
 }
 
 abbrev pub decreases-seek_some-matches : goal.decreases-seek_some-matches
@@ -80,9 +77,7 @@ decreases-reach_few g l = 5 * sizes_in (sides_on l.tops.now l.nodes.now) + 2
 abbrev pub invariant-seek_odd-all : goal.invariant-seek_odd-all
 invariant-seek_odd-all g l = record {
   far : OddSoFar l.index l.target l._need l.from (sides_on l.fn.tops l.fn.nodes) (sides_on l.tops l.nodes);
-  paid : l.spent + unread_in l.index (sides_on l.tops l.nodes) ≤ l.fn.spent + unread_in l.index (sides_on l.fn.tops l.fn.nodes);
-  counted : l.steps + l.fn.spent ≡ l.fn.steps + l.spent;
-  later : l.fn.spent ≤ l.spent;
+  spends : Spends (unread_in l.index (sides_on l.fn.tops l.fn.nodes)) (unread_in l.index (sides_on l.tops l.nodes)) l.fn.spent l.spent l.fn.steps l.steps;
 }
 
 abbrev pub decreases-seek_odd-all : goal.decreases-seek_odd-all
@@ -94,9 +89,7 @@ decreases-seek_tested g l = 5 * size_of (shape_of l.node.now) + 4
 abbrev pub invariant-seek_tested-tests : goal.invariant-seek_tested-tests
 invariant-seek_tested-tests g l = record {
   far : TestSoFar l.index l.target l.need l.from l.fn.test l.fn.below (shape_of l.fn.node) l.test l.below (shape_of l.node);
-  paid : l.spent + (unread_of l.index (shape_of l.node) + entries_from l.index l.test.next l.test.numbers.items) ≤ l.fn.spent + (unread_of l.index (shape_of l.fn.node) + entries_from l.index l.fn.test.next l.fn.test.numbers.items);
-  counted : l.steps + l.fn.spent ≡ l.fn.steps + l.spent;
-  later : l.fn.spent ≤ l.spent;
+  spends : Spends (unread_of l.index (shape_of l.fn.node) + entries_from l.index l.fn.test.next l.fn.test.numbers.items) (unread_of l.index (shape_of l.node) + entries_from l.index l.test.next l.test.numbers.items) l.fn.spent l.spent l.fn.steps l.steps;
 }
 
 abbrev pub decreases-seek_tested-tests : goal.decreases-seek_tested-tests

@@ -34,12 +34,18 @@ open_sides-returns-clause-opens g t c =
     (part_scores (queries_view c.odd_halves.result.0.now) c.args.scheme c.args.factor) (part_scores (queries_view c.odd_halves.result.1.now) c.args.scheme c.args.factor) (part_scores (queries_view c.args.parts.now) c.args.scheme c.args.factor)
     _ _ _ c.in_ok-tops-2.ensures.sides (c.odd_halves.ensures.scores c.args.scheme) (c.odd_halves.ensures.ceiling c.args.scheme i.live.documents) c.in_ok-some_tops.ensures.opens c.in_ok-more_tops.ensures.opens
 
-pub open_sides-returns-clause-paid : goal.open_sides-returns-clause-paid
-open_sides-returns-clause-paid g t c =
+pub open_sides-returns-clause-pays : goal.open_sides-returns-clause-pays
+open_sides-returns-clause-pays g t c =
     let i = c.args.index.now in
     let whole : unread_in i (sides_on c.in_ok-tops-2.tops.items c.in_ok-tops-2.nodes.items) ≡ unread_in i (sides_on c.in_ok-some_tops.some_tops.items c.in_ok-some_tops.some_nodes.items) + unread_in i (sides_on c.in_ok-more_tops.more_tops.items c.in_ok-more_tops.more_nodes.items)
     = ap (unread_in i) c.in_ok-tops-2.ensures.sides ∙ unread_behind i (sides_on c.in_ok-some_tops.some_tops.items c.in_ok-some_tops.some_nodes.items) (sides_on c.in_ok-more_tops.more_tops.items c.in_ok-more_tops.more_nodes.items) in
-    omega (arith, whole, c.in_ok-some_tops.ensures.paid, c.in_ok-more_tops.ensures.paid)
+    let first = c.in_ok-some_tops.ensures.pays in
+    let others = c.in_ok-more_tops.ensures.pays in
+    record {
+      paid = omega (arith, whole, first.paid, others.paid);
+      within = omega (arith, first.within, others.within, c.odd_halves.ensures.readings i.live.documents);
+      room = others.room;
+    }
 
 pub open_standing-returns-then-len-words-clause-opens : goal.open_standing-returns-then-len-words-clause-opens
 open_standing-returns-then-len-words-clause-opens g t c =
@@ -65,14 +71,20 @@ open_standing-returns-clause-opens g t c =
     (terms_ceils c.args.words.now c.args.scheme c.args.factor i.live.documents)
     c.in_ok-top.ensures.top c.in_ok-top.ensures.sound c.in_ok-top.ensures.gives c.in_ok-top.ensures.ceiling
 
-pub open_standing-returns-clause-within : goal.open_standing-returns-clause-within
-open_standing-returns-clause-within g t c =
+pub open_standing-returns-clause-pays : goal.open_standing-returns-clause-pays
+open_standing-returns-clause-pays g t c =
     let i = c.args.index.now in
     let view = ap queries_view c.as_slice.ensures.value ∙ c.in_ok-terms.ensures in
     let named = all_numbered i c.in_ok-numbers.numbers.items c.args.words.now c.in_ok-numbers.ensures.terms (omega (arith, c.if-len-words.false, c.len.ensures)) in
     let first = ap (λ ts. leaves_readings ts i.live.documents) view ∙ terms_readings c.args.words.now i.live.documents in
     let second = ap (λ (ns : List ℕ). entries_from i 0 ns) c.as_slice-2.ensures.value ∙ entries_all i c.in_ok-numbers.numbers.items ∙ ap (λ ts. lengths_of ts i.live.documents) named in
-    omega (arith, first, second, c.in_ok-below.ensures.within, c.in_ok-add_lengths.ensures.sum)
+    let pays = c.in_ok-below.ensures.pays in
+    let listed = ap (λ (ns : List ℕ). entries_from i 0 ns) c.as_slice-2.ensures.value in
+    record {
+      paid = omega (arith, listed, pays.paid, c.in_ok-top.ensures.paid, c.in_ok-add_lengths.ensures.sum);
+      within = omega (arith, first, second, pays.within, c.in_ok-add_lengths.ensures.sum);
+      room = omega (arith, listed, pays.paid, c.in_ok-top.ensures.paid, c.in_ok-add_lengths.ensures.sum, c.requires.room);
+    }
 
 pub open_standing-tested_of-requires-clause-tested : goal.open_standing-tested_of-requires-clause-tested
 open_standing-tested_of-requires-clause-tested g t c =

@@ -20,10 +20,16 @@ returns-clause-opens g c =
       ceiling = subst (λ n. c.in_ok-top.top.greatest ≤ n) (greatest-term c.args.factor c.args.scheme t i.live.documents) c.in_ok-top.ensures.ceiling;
     }
 
-pub returns-clause-within : goal.returns-clause-within
-returns-clause-within g c =
+pub returns-clause-pays : goal.returns-clause-pays
+returns-clause-pays g c =
     let i = c.args.index.now in
-    omega (arith, length-postings (term_at i.terms c.args.number) i.live.documents, c.in_ok-top.ensures.within)
+    let pays = c.in_ok-top.ensures.pays in
+    record { paid = pays.paid; within = omega (arith, length-postings (term_at i.terms c.args.number) i.live.documents, pays.within); room = pays.room }
+
+pub returns-clause-exact : goal.returns-clause-exact
+returns-clause-exact g c =
+    let i = c.args.index.now in
+    omega (arith, length-postings (term_at i.terms c.args.number) i.live.documents, c.in_ok-top.ensures.exact)
 
 pub returns-clause-nest : goal.returns-clause-nest
 returns-clause-nest g c form = term_nest c.args.index.now form (shape_of c.in_ok-top.node) c.args.number _ _ (c.in_ok-top.ensures.alone form) c.in_ok-top.ensures.begins

@@ -28,11 +28,12 @@ returns-in_ok-top-in-Some-clause-opens g c =
     subst (λ (t : List ℕ). Opens i c.in_ok-top-in-Some.top (shape_of c.in_ok-top-in-Some.node) (score_of (Query.term t) c.args.scheme c.args.factor) (term_ceil c.args.scheme c.args.factor t i.live.documents)) named
     c.in_ok-top-in-Some.ensures.opens
 
-pub returns-in_ok-top-in-Some-clause-within : goal.returns-in_ok-top-in-Some-clause-within
-returns-in_ok-top-in-Some-clause-within g c =
+pub returns-in_ok-top-in-Some-clause-pays : goal.returns-in_ok-top-in-Some-clause-pays
+returns-in_ok-top-in-Some-clause-pays g c =
     let i = c.args.index.now in
     let named : term_at i.terms c.in-Some.number ≡ c.args.word.now = c.in-Some.ensures.found.1 ∙ c.as_bytes.ensures.value ∙ c.as_str.ensures in
-    omega (arith, ap (λ t. length_of t i.live.documents) named, c.in_ok-top-in-Some.ensures.within)
+    let pays = c.in_ok-top-in-Some.ensures.pays in
+    record { paid = pays.paid; within = omega (arith, ap (λ t. length_of t i.live.documents) named, pays.within); room = pays.room }
 
 pub returns-in_ok-top-in-Some-clause-nest : goal.returns-in_ok-top-in-Some-clause-nest
 returns-in_ok-top-in-Some-clause-nest g c form =

@@ -8,6 +8,7 @@ use Rattle.sk_query.specs.Trees.{limit_of}
 use Rattle.sk_model.specs.Ranges.{end_of}
 use Rattle.sk_model.specs.Edits.{document_at}
 use Rattle.sk_index.specs.Indexed.{slot_values}
+use Rattle.sk_nodes.specs.Left.{unread_of}
 use Rattle.sk_nodes.specs.Leaves.{weighed}
 use Rattle.sk_nodes.specs.Span.{unweighed, span_rest}
 use Rattle.sk_nodes.proofs.NodeLaws.{shape_of-Nothing}
@@ -30,8 +31,14 @@ returns-clause-opens g c =
     (λ id. subst (λ (hi : Option (List ℕ)). span_rest i r id ≡ weighed 0 Scheme.Bool (unweighed (in_range (end_of (limit_of c.args.lo.now)) hi (slot_values c.args.slot i.live.documents))) id) c.in_ok-hi.ensures
     (subst (λ (lo : Option (List ℕ)). span_rest i r id ≡ weighed 0 Scheme.Bool (unweighed (in_range lo c.in_ok-hi.hi (slot_values c.args.slot i.live.documents))) id) c.in_ok-lo.ensures (c.open-span.ensures.gives id)))
 
-pub returns-clause-within : goal.returns-clause-within
-returns-clause-within g c =
+pub returns-clause-pays : goal.returns-clause-pays
+returns-clause-pays g c =
     let i = c.args.index.now in
     let long : length (flat c.values.result.now) ≡ slot_length_of c.args.slot i.live.documents = ap length c.values.ensures.entries ∙ length-slot_values c.args.slot i.live.documents in
-    omega (arith, long, c.length.ensures.value, c.in_ok-raise.ensures.ok)
+    let listed = length-slot_values c.args.slot i.live.documents in
+    let left = ap (unread_of i) (shape_of-Span c.open-span.result) in
+    record {
+      paid = omega (arith, long, listed, left, c.length.ensures.value, c.in_ok-raise.ensures.ok, c.open-span.ensures.spends.paid);
+      within = omega (arith, long, c.length.ensures.value, c.in_ok-raise.ensures.ok);
+      room = omega (arith, long, listed, c.length.ensures.value, c.in_ok-raise.ensures.ok, c.open-span.ensures.spends.paid, c.requires.room);
+    }

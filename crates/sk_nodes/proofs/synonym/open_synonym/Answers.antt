@@ -27,11 +27,16 @@ returns-clause-opens g c =
     ∙ ap (λ q. score_of q c.args.scheme c.args.factor (document_at id i.live.documents)) (sym c.requires.is))
     (synonym_at_most i query c.args.words.now c.args.scheme c.args.factor c.requires.is c.requires.sound c.requires.light)
 
-pub returns-clause-within : goal.returns-clause-within
-returns-clause-within g c =
+pub returns-clause-pays : goal.returns-clause-pays
+returns-clause-pays g c =
     let i = c.args.index.now in
     let same = ap (λ (ns : List ℕ). lengths_of (map (term_at i.terms) ns) i.live.documents) c.as_slice.ensures.value in
-    omega (arith, same, ap (λ ts. lengths_of ts i.live.documents) c.in_ok-numbers.ensures.terms, numbered_readings i c.args.words.now, c.in_ok-top.ensures.within)
+    let pays = c.in_ok-top.ensures.pays in
+    record {
+      paid = pays.paid;
+      within = omega (arith, same, ap (λ ts. lengths_of ts i.live.documents) c.in_ok-numbers.ensures.terms, numbered_readings i c.args.words.now, pays.within);
+      room = pays.room;
+    }
 
 pub returns-clause-flat : goal.returns-clause-flat
 returns-clause-flat g c =

@@ -36,14 +36,15 @@ returns-clause-opens g c =
     ∙ wild_score i c.args.prefix.now ns are c.args.scheme c.args.factor id ∙ ap (λ q. score_of q c.args.scheme c.args.factor (document_at id i.live.documents)) (sym c.requires.is))
     (wild_at_most i query c.args.prefix.now ns c.args.scheme c.args.factor c.requires.is are c.requires.light)
 
-pub returns-clause-within : goal.returns-clause-within
-returns-clause-within g c =
+pub returns-clause-pays : goal.returns-clause-pays
+returns-clause-pays g c =
     let i = c.args.index.now in
     let ns = c.in_ok-numbers.numbers.items in
     let bytes = c.as_bytes.ensures.value ∙ c.as_str.ensures in
     let are = subst (λ (t : List ℕ). AreAllWith t i.terms i.live.documents ns) bytes c.in_ok-numbers.ensures in
     let same = ap (λ (ms : List ℕ). lengths_of (map (term_at i.terms) ms) i.live.documents) c.as_slice.ensures.value in
-    omega (arith, same, wild_readings i c.args.prefix.now ns are, c.in_ok-top.ensures.within)
+    let pays = c.in_ok-top.ensures.pays in
+    record { paid = pays.paid; within = omega (arith, same, wild_readings i c.args.prefix.now ns are, pays.within); room = pays.room }
 
 pub returns-clause-flat : goal.returns-clause-flat
 returns-clause-flat g c =

@@ -8,7 +8,7 @@ overflow_add-spent g c =
     let left = entries_left c.args.index.now c.args.self.now.next c.args.head c.args.self.now.numbers.items c.requires.test.sorted c.requires.all (omega (arith, c.if-head-self.false)) in
     omega (arith, left, c.requires.room, c.len.ensures)
 
-pub returns-clause-paid : goal.returns-clause-paid
-returns-clause-paid g c =
+pub returns-clause-spends : goal.returns-clause-spends
+returns-clause-spends g c =
     let left = entries_left c.args.index.now c.args.self.now.next c.args.head c.args.self.now.numbers.items c.requires.test.sorted c.requires.all (omega (arith, c.if-head-self.false)) in
-    omega (arith, left, c.len.ensures)
+    record { paid = omega (arith, left, c.len.ensures); counted = omega arith; later = omega arith }

@@ -19,7 +19,7 @@ pub returns-clause-built : goal.returns-clause-built
 returns-clause-built g c =
     let i = c.args.index.now in
     let opens = c.in_ok-top.ensures.opens in
-    let paid = c.in_ok-top.ensures.paid in
+    let paid = c.in_ok-top.ensures.pays.paid in
     record {
       tree = record {
         top = opens.top;
@@ -29,7 +29,7 @@ returns-clause-built g c =
         documents = AreSorted-all i.live.documents (subst (λ (ps : Postings). AreSorted ps) c.all.ensures.entries c.length-sorted.ensures.sound);
       };
       ceiling = opens.ceiling;
-      account = omega (arith, paid, c.in_ok-top.ensures.within);
+      account = omega (arith, paid, c.in_ok-top.ensures.pays.within);
     }
 
 pub returns-clause-left : goal.returns-clause-left
