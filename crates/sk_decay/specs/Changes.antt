@@ -1,9 +1,10 @@
 -- What may stand for two sides under a need, and when: seven tables, a row a line, of which the first that stands decides.
 -- Source: Xapian's guide to the matcher (what an OR becomes as the weight that is wanted rises). Own: the rows of xor, max, filter and not.
-use Rattle.std.specs.Prelude.{◌≡◌, ◌<◌, ℕ, ◌+◌, Bool, ◌&&◌, ◌||◌, false, nat_lt, Option, None, if◌then◌else◌}
+use Rattle.std.specs.Prelude.{◌≡◌, ◌<◌, ◌≤◌, ℕ, ◌+◌, Bool, ◌&&◌, ◌||◌, false, nat_lt, Option, None, if◌then◌else◌}
 use Rattle.sk_query.specs.declared.form.Form.{Form}
 use Rattle.sk_decay.specs.declared.change.Change.{Change}
-use Rattle.sk_decay.specs.Sides.{paired, greatest_under, is_led}
+use Rattle.sk_model.specs.Covers.{CoversAt}
+use Rattle.sk_decay.specs.Sides.{paired, greatest_under, is_led, IsSide}
 
 -- The weight under what stands for a form, by those of its two sides.
 abbrev pub changed : Change → Form → Option ℕ → Option ℕ → Option ℕ
@@ -127,3 +128,11 @@ TakesOpen Change.MaybeSwap a_ended b_ended = Unit {0}
 TakesOpen Change.Both a_ended b_ended = Unit {0}
 TakesOpen Change.Not a_ended b_ended = Unit {0}
 TakesOpen Change.NotSwap a_ended b_ended = Unit {0}
+
+-- A change may stand for two sides under a form and a need: what it gives is what they give as far as it weighs what is needed, and it
+-- weighs no more; the side that leads goes on leading, and no side goes on alone that has ended.
+pub record Serves (change : Change) (form : Form) (a b : ℕ) (a_ended b_ended : Bool) (need : ℕ) : Type 0 where
+  pub covers : (v w : Option ℕ) → IsSide a a_ended v → IsSide b b_ended w → CoversAt (paired form v w) (changed change form v w) need
+  pub falls : changed_greatest change form a b ≤ greatest_under form a b
+  pub needed : LeadsByNeed change form need
+  pub alone : TakesOpen change a_ended b_ended

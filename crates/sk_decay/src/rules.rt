@@ -1,9 +1,7 @@
 //! Which change comes when.
-ghost use Rattle.std.specs.Prelude.{◌≡◌, ◌≤◌, ◌<◌, ◌+◌, ◌^◌, ℕ, Option};
+ghost use Rattle.std.specs.Prelude.{◌≡◌, ◌<◌, ◌+◌, ◌^◌};
 ghost use Rattle.sk_query.specs.declared.form.Form.TheVariants as Form;
-ghost use Rattle.sk_model.specs.Covers.{CoversAt};
-ghost use Rattle.sk_decay.specs.Sides.{paired, IsSide, greatest_under};
-ghost use Rattle.sk_decay.specs.Changes.{changed, changed_greatest, or_change, maybe_change, both_change, xor_change, max_change, filter_change, not_change, change_of, LeadsByNeed, TakesOpen};
+ghost use Rattle.sk_decay.specs.Changes.{or_change, maybe_change, both_change, xor_change, max_change, filter_change, not_change, change_of, Serves};
 
 use crate::Change;
 use sk_query::Form;
@@ -12,10 +10,7 @@ use sk_query::Form;
 pub fn or_rule(a: u64, b: u64, a_ended: bool, b_ended: bool, need: u64) -> Change
     requires { a + b < 2 ^ 63 }
     ensures table { result ≡ or_change a b a_ended b_ended need }
-    ensures covers { (v w : Option ℕ) → IsSide a a_ended v → IsSide b b_ended w → CoversAt (paired Form.Or v w) (changed result Form.Or v w) need }
-    ensures falls { changed_greatest result Form.Or a b ≤ greatest_under Form.Or a b }
-    ensures needed { LeadsByNeed result Form.Or need }
-    ensures alone { TakesOpen result a_ended b_ended }
+    ensures serves { Serves result Form.Or a b a_ended b_ended need }
 {
     if a_ended {
         if b_ended {
@@ -45,10 +40,7 @@ pub fn or_rule(a: u64, b: u64, a_ended: bool, b_ended: bool, need: u64) -> Chang
 pub fn maybe_rule(a: u64, b: u64, a_ended: bool, b_ended: bool, need: u64) -> Change
     requires { a + b < 2 ^ 63 }
     ensures table { result ≡ maybe_change a b a_ended b_ended need }
-    ensures covers { (v w : Option ℕ) → IsSide a a_ended v → IsSide b b_ended w → CoversAt (paired Form.AndMaybe v w) (changed result Form.AndMaybe v w) need }
-    ensures falls { changed_greatest result Form.AndMaybe a b ≤ greatest_under Form.AndMaybe a b }
-    ensures needed { LeadsByNeed result Form.AndMaybe need }
-    ensures alone { TakesOpen result a_ended b_ended }
+    ensures serves { Serves result Form.AndMaybe a b a_ended b_ended need }
 {
     if a_ended {
         return Change::Nothing;
@@ -69,10 +61,7 @@ pub fn maybe_rule(a: u64, b: u64, a_ended: bool, b_ended: bool, need: u64) -> Ch
 pub fn both_rule(a: u64, b: u64, a_ended: bool, b_ended: bool, need: u64) -> Change
     requires { a + b < 2 ^ 63 }
     ensures table { result ≡ both_change a b a_ended b_ended need }
-    ensures covers { (v w : Option ℕ) → IsSide a a_ended v → IsSide b b_ended w → CoversAt (paired Form.And v w) (changed result Form.And v w) need }
-    ensures falls { changed_greatest result Form.And a b ≤ greatest_under Form.And a b }
-    ensures needed { LeadsByNeed result Form.And need }
-    ensures alone { TakesOpen result a_ended b_ended }
+    ensures serves { Serves result Form.And a b a_ended b_ended need }
 {
     if a_ended {
         return Change::Nothing;
@@ -90,10 +79,7 @@ pub fn both_rule(a: u64, b: u64, a_ended: bool, b_ended: bool, need: u64) -> Cha
 pub fn xor_rule(a: u64, b: u64, a_ended: bool, b_ended: bool, need: u64) -> Change
     requires { a + b < 2 ^ 63 }
     ensures table { result ≡ xor_change a b a_ended b_ended need }
-    ensures covers { (v w : Option ℕ) → IsSide a a_ended v → IsSide b b_ended w → CoversAt (paired Form.Xor v w) (changed result Form.Xor v w) need }
-    ensures falls { changed_greatest result Form.Xor a b ≤ greatest_under Form.Xor a b }
-    ensures needed { LeadsByNeed result Form.Xor need }
-    ensures alone { TakesOpen result a_ended b_ended }
+    ensures serves { Serves result Form.Xor a b a_ended b_ended need }
 {
     if a_ended {
         if b_ended {
@@ -120,10 +106,7 @@ pub fn xor_rule(a: u64, b: u64, a_ended: bool, b_ended: bool, need: u64) -> Chan
 pub fn max_rule(a: u64, b: u64, a_ended: bool, b_ended: bool, need: u64) -> Change
     requires { a + b < 2 ^ 63 }
     ensures table { result ≡ max_change a b a_ended b_ended need }
-    ensures covers { (v w : Option ℕ) → IsSide a a_ended v → IsSide b b_ended w → CoversAt (paired Form.Max v w) (changed result Form.Max v w) need }
-    ensures falls { changed_greatest result Form.Max a b ≤ greatest_under Form.Max a b }
-    ensures needed { LeadsByNeed result Form.Max need }
-    ensures alone { TakesOpen result a_ended b_ended }
+    ensures serves { Serves result Form.Max a b a_ended b_ended need }
 {
     if a_ended {
         if b_ended {
@@ -150,10 +133,7 @@ pub fn max_rule(a: u64, b: u64, a_ended: bool, b_ended: bool, need: u64) -> Chan
 pub fn filter_rule(a: u64, b: u64, a_ended: bool, b_ended: bool, need: u64) -> Change
     requires { a + b < 2 ^ 63 }
     ensures table { result ≡ filter_change a b a_ended b_ended need }
-    ensures covers { (v w : Option ℕ) → IsSide a a_ended v → IsSide b b_ended w → CoversAt (paired Form.Filter v w) (changed result Form.Filter v w) need }
-    ensures falls { changed_greatest result Form.Filter a b ≤ greatest_under Form.Filter a b }
-    ensures needed { LeadsByNeed result Form.Filter need }
-    ensures alone { TakesOpen result a_ended b_ended }
+    ensures serves { Serves result Form.Filter a b a_ended b_ended need }
 {
     if a_ended {
         return Change::Nothing;
@@ -171,10 +151,7 @@ pub fn filter_rule(a: u64, b: u64, a_ended: bool, b_ended: bool, need: u64) -> C
 pub fn not_rule(a: u64, b: u64, a_ended: bool, b_ended: bool, need: u64) -> Change
     requires { a + b < 2 ^ 63 }
     ensures table { result ≡ not_change a b a_ended b_ended need }
-    ensures covers { (v w : Option ℕ) → IsSide a a_ended v → IsSide b b_ended w → CoversAt (paired Form.AndNot v w) (changed result Form.AndNot v w) need }
-    ensures falls { changed_greatest result Form.AndNot a b ≤ greatest_under Form.AndNot a b }
-    ensures needed { LeadsByNeed result Form.AndNot need }
-    ensures alone { TakesOpen result a_ended b_ended }
+    ensures serves { Serves result Form.AndNot a b a_ended b_ended need }
 {
     if a_ended {
         return Change::Nothing;
@@ -192,10 +169,7 @@ pub fn not_rule(a: u64, b: u64, a_ended: bool, b_ended: bool, need: u64) -> Chan
 pub fn rule(form: Form, a: u64, b: u64, a_ended: bool, b_ended: bool, need: u64) -> Change
     requires { a + b < 2 ^ 63 }
     ensures table { result ≡ change_of form a b a_ended b_ended need }
-    ensures covers { (v w : Option ℕ) → IsSide a a_ended v → IsSide b b_ended w → CoversAt (paired form v w) (changed result form v w) need }
-    ensures falls { changed_greatest result form a b ≤ greatest_under form a b }
-    ensures needed { LeadsByNeed result form need }
-    ensures alone { TakesOpen result a_ended b_ended }
+    ensures serves { Serves result form a b a_ended b_ended need }
 {
     match form {
         Form::And => both_rule(a, b, a_ended, b_ended, need),

@@ -71,6 +71,7 @@ impl SlotLists {
         ensures values { OnOk result (IsNowhere id self.old → values_at id self.new ≡ values.items) }
         ensures others { OnOk result (KeepsOthers id self.old self.new) }
     {
+        // The invariant, that the slots rise, is used by the proof of the loop.
         let _rising = &self.slots;
         'values: for one in values {
             self.set(id, one.slot, one.value)?;

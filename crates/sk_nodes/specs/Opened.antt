@@ -56,6 +56,13 @@ pub record Opens (i : Indexed) (t : Top) (s : Shape) (f : Option Document → Op
   pub gives : (id : ℕ) → rest i s id ≡ f (document_at id i.live.documents)
   pub ceiling : t.greatest ≤ most
 
+-- A node stands at the first match of sides under a form, gives what the form makes of them, and weighs no more than they do together.
+pub record Gathers (i : Indexed) (form : Form) (ss : Sides) (t : Top) (s : Shape) : Type 0 where
+  pub top : IsTop i t s
+  pub sound : Sound i s
+  pub gives : (id : ℕ) → rest i s id ≡ combined form (rests i ss id)
+  pub ceiling : t.greatest ≤ greatest_sum ss
+
 abbrev mutual
   -- How many queries there are in one, itself counted. Near and phrase are opened as an and of terms.
   pub query_size : Query.Tree → ℕ

@@ -1,12 +1,13 @@
 //! Nodes that are put together, each moved on to its first match.
 ghost use Rattle.std.specs.Prelude.{◌≡◌, ◌≤◌, ◌<◌, ◌+◌, ◌^◌, ℕ, IfOk, length};
 ghost use Rattle.sk_query.specs.declared.form.Form.TheVariants as Form;
-ghost use Rattle.sk_model.specs.Combining.{combined, where_so};
+ghost use Rattle.sk_model.specs.Combining.{where_so};
 ghost use Rattle.sk_decay.specs.Sides.{paired, greatest_under};
 ghost use Rattle.sk_nodes.specs.Accounts.{Spends};
 ghost use Rattle.sk_nodes.specs.Shapes.{pair, odd, any, no_sides, side, shape_of, sides_on};
-ghost use Rattle.sk_nodes.specs.Left.{rest, rests, unread_of, unread_in, greatest_sum};
+ghost use Rattle.sk_nodes.specs.Left.{rest, unread_of, unread_in, greatest_sum};
 ghost use Rattle.sk_nodes.specs.Sound.{IsTop, IsOdd, IsTested, Sound, AreSound};
+ghost use Rattle.sk_nodes.specs.Opened.{Gathers};
 ghost use Rattle.sk_nodes.specs.Flat.{IsNest, IsJoint, Stays, PairsNest};
 ghost use Rattle.sk_nodes.specs.Led.{IsLed, IsAtLead, Leads};
 ghost use Rattle.sk_nodes.specs.Fading.{Fades};
@@ -107,10 +108,7 @@ pub(crate) fn odd_of<L: Ledger>(
     requires sound { AreSound index.now (sides_on tops.items nodes.items) }
     requires fits { greatest_sum (sides_on tops.items nodes.items) < 2 ^ 63 }
     requires room { spent.old + unread_in index.now (sides_on tops.items nodes.items) < 2 ^ 128 }
-    ensures top { IsTop index.now result.0 (shape_of result.1) }
-    ensures sound { Sound index.now (shape_of result.1) }
-    ensures gives { (id : ℕ) → rest index.now (shape_of result.1) id ≡ combined Form.Xor (rests index.now (sides_on tops.items nodes.items) id) }
-    ensures ceiling { result.0.greatest ≤ greatest_sum (sides_on tops.items nodes.items) }
+    ensures gathers { Gathers index.now Form.Xor (sides_on tops.items nodes.items) result.0 (shape_of result.1) }
     ensures spends { Spends (unread_in index.now (sides_on tops.items nodes.items)) (unread_of index.now (shape_of result.1)) spent.old spent.new steps.old steps.new }
 {
     let mut top = Top::ended();
@@ -130,10 +128,7 @@ fn begin_odd<L: Ledger>(
     requires sound { AreSound index.now (sides_on tops.old nodes.old) }
     requires fits { greatest_sum (sides_on tops.old nodes.old) < 2 ^ 63 }
     requires room { spent.old + unread_in index.now (sides_on tops.old nodes.old) < 2 ^ 128 }
-    ensures top { IsTop index.now top.new (odd (sides_on tops.new nodes.new)) }
-    ensures sound { IsOdd (sides_on tops.new nodes.new) (AreSound index.now (sides_on tops.new nodes.new)) }
-    ensures gives { (id : ℕ) → rest index.now (odd (sides_on tops.new nodes.new)) id ≡ combined Form.Xor (rests index.now (sides_on tops.old nodes.old) id) }
-    ensures ceiling { top.new.greatest ≤ greatest_sum (sides_on tops.old nodes.old) }
+    ensures gathers { Gathers index.now Form.Xor (sides_on tops.old nodes.old) top.new (odd (sides_on tops.new nodes.new)) }
     ensures spends { Spends (unread_in index.now (sides_on tops.old nodes.old)) (unread_in index.now (sides_on tops.new nodes.new)) spent.old spent.new steps.old steps.new }
 {
     seek_odd(top, tops, nodes, index, 0, 0, spent, steps);
@@ -150,10 +145,7 @@ pub(crate) fn any_of<L: Ledger>(
     requires sound { AreSound index.now (sides_on tops.items nodes.items) }
     requires fits { greatest_sum (sides_on tops.items nodes.items) < 2 ^ 63 }
     requires room { spent.old + unread_in index.now (sides_on tops.items nodes.items) < 2 ^ 128 }
-    ensures top { IsTop index.now result.0 (shape_of result.1) }
-    ensures sound { Sound index.now (shape_of result.1) }
-    ensures gives { (id : ℕ) → rest index.now (shape_of result.1) id ≡ combined Form.Or (rests index.now (sides_on tops.items nodes.items) id) }
-    ensures ceiling { result.0.greatest ≤ greatest_sum (sides_on tops.items nodes.items) }
+    ensures gathers { Gathers index.now Form.Or (sides_on tops.items nodes.items) result.0 (shape_of result.1) }
     ensures spends { Spends (unread_in index.now (sides_on tops.items nodes.items)) (unread_of index.now (shape_of result.1)) spent.old spent.new steps.old steps.new }
     ensures stays { Stays index.now 0 0 spent.old spent.new (any (sides_on tops.items nodes.items)) (shape_of result.1) }
     ensures leads { Leads index.now 0 0 spent.old spent.new (any (sides_on tops.items nodes.items)) (shape_of result.1) }
@@ -175,10 +167,7 @@ fn begin_any<L: Ledger>(
     requires sound { AreSound index.now (sides_on tops.old nodes.old) }
     requires fits { greatest_sum (sides_on tops.old nodes.old) < 2 ^ 63 }
     requires room { spent.old + unread_in index.now (sides_on tops.old nodes.old) < 2 ^ 128 }
-    ensures top { IsTop index.now top.new (any (sides_on tops.new nodes.new)) }
-    ensures sound { IsOdd (sides_on tops.new nodes.new) (AreSound index.now (sides_on tops.new nodes.new)) }
-    ensures gives { (id : ℕ) → rest index.now (any (sides_on tops.new nodes.new)) id ≡ combined Form.Or (rests index.now (sides_on tops.old nodes.old) id) }
-    ensures ceiling { top.new.greatest ≤ greatest_sum (sides_on tops.old nodes.old) }
+    ensures gathers { Gathers index.now Form.Or (sides_on tops.old nodes.old) top.new (any (sides_on tops.new nodes.new)) }
     ensures spends { Spends (unread_in index.now (sides_on tops.old nodes.old)) (unread_in index.now (sides_on tops.new nodes.new)) spent.old spent.new steps.old steps.new }
     ensures stays { Stays index.now 0 0 spent.old spent.new (any (sides_on tops.old nodes.old)) (any (sides_on tops.new nodes.new)) }
     ensures leads { Leads index.now 0 0 spent.old spent.new (any (sides_on tops.old nodes.old)) (any (sides_on tops.new nodes.new)) }

@@ -54,8 +54,8 @@ pub(crate) fn answer_to_end<M: Store, S: Source, K: Sink, L: Ledger>(
 }
 
 /// Answers each line of `input` on `output`, before more of it is asked for: as long as a whole line is held, the
-/// answers wait and are put together. The answer is the machine behind the lines,
-/// and whether a line was refused so far, or why the lines were not answered to their end.
+/// answers wait and are put together. The answer is the machine behind the lines, and whether a line was refused so
+/// far, or why the lines were not answered to their end.
 pub(crate) fn answer_lines<M: Store, S: Source, K: Sink, L: Ledger>(
     alloc: Global,
     first: Machine<M>,

@@ -14,13 +14,16 @@ seek_any-requires g c =
       room = omega (arith, order.unread, c.requires.room);
     }
 
-pub returns-clause-gives : goal.returns-clause-gives
-returns-clause-gives g c id =
-    any_gives c.args.index.now id (sides_on c.put_in_order.new.tops c.put_in_order.new.nodes) (sides_on c.seek_any.new.tops c.seek_any.new.nodes) c.seek_any.ensures.covers
-    ∙ (c.put_in_order.ensures.same c.args.index.now).same id
-
-pub returns-clause-ceiling : goal.returns-clause-ceiling
-returns-clause-ceiling g c = let order = c.put_in_order.ensures.same c.args.index.now in omega (arith, order.greatest, c.seek_any.ensures.falls)
+pub returns-clause-gathers : goal.returns-clause-gathers
+returns-clause-gathers g c =
+    let i = c.args.index.now in
+    let order = c.put_in_order.ensures.same i in
+    record {
+      top = c.seek_any.ensures.top;
+      sound = c.seek_any.ensures.sound;
+      gives = λ id. any_gives i id (sides_on c.put_in_order.new.tops c.put_in_order.new.nodes) (sides_on c.seek_any.new.tops c.seek_any.new.nodes) c.seek_any.ensures.covers ∙ order.same id;
+      ceiling = omega (arith, order.greatest, c.seek_any.ensures.falls);
+    }
 
 pub returns-clause-spends : goal.returns-clause-spends
 returns-clause-spends g c =
