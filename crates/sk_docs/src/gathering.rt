@@ -1,21 +1,10 @@
 //! Gathers the terms of a record, field by field.
-ghost use Rattle.std.specs.Prelude.{◌≡◌, ◌<◌, ◌≤◌, ◌+◌, ◌^◌, true, [], ◌∷◌, ◌++◌, length, map, filter, AllPairs, IfOk, OnOk};
+ghost use Rattle.std.specs.Prelude.{◌≡◌, ◌<◌, ◌≤◌, ◌+◌, true, [], ◌∷◌, ◌++◌, length, map, filter, AllPairs, IfOk, OnOk};
 ghost use Rattle.std.specs.Option.{option_copied};
 ghost use Rattle.std.specs.List.{list_all};
 ghost use Rattle.sk_base.specs.Fields.{is_field, is_kind};
 ghost use Rattle.sk_base.specs.Records.{bytes_of_values, most_bytes};
-ghost use Rattle.sk_model.specs.Documents.{
-  occurrences_in,
-  occurrences_of,
-  text_fields,
-  occurrences_from,
-  filter_term,
-  is_given,
-  filter_terms_of,
-  filter_terms_from,
-  mentions,
-  terms_of,
-};
+ghost use Rattle.sk_model.specs.Documents.{occurrences_in, occurrences_of, text_fields, occurrences_from, filter_term, is_given, filter_terms_of, filter_terms_from, mentions, terms_of};
 ghost use Rattle.sk_docs.specs.Gathered.{CanGather, after, occurrences_among, bytes_of_given};
 ghost use Rattle.sk_docs.specs.Joined.{AreMentions};
 ghost use Rattle.sk_base.specs.Loads.{AreLight};

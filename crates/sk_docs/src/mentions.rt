@@ -1,5 +1,5 @@
 //! The mentions of a record, in the order in which they are met, and the terms that they make.
-ghost use Rattle.std.specs.Prelude.{◌≡◌, ◌<◌, ◌+◌, ◌^◌, [], ◌∷◌, ◌++◌, AllPairs, IfOk, OnOk};
+ghost use Rattle.std.specs.Prelude.{◌≡◌, ◌<◌, ◌+◌, [], ◌∷◌, ◌++◌, AllPairs, IfOk, OnOk};
 ghost use Rattle.sk_base.specs.Loads.{AreLight, load_of};
 ghost use Rattle.sk_model.specs.Documents.{noted, terms_of};
 ghost use Rattle.sk_docs.specs.Gathered.{CanGather, after};

@@ -1,5 +1,5 @@
 -- What holds of parts holds of the pieces that they are split into, and of the sides of one node.
-use Rattle.std.proofs.Common.{◌≡◌, ◌≤◌, ◌<◌, ◌+◌, ◌^◌, ℕ, true, false, refl, subst, ◌∙◌, add_comm}
+use Rattle.std.proofs.Common.{◌≡◌, ◌≤◌, ◌<◌, ◌^◌, ℕ, true, false, refl, subst, ◌∙◌, add_comm}
 use Rattle.sk_query.specs.declared.form.Form.{Form}
 use Rattle.sk_query.specs.Trees as Trees
 use Rattle.sk_model.specs.Bounds.{ceils, ceil_of}

@@ -5,7 +5,7 @@ use Rattle.sk_model.specs.Combining.{sum_of_any}
 use Rattle.sk_model.specs.Sharp.{rare_readings}
 use Rattle.sk_index.specs.Indexed.{Indexed}
 use Rattle.sk_decay.specs.Heads.{NoneBelow}
-use Rattle.sk_nodes.specs.Shapes.{ended, any, Sides, no_sides, side}
+use Rattle.sk_nodes.specs.Shapes.{ended, any, Sides, no_sides, side, sizes_in}
 use Rattle.sk_nodes.specs.Sound.{AreSound}
 use Rattle.sk_nodes.specs.Left.{rest, rests, unread_in, greatest_sum}
 use Rattle.sk_nodes.specs.Flat.{rooms_to, AreFlat, AreNests, entered}
@@ -18,6 +18,14 @@ pub record AreKept (i : Indexed) (target before after : ℕ) (old new : Sides) :
   pub paid : (point : ℕ) → AreFlat old → target ≤ point + 1 → after + rooms_to i point new ≤ before + rooms_to i point old
   pub nests : AreNests Form.Or old → AreNests Form.Or new
   pub nests_paid : (head unread : ℕ) → IsFollowing target head → AreNests Form.Or old → after + follow_rooms i head unread new ≤ before + follow_rooms i head unread old
+
+-- Sides were moved on from the target, with this spent before and after: they stay sound and are no more nodes, they weigh no more together,
+-- and those of terms alone are kept so.
+pub record AreMoved (i : Indexed) (target before after : ℕ) (old new : Sides) : Type 0 where
+  pub sound : AreSound i new
+  pub falls : greatest_sum new ≤ greatest_sum old
+  pub smaller : sizes_in new ≤ sizes_in old
+  pub kept : AreKept i target before after old new
 
 -- The sides that lead were sought from an id on, under a need: what lies before the head weighs too little, and from that id on all gives what it gave. The head is not behind the last one, which was known before.
 pub record HaveLed (i : Indexed) (need from last head : ℕ) (old new : Sides) : Type 0 where

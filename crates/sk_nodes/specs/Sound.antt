@@ -9,7 +9,7 @@ use Rattle.sk_nodes.specs.Span.{IsSpanOn}
 use Rattle.sk_nodes.specs.declared.proximity.Proximity.{Proximity}
 use Rattle.sk_nodes.specs.Proximity.{holds, IsInAll, CanTest}
 use Rattle.sk_nodes.specs.Shapes.{Shape, ended, leaf, span, pair, odd, any, tested, Sides, no_sides, side, size_of}
-use Rattle.sk_nodes.specs.Left.{rest, unread_of, greatest_sum, greatest_in}
+use Rattle.sk_nodes.specs.Left.{rest, from_on, unread_of, greatest_sum, greatest_in}
 
 -- A node's head, and how much it can weigh, are those of what it still gives.
 pub record IsTop (i : Indexed) (t : Top) (s : Shape) : Type 0 where
@@ -69,3 +69,10 @@ pub record Replaces (i : Indexed) (need : ℕ) (old new : Shape) : Type 0 where
   pub covers : Covers (rest i old) (rest i new) need
   pub smaller : size_of new ≤ size_of old
   pub unread : unread_of i new ≤ unread_of i old
+
+-- A node was moved on to a target under a need: it gives what it gave from there on, as far as that weighs what is needed.
+pub record Lands (i : Indexed) (target need : ℕ) (before after : Shape) (t : Top) : Type 0 where
+  pub top : IsTop i t after
+  pub sound : Sound i after
+  pub covers : Covers (from_on target (rest i before)) (rest i after) need
+  pub reached : target ≤ t.head

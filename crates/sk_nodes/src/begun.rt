@@ -6,7 +6,7 @@ ghost use Rattle.sk_decay.specs.Sides.{paired, greatest_under};
 ghost use Rattle.sk_nodes.specs.Accounts.{Spends};
 ghost use Rattle.sk_nodes.specs.Shapes.{pair, odd, any, no_sides, side, shape_of, sides_on};
 ghost use Rattle.sk_nodes.specs.Left.{rest, unread_of, unread_in, greatest_sum};
-ghost use Rattle.sk_nodes.specs.Sound.{IsTop, IsOdd, IsTested, Sound, AreSound};
+ghost use Rattle.sk_nodes.specs.Sound.{IsTop, IsTested, Sound, AreSound};
 ghost use Rattle.sk_nodes.specs.Opened.{Gathers};
 ghost use Rattle.sk_nodes.specs.Flat.{IsNest, IsJoint, Stays, PairsNest};
 ghost use Rattle.sk_nodes.specs.Led.{IsLed, IsAtLead, Leads};

@@ -1,16 +1,15 @@
 //! How nodes move on.
-ghost use Rattle.std.specs.Prelude.{◌≡◌, ◌≤◌, ◌<◌, ◌+◌, ◌^◌, ℕ};
-ghost use Rattle.sk_model.specs.Covers.{Covers};
-ghost use Rattle.sk_decay.specs.Sides.{paired, greatest_under};
+ghost use Rattle.std.specs.Prelude.{◌≡◌, ◌≤◌, ◌<◌, ◌+◌, ◌^◌};
+ghost use Rattle.sk_decay.specs.Sides.{greatest_under};
 ghost use Rattle.sk_nodes.specs.Accounts.{Spends};
 ghost use Rattle.sk_nodes.specs.Shapes.{pair, odd, any, tested, shape_of, size_of, sides_on, sizes_in};
-ghost use Rattle.sk_nodes.specs.Left.{rest, from_on, unread_of, unread_in, greatest_sum};
-ghost use Rattle.sk_nodes.specs.Sound.{IsTop, IsPair, IsOdd, IsTested, Sound, AreSound};
+ghost use Rattle.sk_nodes.specs.Left.{unread_of, unread_in, greatest_sum};
+ghost use Rattle.sk_nodes.specs.Sound.{Lands, IsTop, IsPair, IsOdd, IsTested, Sound, AreSound};
 ghost use Rattle.sk_nodes.specs.Flat.{Stays};
 ghost use Rattle.sk_nodes.specs.Led.{IsLone, IsLed, IsAtLead, Leads};
 ghost use Rattle.sk_nodes.specs.Fading.{StandsOn, Moves, Fades, FadesUnder};
 ghost use Rattle.sk_nodes.specs.Odd.{AreSought, AreFrom};
-ghost use Rattle.sk_nodes.specs.Any.{AreKept, HaveLed, AreWeighed, AreEnded};
+ghost use Rattle.sk_nodes.specs.Any.{AreMoved, HaveLed, AreWeighed, AreEnded};
 ghost use Rattle.sk_nodes.specs.Proximity.{entries_from};
 
 use crate::any::{first_of, weight_at};
@@ -41,10 +40,7 @@ pub(crate) fn reach<L: Ledger>(
     requires sound { Sound index.now (shape_of node.old) }
     requires target { target < 2 ^ 32 }
     requires room { spent.old + unread_of index.now (shape_of node.old) < 2 ^ 128 }
-    ensures top { IsTop index.now top.new (shape_of node.new) }
-    ensures sound { Sound index.now (shape_of node.new) }
-    ensures covers { Covers (from_on target (rest index.now (shape_of node.old))) (rest index.now (shape_of node.new)) need }
-    ensures reached { target ≤ top.new.head }
+    ensures lands { Lands index.now target need (shape_of node.old) (shape_of node.new) top.new }
     ensures falls { top.new.greatest ≤ top.old.greatest }
     ensures smaller { size_of (shape_of node.new) ≤ size_of (shape_of node.old) }
     ensures spends { Spends (unread_of index.now (shape_of node.old)) (unread_of index.now (shape_of node.new)) spent.old spent.new steps.old steps.new }
@@ -95,10 +91,7 @@ fn reach_inner<L: Ledger>(
     requires sound { Sound index.now (shape_of node.old) }
     requires target { target < 2 ^ 32 }
     requires room { spent.old + unread_of index.now (shape_of node.old) < 2 ^ 128 }
-    ensures top { IsTop index.now top.new (shape_of node.new) }
-    ensures sound { Sound index.now (shape_of node.new) }
-    ensures covers { Covers (from_on target (rest index.now (shape_of node.old))) (rest index.now (shape_of node.new)) need }
-    ensures reached { target ≤ top.new.head }
+    ensures lands { Lands index.now target need (shape_of node.old) (shape_of node.new) top.new }
     ensures falls { top.new.greatest ≤ top.old.greatest }
     ensures smaller { size_of (shape_of node.new) ≤ size_of (shape_of node.old) }
     ensures spends { Spends (unread_of index.now (shape_of node.old)) (unread_of index.now (shape_of node.new)) spent.old spent.new steps.old steps.new }
@@ -129,10 +122,7 @@ fn seek<L: Ledger>(
     requires sound { Sound index.now (shape_of node.old) }
     requires target { target < 2 ^ 32 }
     requires room { spent.old + unread_of index.now (shape_of node.old) < 2 ^ 128 }
-    ensures top { IsTop index.now top.new (shape_of node.new) }
-    ensures sound { Sound index.now (shape_of node.new) }
-    ensures covers { Covers (from_on target (rest index.now (shape_of node.old))) (rest index.now (shape_of node.new)) need }
-    ensures reached { target ≤ top.new.head }
+    ensures lands { Lands index.now target need (shape_of node.old) (shape_of node.new) top.new }
     ensures smaller { size_of (shape_of node.new) ≤ size_of (shape_of node.old) }
     ensures spends { Spends (unread_of index.now (shape_of node.old)) (unread_of index.now (shape_of node.new)) spent.old spent.new steps.old steps.new }
     ensures stays { Stays index.now target need spent.old spent.new (shape_of node.old) (shape_of node.new) }
@@ -175,10 +165,7 @@ pub(crate) fn seek_pair<L: Ledger>(
     requires pair { IsPair index.now ta.old (shape_of a.old) tb.old (shape_of b.old) (Sound index.now (shape_of a.old)) (Sound index.now (shape_of b.old)) }
     requires target { target < 2 ^ 32 }
     requires room { spent.old + (unread_of index.now (shape_of a.old) + unread_of index.now (shape_of b.old)) < 2 ^ 128 }
-    ensures top { IsTop index.now top.new (pair form ta.new (shape_of a.new) tb.new (shape_of b.new)) }
-    ensures sound { IsPair index.now ta.new (shape_of a.new) tb.new (shape_of b.new) (Sound index.now (shape_of a.new)) (Sound index.now (shape_of b.new)) }
-    ensures covers { Covers (from_on target (λ id. paired form (rest index.now (shape_of a.old) id) (rest index.now (shape_of b.old) id))) (λ id. paired form (rest index.now (shape_of a.new) id) (rest index.now (shape_of b.new) id)) need }
-    ensures reached { target ≤ top.new.head }
+    ensures lands { Lands index.now target need (pair form ta.old (shape_of a.old) tb.old (shape_of b.old)) (pair form ta.new (shape_of a.new) tb.new (shape_of b.new)) top.new }
     ensures falls { top.new.greatest ≤ greatest_under form ta.old.greatest tb.old.greatest }
     ensures smaller { size_of (shape_of a.new) + size_of (shape_of b.new) ≤ size_of (shape_of a.old) + size_of (shape_of b.old) }
     ensures spends { Spends (unread_of index.now (shape_of a.old) + unread_of index.now (shape_of b.old)) (unread_of index.now (shape_of a.new) + unread_of index.now (shape_of b.new)) spent.old spent.new steps.old steps.new }
@@ -243,10 +230,7 @@ fn seek_sides<L: Ledger>(
     requires pair { IsPair index.now ta.old (shape_of a.old) tb.old (shape_of b.old) (Sound index.now (shape_of a.old)) (Sound index.now (shape_of b.old)) }
     requires target { target < 2 ^ 32 }
     requires room { spent.old + (unread_of index.now (shape_of a.old) + unread_of index.now (shape_of b.old)) < 2 ^ 128 }
-    ensures top { IsTop index.now top.new (pair form ta.new (shape_of a.new) tb.new (shape_of b.new)) }
-    ensures sound { IsPair index.now ta.new (shape_of a.new) tb.new (shape_of b.new) (Sound index.now (shape_of a.new)) (Sound index.now (shape_of b.new)) }
-    ensures covers { Covers (from_on target (λ id. paired form (rest index.now (shape_of a.old) id) (rest index.now (shape_of b.old) id))) (λ id. paired form (rest index.now (shape_of a.new) id) (rest index.now (shape_of b.new) id)) need }
-    ensures reached { target ≤ top.new.head }
+    ensures lands { Lands index.now target need (pair form ta.old (shape_of a.old) tb.old (shape_of b.old)) (pair form ta.new (shape_of a.new) tb.new (shape_of b.new)) top.new }
     ensures falls { top.new.greatest ≤ greatest_under form ta.old.greatest tb.old.greatest }
     ensures smaller { size_of (shape_of a.new) + size_of (shape_of b.new) ≤ size_of (shape_of a.old) + size_of (shape_of b.old) }
     ensures spends { Spends (unread_of index.now (shape_of a.old) + unread_of index.now (shape_of b.old)) (unread_of index.now (shape_of a.new) + unread_of index.now (shape_of b.new)) spent.old spent.new steps.old steps.new }
@@ -314,10 +298,7 @@ pub(crate) fn seek_odd<L: Ledger>(
     requires sides { IsOdd (sides_on tops.old nodes.old) (AreSound index.now (sides_on tops.old nodes.old)) }
     requires target { target < 2 ^ 32 }
     requires room { spent.old + unread_in index.now (sides_on tops.old nodes.old) < 2 ^ 128 }
-    ensures top { IsTop index.now top.new (odd (sides_on tops.new nodes.new)) }
-    ensures sound { IsOdd (sides_on tops.new nodes.new) (AreSound index.now (sides_on tops.new nodes.new)) }
-    ensures covers { Covers (from_on target (rest index.now (odd (sides_on tops.old nodes.old)))) (rest index.now (odd (sides_on tops.new nodes.new))) _need }
-    ensures reached { target ≤ top.new.head }
+    ensures lands { Lands index.now target _need (odd (sides_on tops.old nodes.old)) (odd (sides_on tops.new nodes.new)) top.new }
     ensures falls { top.new.greatest ≤ greatest_sum (sides_on tops.old nodes.old) }
     ensures smaller { sizes_in (sides_on tops.new nodes.new) ≤ sizes_in (sides_on tops.old nodes.old) }
     ensures spends { Spends (unread_in index.now (sides_on tops.old nodes.old)) (unread_in index.now (sides_on tops.new nodes.new)) spent.old spent.new steps.old steps.new }
@@ -352,10 +333,7 @@ pub(crate) fn seek_any<L: Ledger>(
     requires sides { IsOdd (sides_on tops.old nodes.old) (AreSound index.now (sides_on tops.old nodes.old)) }
     requires target { target < 2 ^ 32 }
     requires room { spent.old + unread_in index.now (sides_on tops.old nodes.old) < 2 ^ 128 }
-    ensures top { IsTop index.now top.new (any (sides_on tops.new nodes.new)) }
-    ensures sound { IsOdd (sides_on tops.new nodes.new) (AreSound index.now (sides_on tops.new nodes.new)) }
-    ensures covers { Covers (from_on target (rest index.now (any (sides_on tops.old nodes.old)))) (rest index.now (any (sides_on tops.new nodes.new))) need }
-    ensures reached { target ≤ top.new.head }
+    ensures lands { Lands index.now target need (any (sides_on tops.old nodes.old)) (any (sides_on tops.new nodes.new)) top.new }
     ensures falls { top.new.greatest ≤ greatest_sum (sides_on tops.old nodes.old) }
     ensures smaller { sizes_in (sides_on tops.new nodes.new) ≤ sizes_in (sides_on tops.old nodes.old) }
     ensures spends { Spends (unread_in index.now (sides_on tops.old nodes.old)) (unread_in index.now (sides_on tops.new nodes.new)) spent.old spent.new steps.old steps.new }
@@ -384,10 +362,7 @@ fn seek_all<L: Ledger>(
     requires sides { IsOdd (sides_on tops.old nodes.old) (AreSound index.now (sides_on tops.old nodes.old)) }
     requires target { target < 2 ^ 32 }
     requires room { spent.old + unread_in index.now (sides_on tops.old nodes.old) < 2 ^ 128 }
-    ensures top { IsTop index.now top.new (any (sides_on tops.new nodes.new)) }
-    ensures sound { IsOdd (sides_on tops.new nodes.new) (AreSound index.now (sides_on tops.new nodes.new)) }
-    ensures covers { Covers (from_on target (rest index.now (any (sides_on tops.old nodes.old)))) (rest index.now (any (sides_on tops.new nodes.new))) _need }
-    ensures reached { target ≤ top.new.head }
+    ensures lands { Lands index.now target _need (any (sides_on tops.old nodes.old)) (any (sides_on tops.new nodes.new)) top.new }
     ensures falls { top.new.greatest ≤ greatest_sum (sides_on tops.old nodes.old) }
     ensures smaller { sizes_in (sides_on tops.new nodes.new) ≤ sizes_in (sides_on tops.old nodes.old) }
     ensures spends { Spends (unread_in index.now (sides_on tops.old nodes.old)) (unread_in index.now (sides_on tops.new nodes.new)) spent.old spent.new steps.old steps.new }
@@ -418,10 +393,7 @@ fn seek_some<L: Ledger>(
     requires sides { IsOdd (sides_on tops.old nodes.old) (AreSound index.now (sides_on tops.old nodes.old)) }
     requires target { target < 2 ^ 32 }
     requires room { spent.old + unread_in index.now (sides_on tops.old nodes.old) < 2 ^ 128 }
-    ensures top { IsTop index.now top.new (any (sides_on tops.new nodes.new)) }
-    ensures sound { IsOdd (sides_on tops.new nodes.new) (AreSound index.now (sides_on tops.new nodes.new)) }
-    ensures covers { Covers (from_on target (rest index.now (any (sides_on tops.old nodes.old)))) (rest index.now (any (sides_on tops.new nodes.new))) need }
-    ensures reached { target ≤ top.new.head }
+    ensures lands { Lands index.now target need (any (sides_on tops.old nodes.old)) (any (sides_on tops.new nodes.new)) top.new }
     ensures falls { top.new.greatest ≤ greatest_sum (sides_on tops.old nodes.old) }
     ensures smaller { sizes_in (sides_on tops.new nodes.new) ≤ sizes_in (sides_on tops.old nodes.old) }
     ensures spends { Spends (unread_in index.now (sides_on tops.old nodes.old)) (unread_in index.now (sides_on tops.new nodes.new)) spent.old spent.new steps.old steps.new }
@@ -470,12 +442,9 @@ fn lead<L: Ledger>(
     requires room { spent.old + unread_in index.now (sides_on tops.old nodes.old) < 2 ^ 128 }
     requires most { greatest_sum (sides_on tops.old nodes.old) ≤ most }
     requires last { from ≤ last }
-    ensures sound { AreSound index.now (sides_on tops.new nodes.new) }
+    ensures moved { AreMoved index.now from spent.old spent.new (sides_on tops.old nodes.old) (sides_on tops.new nodes.new) }
     ensures led { HaveLed index.now need from last result (sides_on tops.old nodes.old) (sides_on tops.new nodes.new) }
-    ensures falls { greatest_sum (sides_on tops.new nodes.new) ≤ greatest_sum (sides_on tops.old nodes.old) }
-    ensures smaller { sizes_in (sides_on tops.new nodes.new) ≤ sizes_in (sides_on tops.old nodes.old) }
     ensures spends { Spends (unread_in index.now (sides_on tops.old nodes.old)) (unread_in index.now (sides_on tops.new nodes.new)) spent.old spent.new steps.old steps.new }
-    ensures kept { AreKept index.now from spent.old spent.new (sides_on tops.old nodes.old) (sides_on tops.new nodes.new) }
 {
     if most < need {
         return last;
@@ -519,12 +488,9 @@ fn weigh<L: Ledger>(
     requires room { spent.old + unread_in index.now (sides_on tops.old nodes.old) < 2 ^ 128 }
     requires most { greatest_sum (sides_on tops.old nodes.old) ≤ most }
     requires fits { others + most < 2 ^ 63 }
-    ensures sound { AreSound index.now (sides_on tops.new nodes.new) }
+    ensures moved { AreMoved index.now id spent.old spent.new (sides_on tops.old nodes.old) (sides_on tops.new nodes.new) }
     ensures weighed { AreWeighed index.now need id others result (sides_on tops.old nodes.old) (sides_on tops.new nodes.new) }
-    ensures falls { greatest_sum (sides_on tops.new nodes.new) ≤ greatest_sum (sides_on tops.old nodes.old) }
-    ensures smaller { sizes_in (sides_on tops.new nodes.new) ≤ sizes_in (sides_on tops.old nodes.old) }
     ensures spends { Spends (unread_in index.now (sides_on tops.old nodes.old)) (unread_in index.now (sides_on tops.new nodes.new)) spent.old spent.new steps.old steps.new }
-    ensures kept { AreKept index.now id spent.old spent.new (sides_on tops.old nodes.old) (sides_on tops.new nodes.new) }
 {
     if others + most < need {
         return others;
@@ -584,13 +550,10 @@ fn reach_all<L: Ledger>(
     requires sound { AreSound index.now (sides_on tops.old nodes.old) }
     requires target { target < 2 ^ 32 }
     requires room { spent.old + unread_in index.now (sides_on tops.old nodes.old) < 2 ^ 128 }
-    ensures sound { AreSound index.now (sides_on tops.new nodes.new) }
+    ensures moved { AreMoved index.now target spent.old spent.new (sides_on tops.old nodes.old) (sides_on tops.new nodes.new) }
     ensures sought { AreSought index.now target (sides_on tops.old nodes.old) (sides_on tops.new nodes.new) }
     ensures reached { AreFrom target (sides_on tops.new nodes.new) }
-    ensures falls { greatest_sum (sides_on tops.new nodes.new) ≤ greatest_sum (sides_on tops.old nodes.old) }
-    ensures smaller { sizes_in (sides_on tops.new nodes.new) ≤ sizes_in (sides_on tops.old nodes.old) }
     ensures spends { Spends (unread_in index.now (sides_on tops.old nodes.old)) (unread_in index.now (sides_on tops.new nodes.new)) spent.old spent.new steps.old steps.new }
-    ensures kept { AreKept index.now target spent.old spent.new (sides_on tops.old nodes.old) (sides_on tops.new nodes.new) }
 {
     let count = tops.len().min(nodes.len());
     if count <= FEW {
@@ -616,13 +579,10 @@ fn reach_few<L: Ledger>(
     requires sound { AreSound index.now (sides_on tops.old nodes.old) }
     requires target { target < 2 ^ 32 }
     requires room { spent.old + unread_in index.now (sides_on tops.old nodes.old) < 2 ^ 128 }
-    ensures sound { AreSound index.now (sides_on tops.new nodes.new) }
+    ensures moved { AreMoved index.now target spent.old spent.new (sides_on tops.old nodes.old) (sides_on tops.new nodes.new) }
     ensures sought { AreSought index.now target (sides_on tops.old nodes.old) (sides_on tops.new nodes.new) }
     ensures reached { AreFrom target (sides_on tops.new nodes.new) }
-    ensures falls { greatest_sum (sides_on tops.new nodes.new) ≤ greatest_sum (sides_on tops.old nodes.old) }
-    ensures smaller { sizes_in (sides_on tops.new nodes.new) ≤ sizes_in (sides_on tops.old nodes.old) }
     ensures spends { Spends (unread_in index.now (sides_on tops.old nodes.old)) (unread_in index.now (sides_on tops.new nodes.new)) spent.old spent.new steps.old steps.new }
-    ensures kept { AreKept index.now target spent.old spent.new (sides_on tops.old nodes.old) (sides_on tops.new nodes.new) }
 {
     if let Some((top, tops)) = tops.split_first_mut() {
         if let Some((node, nodes)) = nodes.split_first_mut() {
@@ -648,10 +608,7 @@ pub(crate) fn seek_tested<L: Ledger>(
     requires tested { IsTested index.now test.old below.old (shape_of node.old) (Sound index.now (shape_of node.old)) }
     requires target { target < 2 ^ 32 }
     requires room { spent.old + (unread_of index.now (shape_of node.old) + entries_from index.now test.old.next test.old.numbers.items) < 2 ^ 128 }
-    ensures top { IsTop index.now top.new (tested test.new below.new (shape_of node.new)) }
-    ensures sound { IsTested index.now test.new below.new (shape_of node.new) (Sound index.now (shape_of node.new)) }
-    ensures covers { Covers (from_on target (rest index.now (tested test.old below.old (shape_of node.old)))) (rest index.now (tested test.new below.new (shape_of node.new))) need }
-    ensures reached { target ≤ top.new.head }
+    ensures lands { Lands index.now target need (tested test.old below.old (shape_of node.old)) (tested test.new below.new (shape_of node.new)) top.new }
     ensures falls { top.new.greatest ≤ below.old.greatest }
     ensures smaller { size_of (shape_of node.new) ≤ size_of (shape_of node.old) }
     ensures spends { Spends (unread_of index.now (shape_of node.old) + entries_from index.now test.old.next test.old.numbers.items) (unread_of index.now (shape_of node.new) + entries_from index.now test.new.next test.new.numbers.items) spent.old spent.new steps.old steps.new }

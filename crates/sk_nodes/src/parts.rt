@@ -1,18 +1,15 @@
 //! How the parts of a query come to the sides of nodes.
-ghost use Rattle.std.specs.Prelude.{◌≡◌, ◌≤◌, ◌<◌, ◌+◌, ◌^◌, ℕ, true, false, List, ◌++◌, All, IfSome, IfNone, length, Option, Some};
+ghost use Rattle.std.specs.Prelude.{◌≡◌, ◌≤◌, ◌<◌, ◌+◌, ℕ, true, false, List, ◌++◌, IfSome, IfNone, length, Option, Some};
 ghost use Rattle.sk_base.specs.declared.find.Scheme.{Scheme};
-ghost use Rattle.sk_base.specs.Loads.{IsLight};
 ghost use Rattle.sk_base.specs.Numbers.{Docs};
 ghost use Rattle.sk_query.specs.declared.form.Form.TheVariants as Form;
 ghost use Rattle.sk_query.specs.Trees as QueryTree;
 ghost use Rattle.sk_query.specs.Trees.{query_view, queries_view};
 ghost use Rattle.sk_query.specs.Fits.{is_sound, leaves_of};
 ghost use Rattle.sk_model.specs.Documents.{Document};
-ghost use Rattle.sk_model.specs.Combining.{combined};
 ghost use Rattle.sk_model.specs.Bounds.{sum_in, ceil, ceils, ceil_of};
 ghost use Rattle.sk_model.specs.Allowance.{leaf_readings, leaves_readings};
 ghost use Rattle.sk_model.specs.Sharp.{terms_in};
-ghost use Rattle.sk_decay.specs.Sides.{paired, greatest_under};
 ghost use Rattle.sk_nodes.specs.Shapes.{odd};
 ghost use Rattle.sk_nodes.specs.Flat.{SplitsTerms};
 ghost use Rattle.sk_nodes.specs.Parts.{Splits, AreSides};

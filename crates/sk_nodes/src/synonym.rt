@@ -1,8 +1,8 @@
 //! How the node of terms that count as one is opened: those of a synonym, and those that begin with a prefix.
-ghost use Rattle.std.specs.Prelude.{◌≡◌, ◌≤◌, ◌<◌, ◌+◌, ◌^◌, ℕ, true, map, ◌++◌, min, All, IfOk, length, Option};
+ghost use Rattle.std.specs.Prelude.{◌≡◌, ◌≤◌, ◌<◌, ◌+◌, ◌^◌, true, map, ◌++◌, min, All, IfOk, length, Option};
 ghost use Rattle.sk_base.specs.declared.find.Scheme.{Scheme};
 ghost use Rattle.sk_base.specs.Loads.{IsLight};
-ghost use Rattle.sk_base.specs.Numbers.{length_of, terms_with};
+ghost use Rattle.sk_base.specs.Numbers.{terms_with};
 ghost use Rattle.sk_sorted.specs.Entries.{AreSorted};
 ghost use Rattle.sk_dict.specs.Terms.{term_at};
 ghost use Rattle.sk_query.specs.declared.form.Form.TheVariants as Form;
@@ -10,7 +10,7 @@ ghost use Rattle.sk_query.specs.Trees as QueryTree;
 ghost use Rattle.sk_query.specs.Trees.{query_view};
 ghost use Rattle.sk_query.specs.Fits.{is_sound, leaves_of, are_different};
 ghost use Rattle.sk_model.specs.Documents.{Document};
-ghost use Rattle.sk_model.specs.Bounds.{ceil, lengths_of, term_ceil};
+ghost use Rattle.sk_model.specs.Bounds.{ceil, lengths_of};
 ghost use Rattle.sk_model.specs.Allowance.{leaf_readings};
 ghost use Rattle.sk_decay.specs.Sides.{paired};
 ghost use Rattle.sk_nodes.specs.Accounts.{Pays};

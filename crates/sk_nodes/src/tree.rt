@@ -1,5 +1,5 @@
 //! The tree of a query, as a search sees it.
-ghost use Rattle.std.specs.Prelude.{◌≡◌, ◌≤◌, ◌<◌, ◌+◌, ◌^◌, ℕ, List, [], ◌∷◌, Some, unwrap_or, IfOk, true};
+ghost use Rattle.std.specs.Prelude.{◌≡◌, ◌≤◌, ◌<◌, ◌+◌, ℕ, List, [], ◌∷◌, Some, IfOk, true};
 ghost use Rattle.sk_base.specs.declared.find.Scheme.{Scheme};
 ghost use Rattle.sk_sorted.specs.Entries.{from, first_id};
 ghost use Rattle.sk_query.specs.declared.form.Form.TheVariants as Form;

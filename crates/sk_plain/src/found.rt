@@ -1,5 +1,5 @@
 //! The live documents that a query matches, and their order.
-ghost use Rattle.std.specs.Prelude.{◌≡◌, ◌≢◌, ◌≤◌, ◌<◌, ◌^◌, true, All, AllPairs, IfOk};
+ghost use Rattle.std.specs.Prelude.{◌≡◌, ◌≢◌, ◌≤◌, ◌<◌, true, All, AllPairs, IfOk};
 ghost use Rattle.sk_query.specs.Trees.{query_view};
 ghost use Rattle.sk_query.specs.Fits.{is_sound, leaves_of};
 ghost use Rattle.sk_model.specs.Matches.{value_for, rank_of, matches, found_by};

@@ -1,5 +1,5 @@
 //! What one document scores for a query.
-ghost use Rattle.std.specs.Prelude.{◌≡◌, ◌≤◌, ◌<◌, ◌^◌, true};
+ghost use Rattle.std.specs.Prelude.{◌≡◌, ◌≤◌, ◌<◌, true};
 ghost use Rattle.sk_base.specs.Loads.{AreLight};
 ghost use Rattle.sk_query.specs.Trees.{query_view, queries_view};
 ghost use Rattle.sk_query.specs.Fits.{is_sound, are_sound, leaves_of, leaves_in};

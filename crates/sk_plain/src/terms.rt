@@ -1,5 +1,5 @@
 //! What a document says of a term, a prefix or a slot.
-ghost use Rattle.std.specs.Prelude.{◌≡◌, ◌≤◌, ◌<◌, ◌^◌};
+ghost use Rattle.std.specs.Prelude.{◌≡◌, ◌≤◌, ◌<◌};
 ghost use Rattle.std.specs.List.{list_any};
 ghost use Rattle.sk_base.specs.Documents.{has_term, wdf_of, positions_of, value_in, begins_with};
 ghost use Rattle.sk_model.specs.Scores.{wild_wdf};

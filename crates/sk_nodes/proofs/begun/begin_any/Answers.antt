@@ -19,9 +19,9 @@ returns-clause-gathers g c =
     let i = c.args.index.now in
     let order = c.put_in_order.ensures.same i in
     record {
-      top = c.seek_any.ensures.top;
-      sound = c.seek_any.ensures.sound;
-      gives = λ id. any_gives i id (sides_on c.put_in_order.new.tops c.put_in_order.new.nodes) (sides_on c.seek_any.new.tops c.seek_any.new.nodes) c.seek_any.ensures.covers ∙ order.same id;
+      top = c.seek_any.ensures.lands.top;
+      sound = c.seek_any.ensures.lands.sound;
+      gives = λ id. any_gives i id (sides_on c.put_in_order.new.tops c.put_in_order.new.nodes) (sides_on c.seek_any.new.tops c.seek_any.new.nodes) c.seek_any.ensures.lands.covers ∙ order.same id;
       ceiling = omega (arith, order.greatest, c.seek_any.ensures.falls);
     }
 

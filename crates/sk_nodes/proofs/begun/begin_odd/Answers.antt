@@ -7,8 +7,8 @@ pub returns-clause-gathers : goal.returns-clause-gathers
 returns-clause-gathers g c =
     let i = c.args.index.now in
     record {
-      top = c.seek_odd.ensures.top;
-      sound = c.seek_odd.ensures.sound;
-      gives = λ id. odd_gives i id (sides_on c.args.tops.now c.args.nodes.now) (sides_on c.seek_odd.new.tops c.seek_odd.new.nodes) c.seek_odd.ensures.covers;
+      top = c.seek_odd.ensures.lands.top;
+      sound = c.seek_odd.ensures.lands.sound;
+      gives = λ id. odd_gives i id (sides_on c.args.tops.now c.args.nodes.now) (sides_on c.seek_odd.new.tops c.seek_odd.new.nodes) c.seek_odd.ensures.lands.covers;
       ceiling = c.seek_odd.ensures.falls;
     }

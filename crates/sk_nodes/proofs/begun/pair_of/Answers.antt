@@ -17,7 +17,7 @@ returns-clause-gives g c id =
     let i = c.args.index.now in
     let both : ℕ → Option ℕ = λ id. paired c.args.form (rest i (shape_of c.args.a) id) (rest i (shape_of c.args.b) id) in
     ap (λ s. rest i s id) (pair_shape _ c.args.form c.seek_pair.new.ta c.seek_pair.new.tb c.in_ok-a.a c.in_ok-b.b c.seek_pair.new.a c.seek_pair.new.b refl (sym c.in_ok-a.ensures.ok) (sym c.in_ok-b.ensures.ok))
-    ∙ covers_exactly (from_on 0 both id) (paired c.args.form (rest i (shape_of c.seek_pair.new.a) id) (rest i (shape_of c.seek_pair.new.b) id)) (c.seek_pair.ensures.covers id)
+    ∙ covers_exactly (from_on 0 both id) (paired c.args.form (rest i (shape_of c.seek_pair.new.a) id) (rest i (shape_of c.seek_pair.new.b) id)) (c.seek_pair.ensures.lands.covers id)
     ∙ from_on-at 0 both id (omega arith)
 
 pub returns-clause-nest : goal.returns-clause-nest

@@ -6,13 +6,13 @@ use Rattle.sk_nodes.specs.declared.top.Top.{Top}
 use Rattle.sk_nodes.specs.declared.node.Node.{Node}
 use Rattle.sk_nodes.specs.Shapes.{Shape, Sides, side, ended, pair, odd, any, tested, shape_of, sides_on, sizes_in}
 use Rattle.sk_nodes.specs.Left.{rest, from_on, greatest_sum, unread_in}
-use Rattle.sk_nodes.specs.Sound.{IsTop, Sound, AreSound}
+use Rattle.sk_nodes.specs.Sound.{IsTop, Sound, AreSound, IsTested}
 use Rattle.sk_nodes.specs.Odd.{AreFrom, AreSought, followed_by}
 use Rattle.sk_nodes.proofs.LeafLaws.{AtMost-covers}
 use Rattle.sk_nodes.proofs.NodeLaws.{covers_more, capped_top, shape_of-Nothing, shape_of-Leaf, shape_of-Pair, leaf_shape, shape_of-Tested, tested_shape, parts_shape, covers_along, weight_le, target_ended, head_reached, pair_top, pair_top_ended, sides_covers, sides_covers_ended, sides_begun, sides_more, size_along, paid_along}
 use Rattle.sk_nodes.proofs.OddLaws.{weights_fit, sides_cons, odd_covers, odd_more, odd_top, sides_split, sides_append, both_sound, sound_behind, from_behind, sought_behind, greatest_behind, unread_behind, sizes_behind, some_sizes}
 use Rattle.sk_nodes.specs.Proximity.{entries_from}
-use Rattle.sk_nodes.proofs.ProximityLaws.{test_begun, moved_all, moved_covers, passed_top, passed_sound, passed_covers, none_top, failed_ended_covers, failed_more}
+use Rattle.sk_nodes.proofs.ProximityLaws.{test_begun, moved_all, moved_covers, passed_top, passed_sound, passed_covers, none_top, failed_ended_covers, failed_ended_sound, failed_more}
 use Rattle.sk_nodes.specs.Flat.{Stays}
 use Rattle.sk_nodes.proofs.NodeLaws.{pair_covers, odd_shape, odd_written, any_shape, any_written}
 use Rattle.sk_nodes.proofs.StopLaws.{stays_same, stays_decayed, stays_along, stays_begun, stays_then, stays_on, stays_other, round_stays, round_ended}
@@ -27,29 +27,33 @@ use Rattle.sk_nodes.specs.Any.{AreKept, AreWeighed}
 use Rattle.sk_nodes.proofs.AnyLaws.{none_head, any_leads, any_leads_needed, any_top, any_covers, any_stays, kept_behind, led_none, weighed_light, weighed_more, any_begun, any_led, any_weighed, any_on, any_matches, any_gone, any_gone_stays, any_ended_top, any_ended_sound, ended_unread}
 use Rattle.sk_nodes.proofs.moves.+seek.Goals as goal
 
-pub reach_inner-returns-clause-covers : goal.reach_inner-returns-clause-covers
-reach_inner-returns-clause-covers g t c =
+pub reach_inner-returns-clause-lands : goal.reach_inner-returns-clause-lands
+reach_inner-returns-clause-lands g t c =
+    let covers =
     let i = c.args.index.now in
-    covers_more c.args.target c.args.need (rest i (shape_of c.args.node.now)) (rest i (shape_of c.settle.new.node)) (rest i (shape_of c.seek.new.node)) c.settle.ensures.decays.covers c.seek.ensures.covers
+    covers_more c.args.target c.args.need (rest i (shape_of c.args.node.now)) (rest i (shape_of c.settle.new.node)) (rest i (shape_of c.seek.new.node)) c.settle.ensures.decays.covers c.seek.ensures.lands.covers in
+    record {
+      top =
+          let i = c.args.index.now in
+          subst (λ n. IsTop i (record c.seek.new.top { greatest = n }) (shape_of c.seek.new.node)) (sym c.min-top.ensures)
+          (capped_top i c.seek.new.top (shape_of c.seek.new.node) c.args.top.now.greatest c.seek.ensures.lands.top
+          (AtMost-covers c.args.target c.args.need c.args.top.now.greatest (rest i (shape_of c.args.node.now)) (rest i (shape_of c.seek.new.node)) c.requires.top.bound covers));
+      sound = search rules;
+      covers = covers;
+      reached = omega arith;
+    }
 
-pub reach_inner-returns-clause-top : goal.reach_inner-returns-clause-top
-reach_inner-returns-clause-top g t c =
-    let i = c.args.index.now in
-    subst (λ n. IsTop i (record c.seek.new.top { greatest = n }) (shape_of c.seek.new.node)) (sym c.min-top.ensures)
-    (capped_top i c.seek.new.top (shape_of c.seek.new.node) c.args.top.now.greatest c.seek.ensures.top
-    (AtMost-covers c.args.target c.args.need c.args.top.now.greatest (rest i (shape_of c.args.node.now)) (rest i (shape_of c.seek.new.node)) c.requires.top.bound (reach_inner-returns-clause-covers g t c)))
-
-pub seek-returns-in-Pair-clause-top : goal.seek-returns-in-Pair-clause-top
-seek-returns-in-Pair-clause-top g t c = subst (λ (s : Shape). IsTop c.args.index.now c.seek_sides.new.top s) (sym (shape_of-Pair _ _ _ _ _)) c.seek_sides.ensures.top
-
-pub seek-returns-in-Pair-clause-sound : goal.seek-returns-in-Pair-clause-sound
-seek-returns-in-Pair-clause-sound g t c = subst (λ (s : Shape). Sound c.args.index.now s) (sym (shape_of-Pair _ _ _ _ _)) c.seek_sides.ensures.sound
-
-pub seek-returns-in-Pair-clause-covers : goal.seek-returns-in-Pair-clause-covers
-seek-returns-in-Pair-clause-covers g t c =
-    covers_along c.args.index.now c.args.target c.args.need _ _ _ _
-    (parts_shape c.args.node.now c.in-Pair.form c.in-Pair.ta c.in-Pair.tb c.in-Pair.a c.in-Pair.b _ _ _ _ _ c.in-Pair.is c.in-Pair.form-is c.in-Pair.ta-is c.in-Pair.tb-is (c.deref_mut.ensures.value ∙ ap (λ (x : Box Node Global). x.value) c.in-Pair.a-is) (c.deref_mut-in-Pair.ensures.value ∙ ap (λ (x : Box Node Global). x.value) c.in-Pair.b-is))
-    (shape_of-Pair _ _ _ _ _) c.seek_sides.ensures.covers
+pub seek-returns-in-Pair-clause-lands : goal.seek-returns-in-Pair-clause-lands
+seek-returns-in-Pair-clause-lands g t c =
+    record {
+      top = subst (λ (s : Shape). IsTop c.args.index.now c.seek_sides.new.top s) (sym (shape_of-Pair _ _ _ _ _)) c.seek_sides.ensures.lands.top;
+      sound = subst (λ (s : Shape). Sound c.args.index.now s) (sym (shape_of-Pair _ _ _ _ _)) c.seek_sides.ensures.lands.sound;
+      covers =
+          covers_along c.args.index.now c.args.target c.args.need _ _ _ _
+          (parts_shape c.args.node.now c.in-Pair.form c.in-Pair.ta c.in-Pair.tb c.in-Pair.a c.in-Pair.b _ _ _ _ _ c.in-Pair.is c.in-Pair.form-is c.in-Pair.ta-is c.in-Pair.tb-is (c.deref_mut.ensures.value ∙ ap (λ (x : Box Node Global). x.value) c.in-Pair.a-is) (c.deref_mut-in-Pair.ensures.value ∙ ap (λ (x : Box Node Global). x.value) c.in-Pair.b-is))
+          (shape_of-Pair _ _ _ _ _) c.seek_sides.ensures.lands.covers;
+      reached = omega arith;
+    }
 
 pub seek-returns-in-Pair-clause-smaller : goal.seek-returns-in-Pair-clause-smaller
 seek-returns-in-Pair-clause-smaller g t c =
@@ -67,77 +71,81 @@ seek-returns-in-Pair-clause-spends g t c = record {
   later = omega arith;
 }
 
-pub seek_pair-returns-then-next-ge-END-clause-top : goal.seek_pair-returns-then-next-ge-END-clause-top
-seek_pair-returns-then-next-ge-END-clause-top g t c =
-    let i = c.args.index.now in
-    let at_end = target_ended c.args.form c.sides.from c.reach.new.top.head c.sides.invariant.far.within (omega (arith, c.if-next-ge-END.true, c.second_target-next.ensures)) in
-    subst (λ (u : Top). IsTop i u (pair c.args.form c.reach.new.top (shape_of c.reach.new.node) c.sides.tb (shape_of c.sides.b))) (sym c.ended.ensures)
-    (pair_top_ended i c.args.form c.reach.new.top (shape_of c.reach.new.node) c.sides.tb (shape_of c.sides.b) c.reach.ensures.top at_end.0 at_end.1)
-
-pub seek_pair-returns-then-next-ge-END-clause-covers : goal.seek_pair-returns-then-next-ge-END-clause-covers
-seek_pair-returns-then-next-ge-END-clause-covers g t c =
-    let i = c.args.index.now in
-    let at_end = target_ended c.args.form c.sides.from c.reach.new.top.head c.sides.invariant.far.within (omega (arith, c.if-next-ge-END.true, c.second_target-next.ensures)) in
-    sides_covers_ended i c.args.form c.args.target c.args.need c.sides.from c.args.ta.now (shape_of c.args.a.now) c.args.tb.now (shape_of c.args.b.now)
-    c.sides.ta (shape_of c.sides.a) c.sides.tb (shape_of c.sides.b) c.reach.new.top (shape_of c.reach.new.node) c.sides.invariant.far c.reach.ensures.top c.reach.ensures.reached
-    (subst (λ n. Covers (from_on c.sides.from (rest i (shape_of c.sides.a))) (rest i (shape_of c.reach.new.node)) n) c.first_need.ensures c.reach.ensures.covers)
-    at_end.0 at_end.1
+pub seek_pair-returns-then-next-ge-END-clause-lands : goal.seek_pair-returns-then-next-ge-END-clause-lands
+seek_pair-returns-then-next-ge-END-clause-lands g t c =
+    record {
+      top =
+          let i = c.args.index.now in
+          let at_end = target_ended c.args.form c.sides.from c.reach.new.top.head c.sides.invariant.far.within (omega (arith, c.if-next-ge-END.true, c.second_target-next.ensures)) in
+          subst (λ (u : Top). IsTop i u (pair c.args.form c.reach.new.top (shape_of c.reach.new.node) c.sides.tb (shape_of c.sides.b))) (sym c.ended.ensures)
+          (pair_top_ended i c.args.form c.reach.new.top (shape_of c.reach.new.node) c.sides.tb (shape_of c.sides.b) c.reach.ensures.lands.top at_end.0 at_end.1);
+      sound = search rules;
+      covers =
+          let i = c.args.index.now in
+          let at_end = target_ended c.args.form c.sides.from c.reach.new.top.head c.sides.invariant.far.within (omega (arith, c.if-next-ge-END.true, c.second_target-next.ensures)) in
+          sides_covers_ended i c.args.form c.args.target c.args.need c.sides.from c.args.ta.now (shape_of c.args.a.now) c.args.tb.now (shape_of c.args.b.now)
+          c.sides.ta (shape_of c.sides.a) c.sides.tb (shape_of c.sides.b) c.reach.new.top (shape_of c.reach.new.node) c.sides.invariant.far c.reach.ensures.lands.top c.reach.ensures.lands.reached
+          (subst (λ n. Covers (from_on c.sides.from (rest i (shape_of c.sides.a))) (rest i (shape_of c.reach.new.node)) n) c.first_need.ensures c.reach.ensures.lands.covers)
+          at_end.0 at_end.1;
+      reached = omega (arith, ap (λ (u : Top). u.head) c.ended.ensures, c.requires.target);
+    }
 
 pub seek_pair-meeting_of-requires-clause-fits : goal.seek_pair-meeting_of-requires-clause-fits
 seek_pair-meeting_of-requires-clause-fits g t c =
     let i = c.args.index.now in
     omega (
       arith,
-      weight_le i c.reach.new.top (shape_of c.reach.new.node) c.reach.ensures.top,
-      weight_le i c.reach-in-sides.new.top (shape_of c.reach-in-sides.new.node) c.reach-in-sides.ensures.top,
+      weight_le i c.reach.new.top (shape_of c.reach.new.node) c.reach.ensures.lands.top,
+      weight_le i c.reach-in-sides.new.top (shape_of c.reach-in-sides.new.node) c.reach-in-sides.ensures.lands.top,
       c.reach.ensures.falls,
       c.reach-in-sides.ensures.falls,
       c.sides.invariant.far.pair.fits,
     )
 
-pub seek_pair-returns-in-At-clause-top : goal.seek_pair-returns-in-At-clause-top
-seek_pair-returns-in-At-clause-top g t c =
-    let i = c.args.index.now in
-    pair_top i c.args.form c.reach.new.top (shape_of c.reach.new.node) c.reach-in-sides.new.top (shape_of c.reach-in-sides.new.node) _ c.reach.ensures.top c.reach-in-sides.ensures.top
-    (c.in-At.ensures.meets (rest i (shape_of c.reach.new.node)) (rest i (shape_of c.reach-in-sides.new.node)) c.reach.ensures.top.head c.reach-in-sides.ensures.top.head)
-    c.greatest_at-top.ensures.there c.greatest_at-top.ensures.ended
-
-pub seek_pair-returns-in-At-clause-covers : goal.seek_pair-returns-in-At-clause-covers
-seek_pair-returns-in-At-clause-covers g t c =
+pub seek_pair-returns-in-At-clause-lands : goal.seek_pair-returns-in-At-clause-lands
+seek_pair-returns-in-At-clause-lands g t c =
+    let covers =
     let i = c.args.index.now in
     sides_covers i c.args.form c.args.target c.args.need c.sides.from c.second_target-next.result c.args.ta.now (shape_of c.args.a.now) c.args.tb.now (shape_of c.args.b.now)
-    c.sides.ta (shape_of c.sides.a) c.sides.tb (shape_of c.sides.b) c.reach.new.top (shape_of c.reach.new.node) (shape_of c.reach-in-sides.new.node) c.sides.invariant.far c.reach.ensures.top c.reach.ensures.reached
-    (subst (λ n. Covers (from_on c.sides.from (rest i (shape_of c.sides.a))) (rest i (shape_of c.reach.new.node)) n) c.first_need.ensures c.reach.ensures.covers)
-    (subst (λ n. Covers (from_on c.second_target-next.result (rest i (shape_of c.sides.b))) (rest i (shape_of c.reach-in-sides.new.node)) n) c.second_need.ensures c.reach-in-sides.ensures.covers)
-    c.second_target-next.ensures
-
-pub seek_pair-returns-in-At-clause-reached : goal.seek_pair-returns-in-At-clause-reached
-seek_pair-returns-in-At-clause-reached g t c =
-    let i = c.args.index.now in
-    head_reached c.args.target c.args.need c.in-At.head c.in-At.weight _ _ (seek_pair-returns-in-At-clause-covers g t c)
-    (c.in-At.ensures.meets (rest i (shape_of c.reach.new.node)) (rest i (shape_of c.reach-in-sides.new.node)) c.reach.ensures.top.head c.reach-in-sides.ensures.top.head) c.requires.target
+    c.sides.ta (shape_of c.sides.a) c.sides.tb (shape_of c.sides.b) c.reach.new.top (shape_of c.reach.new.node) (shape_of c.reach-in-sides.new.node) c.sides.invariant.far c.reach.ensures.lands.top c.reach.ensures.lands.reached
+    (subst (λ n. Covers (from_on c.sides.from (rest i (shape_of c.sides.a))) (rest i (shape_of c.reach.new.node)) n) c.first_need.ensures c.reach.ensures.lands.covers)
+    (subst (λ n. Covers (from_on c.second_target-next.result (rest i (shape_of c.sides.b))) (rest i (shape_of c.reach-in-sides.new.node)) n) c.second_need.ensures c.reach-in-sides.ensures.lands.covers)
+    c.second_target-next.ensures in
+    record {
+      top =
+          let i = c.args.index.now in
+          pair_top i c.args.form c.reach.new.top (shape_of c.reach.new.node) c.reach-in-sides.new.top (shape_of c.reach-in-sides.new.node) _ c.reach.ensures.lands.top c.reach-in-sides.ensures.lands.top
+          (c.in-At.ensures.meets (rest i (shape_of c.reach.new.node)) (rest i (shape_of c.reach-in-sides.new.node)) c.reach.ensures.lands.top.head c.reach-in-sides.ensures.lands.top.head)
+          c.greatest_at-top.ensures.there c.greatest_at-top.ensures.ended;
+      sound = search rules;
+      covers = covers;
+      reached =
+          let i = c.args.index.now in
+          head_reached c.args.target c.args.need c.in-At.head c.in-At.weight _ _ covers
+          (c.in-At.ensures.meets (rest i (shape_of c.reach.new.node)) (rest i (shape_of c.reach-in-sides.new.node)) c.reach.ensures.lands.top.head c.reach-in-sides.ensures.lands.top.head) c.requires.target;
+    }
 
 pub seek_pair-sides-smaller : goal.seek_pair-sides-smaller
 seek_pair-sides-smaller g t c =
     let i = c.args.index.now in
-    let on = c.in-Behind.ensures.meets (rest i (shape_of c.reach.new.node)) (rest i (shape_of c.reach-in-sides.new.node)) c.reach.ensures.top.head c.reach-in-sides.ensures.top.head in
-    omega (arith, on.further, on.within, c.reach.ensures.reached, c.skip-from-in-Behind.ensures.later, c.skip-from-in-Behind.ensures.within)
+    let on = c.in-Behind.ensures.meets (rest i (shape_of c.reach.new.node)) (rest i (shape_of c.reach-in-sides.new.node)) c.reach.ensures.lands.top.head c.reach-in-sides.ensures.lands.top.head in
+    omega (arith, on.further, on.within, c.reach.ensures.lands.reached, c.skip-from-in-Behind.ensures.later, c.skip-from-in-Behind.ensures.within)
 
 pub seek_pair-sides-preserved : goal.seek_pair-sides-preserved
 seek_pair-sides-preserved g t c =
     let i = c.args.index.now in
-    let on = c.in-Behind.ensures.meets (rest i (shape_of c.reach.new.node)) (rest i (shape_of c.reach-in-sides.new.node)) c.reach.ensures.top.head c.reach-in-sides.ensures.top.head in
+    let on = c.in-Behind.ensures.meets (rest i (shape_of c.reach.new.node)) (rest i (shape_of c.reach-in-sides.new.node)) c.reach.ensures.lands.top.head c.reach-in-sides.ensures.lands.top.head in
     let far = c.sides.invariant.far in
     record {
       far = sides_skipped i c.args.form c.args.target c.args.need c.in-Behind.further c.skip-from-in-Behind.result c.args.ta.now (shape_of c.args.a.now) c.args.tb.now (shape_of c.args.b.now) c.reach.new.top (shape_of c.reach.new.node) c.reach-in-sides.new.top (shape_of c.reach-in-sides.new.node) c.skip-from-in-Behind.ensures
           (sides_more i c.args.form c.args.target c.args.need c.sides.from c.in-Behind.further c.args.ta.now (shape_of c.args.a.now) c.args.tb.now (shape_of c.args.b.now)
           c.sides.ta (shape_of c.sides.a) c.sides.tb (shape_of c.sides.b) c.reach.new.top (shape_of c.reach.new.node) c.reach-in-sides.new.top (shape_of c.reach-in-sides.new.node)
-          far c.reach.ensures.top c.reach-in-sides.ensures.top c.reach.ensures.sound c.reach-in-sides.ensures.sound
+          far c.reach.ensures.lands.top c.reach-in-sides.ensures.lands.top c.reach.ensures.lands.sound c.reach-in-sides.ensures.lands.sound
           c.reach.ensures.falls c.reach-in-sides.ensures.falls c.reach.ensures.smaller c.reach-in-sides.ensures.smaller
           (sides_covers i c.args.form c.args.target c.args.need c.sides.from c.second_target-next.result c.args.ta.now (shape_of c.args.a.now) c.args.tb.now (shape_of c.args.b.now)
-          c.sides.ta (shape_of c.sides.a) c.sides.tb (shape_of c.sides.b) c.reach.new.top (shape_of c.reach.new.node) (shape_of c.reach-in-sides.new.node) far c.reach.ensures.top c.reach.ensures.reached
-          (subst (λ n. Covers (from_on c.sides.from (rest i (shape_of c.sides.a))) (rest i (shape_of c.reach.new.node)) n) c.first_need.ensures c.reach.ensures.covers)
-          (subst (λ n. Covers (from_on c.second_target-next.result (rest i (shape_of c.sides.b))) (rest i (shape_of c.reach-in-sides.new.node)) n) c.second_need.ensures c.reach-in-sides.ensures.covers)
+          c.sides.ta (shape_of c.sides.a) c.sides.tb (shape_of c.sides.b) c.reach.new.top (shape_of c.reach.new.node) (shape_of c.reach-in-sides.new.node) far c.reach.ensures.lands.top c.reach.ensures.lands.reached
+          (subst (λ n. Covers (from_on c.sides.from (rest i (shape_of c.sides.a))) (rest i (shape_of c.reach.new.node)) n) c.first_need.ensures c.reach.ensures.lands.covers)
+          (subst (λ n. Covers (from_on c.second_target-next.result (rest i (shape_of c.sides.b))) (rest i (shape_of c.reach-in-sides.new.node)) n) c.second_need.ensures c.reach-in-sides.ensures.lands.covers)
           c.second_target-next.ensures)
           on.within on.below);
       stays = stays_skipped i c.args.form c.args.target c.args.need c.in-Behind.further c.skip-from-in-Behind.result c.args.ta.now (shape_of c.args.a.now) c.args.tb.now (shape_of c.args.b.now) c.reach.new.top (shape_of c.reach.new.node) c.reach-in-sides.new.top (shape_of c.reach-in-sides.new.node) c.skip-from-in-Behind.ensures c.args.spent.now c.reach-in-sides.new.spent
@@ -145,15 +153,15 @@ seek_pair-sides-preserved g t c =
           c.sides.ta (shape_of c.sides.a) c.sides.tb (shape_of c.sides.b) c.reach.new.top (shape_of c.reach.new.node) c.reach-in-sides.new.top (shape_of c.reach-in-sides.new.node)
           c.sides.invariant.stays
           (round_stays i c.args.form c.sides.from c.args.need c.sides.spent c.reach.new.spent c.reach-in-sides.new.spent c.sides.ta (shape_of c.sides.a) c.sides.tb (shape_of c.sides.b) c.reach.new.top (shape_of c.reach.new.node) c.reach-in-sides.new.top (shape_of c.reach-in-sides.new.node)
-          far.pair.second.bound c.reach.ensures.top c.reach.ensures.falls
-          (subst (λ n. Covers (from_on c.sides.from (rest i (shape_of c.sides.a))) (rest i (shape_of c.reach.new.node)) n) c.first_need.ensures c.reach.ensures.covers)
+          far.pair.second.bound c.reach.ensures.lands.top c.reach.ensures.falls
+          (subst (λ n. Covers (from_on c.sides.from (rest i (shape_of c.sides.a))) (rest i (shape_of c.reach.new.node)) n) c.first_need.ensures c.reach.ensures.lands.covers)
           (subst (λ n. Stays i c.sides.from n c.sides.spent c.reach.new.spent (shape_of c.sides.a) (shape_of c.reach.new.node)) c.first_need.ensures c.reach.ensures.stays)
           c.second_target-next.result c.second_target-next.ensures c.reach-in-sides.ensures.falls
           (subst (λ n. Stays i c.second_target-next.result n c.reach.new.spent c.reach-in-sides.new.spent (shape_of c.sides.b) (shape_of c.reach-in-sides.new.node)) c.second_need.ensures c.reach-in-sides.ensures.stays))
           (pair_covers c.args.form c.sides.from c.second_target-next.result c.args.need c.reach.new.top.greatest c.sides.tb.greatest (rest i (shape_of c.sides.a)) (rest i (shape_of c.sides.b)) (rest i (shape_of c.reach.new.node)) (rest i (shape_of c.reach-in-sides.new.node)) c.reach.new.top.head c.reach.new.top.weight
-          far.pair.second.bound c.reach.ensures.top.bound c.reach.ensures.top.head c.reach.ensures.reached
-          (subst (λ n. Covers (from_on c.sides.from (rest i (shape_of c.sides.a))) (rest i (shape_of c.reach.new.node)) n) c.first_need.ensures c.reach.ensures.covers)
-          (subst (λ n. Covers (from_on c.second_target-next.result (rest i (shape_of c.sides.b))) (rest i (shape_of c.reach-in-sides.new.node)) n) c.second_need.ensures c.reach-in-sides.ensures.covers)
+          far.pair.second.bound c.reach.ensures.lands.top.bound c.reach.ensures.lands.top.head c.reach.ensures.lands.reached
+          (subst (λ n. Covers (from_on c.sides.from (rest i (shape_of c.sides.a))) (rest i (shape_of c.reach.new.node)) n) c.first_need.ensures c.reach.ensures.lands.covers)
+          (subst (λ n. Covers (from_on c.second_target-next.result (rest i (shape_of c.sides.b))) (rest i (shape_of c.reach-in-sides.new.node)) n) c.second_need.ensures c.reach-in-sides.ensures.lands.covers)
           c.second_target-next.ensures)
           c.in-Behind.ensures.on on.below);
       leads = leads_skipped i c.args.form c.args.target c.args.need c.in-Behind.further c.skip-from-in-Behind.result c.args.ta.now (shape_of c.args.a.now) c.args.tb.now (shape_of c.args.b.now) c.reach.new.top (shape_of c.reach.new.node) c.reach-in-sides.new.top (shape_of c.reach-in-sides.new.node) c.skip-from-in-Behind.ensures c.args.spent.now c.reach-in-sides.new.spent
@@ -179,38 +187,39 @@ seek_pair-sides-preserved g t c =
 
 pub seek_odd-odd_meeting-requires : goal.seek_odd-odd_meeting-requires
 seek_odd-odd_meeting-requires g t c =
-    omega (arith, weights_fit c.args.index.now (sides_on c.reach_all.new.tops c.reach_all.new.nodes) c.reach_all.ensures.sound, c.reach_all.ensures.falls, c.all.invariant.far.sides.fits)
+    omega (arith, weights_fit c.args.index.now (sides_on c.reach_all.new.tops c.reach_all.new.nodes) c.reach_all.ensures.moved.sound, c.reach_all.ensures.moved.falls, c.all.invariant.far.sides.fits)
 
-pub seek_odd-returns-in-At-clause-top : goal.seek_odd-returns-in-At-clause-top
-seek_odd-returns-in-At-clause-top g t c =
-    let i = c.args.index.now in
-    odd_top i (sides_on c.reach_all.new.tops c.reach_all.new.nodes) _ c.reach_all.ensures.sound
-    (c.in-At.ensures i c.all.from c.all.invariant.far.within c.reach_all.ensures.sound c.reach_all.ensures.reached).0
-    c.odd_greatest-top.ensures.there c.odd_greatest-top.ensures.ended
-
-pub seek_odd-returns-in-At-clause-covers : goal.seek_odd-returns-in-At-clause-covers
-seek_odd-returns-in-At-clause-covers g t c =
+pub seek_odd-returns-in-At-clause-lands : goal.seek_odd-returns-in-At-clause-lands
+seek_odd-returns-in-At-clause-lands g t c =
+    let covers =
     odd_covers c.args.index.now c.args.target c.args._need c.all.from (sides_on c.args.tops.now c.args.nodes.now) (sides_on c.all.tops c.all.nodes) (sides_on c.reach_all.new.tops c.reach_all.new.nodes)
-    c.all.invariant.far c.reach_all.ensures.sought
-
-pub seek_odd-returns-in-At-clause-reached : goal.seek_odd-returns-in-At-clause-reached
-seek_odd-returns-in-At-clause-reached g t c =
-    let i = c.args.index.now in
-    head_reached c.args.target c.args._need c.in-At.head c.in-At.weight _ _ (seek_odd-returns-in-At-clause-covers g t c)
-    (c.in-At.ensures i c.all.from c.all.invariant.far.within c.reach_all.ensures.sound c.reach_all.ensures.reached).0 c.requires.target
+    c.all.invariant.far c.reach_all.ensures.sought in
+    record {
+      top =
+          let i = c.args.index.now in
+          odd_top i (sides_on c.reach_all.new.tops c.reach_all.new.nodes) _ c.reach_all.ensures.moved.sound
+          (c.in-At.ensures i c.all.from c.all.invariant.far.within c.reach_all.ensures.moved.sound c.reach_all.ensures.reached).0
+          c.odd_greatest-top.ensures.there c.odd_greatest-top.ensures.ended;
+      sound = search rules;
+      covers = covers;
+      reached =
+          let i = c.args.index.now in
+          head_reached c.args.target c.args._need c.in-At.head c.in-At.weight _ _ covers
+          (c.in-At.ensures i c.all.from c.all.invariant.far.within c.reach_all.ensures.moved.sound c.reach_all.ensures.reached).0 c.requires.target;
+    }
 
 pub seek_odd-all-smaller : goal.seek_odd-all-smaller
 seek_odd-all-smaller g t c =
-    let on = c.in-Behind.ensures c.args.index.now c.all.from c.all.invariant.far.within c.reach_all.ensures.sound c.reach_all.ensures.reached in
+    let on = c.in-Behind.ensures c.args.index.now c.all.from c.all.invariant.far.within c.reach_all.ensures.moved.sound c.reach_all.ensures.reached in
     omega (arith, on.further, on.within)
 
 pub seek_odd-all-preserved : goal.seek_odd-all-preserved
 seek_odd-all-preserved g t c =
     let i = c.args.index.now in
-    let on = c.in-Behind.ensures i c.all.from c.all.invariant.far.within c.reach_all.ensures.sound c.reach_all.ensures.reached in
+    let on = c.in-Behind.ensures i c.all.from c.all.invariant.far.within c.reach_all.ensures.moved.sound c.reach_all.ensures.reached in
     record {
       far = odd_more i c.args.target c.args._need c.all.from c.in-Behind.further (sides_on c.args.tops.now c.args.nodes.now) (sides_on c.all.tops c.all.nodes) (sides_on c.reach_all.new.tops c.reach_all.new.nodes)
-          c.all.invariant.far c.reach_all.ensures.sound c.reach_all.ensures.sought c.reach_all.ensures.falls c.reach_all.ensures.smaller on;
+          c.all.invariant.far c.reach_all.ensures.moved.sound c.reach_all.ensures.sought c.reach_all.ensures.moved.falls c.reach_all.ensures.moved.smaller on;
       spends = record {
         paid = omega (arith, c.reach_all.ensures.spends.paid, c.all.invariant.spends.paid);
         counted = omega (arith, c.reach_all.ensures.spends.counted, c.all.invariant.spends.counted);
@@ -257,11 +266,27 @@ reach_all-reach_all-requires-2 g t c κs below =
       (below, (both.1, (c.requires.target, omega (arith, c.requires.room, ap (unread_in i) whole, unread_behind i (sides_on c.split_at_mut-front_tops.result.0.now c.split_at_mut-front_nodes.result.0.now) (sides_on c.split_at_mut-front_tops.result.1.now c.split_at_mut-front_nodes.result.1.now), c.reach_all.ensures.spends.paid)))),
     )
 
-pub reach_all-returns-clause-sound : goal.reach_all-returns-clause-sound
-reach_all-returns-clause-sound g t c =
-    let i = c.args.index.now in
-    subst (λ (ss : Sides). AreSound i ss) (sym (sides_append c.reach_all.new.tops c.reach_all-2.new.tops c.reach_all.new.nodes c.reach_all-2.new.nodes (omega (arith, c.reach_all.auto.tops, c.reach_all.auto.nodes, c.split_at_mut-front_tops.ensures.front_len, c.split_at_mut-front_nodes.ensures.front_len))))
-    (sound_behind i (sides_on c.reach_all.new.tops c.reach_all.new.nodes) (sides_on c.reach_all-2.new.tops c.reach_all-2.new.nodes) c.reach_all.ensures.sound c.reach_all-2.ensures.sound)
+pub reach_all-returns-clause-moved : goal.reach_all-returns-clause-moved
+reach_all-returns-clause-moved g t c =
+    record {
+      sound =
+          let i = c.args.index.now in
+          subst (λ (ss : Sides). AreSound i ss) (sym (sides_append c.reach_all.new.tops c.reach_all-2.new.tops c.reach_all.new.nodes c.reach_all-2.new.nodes (omega (arith, c.reach_all.auto.tops, c.reach_all.auto.nodes, c.split_at_mut-front_tops.ensures.front_len, c.split_at_mut-front_nodes.ensures.front_len))))
+          (sound_behind i (sides_on c.reach_all.new.tops c.reach_all.new.nodes) (sides_on c.reach_all-2.new.tops c.reach_all-2.new.nodes) c.reach_all.ensures.moved.sound c.reach_all-2.ensures.moved.sound);
+      falls =
+          let whole = sides_split _ c.args.tops.now _ _ c.args.nodes.now _ _ c.split_at_mut-front_tops.ensures.front c.split_at_mut-front_tops.ensures.back c.split_at_mut-front_nodes.ensures.front c.split_at_mut-front_nodes.ensures.back in
+          let new = sides_append c.reach_all.new.tops c.reach_all-2.new.tops c.reach_all.new.nodes c.reach_all-2.new.nodes (omega (arith, c.reach_all.auto.tops, c.reach_all.auto.nodes, c.split_at_mut-front_tops.ensures.front_len, c.split_at_mut-front_nodes.ensures.front_len)) in
+          omega (arith, ap greatest_sum whole, ap greatest_sum new, greatest_behind (sides_on c.split_at_mut-front_tops.result.0.now c.split_at_mut-front_nodes.result.0.now) (sides_on c.split_at_mut-front_tops.result.1.now c.split_at_mut-front_nodes.result.1.now), greatest_behind (sides_on c.reach_all.new.tops c.reach_all.new.nodes) (sides_on c.reach_all-2.new.tops c.reach_all-2.new.nodes), c.reach_all.ensures.moved.falls, c.reach_all-2.ensures.moved.falls);
+      smaller =
+          let whole = sides_split _ c.args.tops.now _ _ c.args.nodes.now _ _ c.split_at_mut-front_tops.ensures.front c.split_at_mut-front_tops.ensures.back c.split_at_mut-front_nodes.ensures.front c.split_at_mut-front_nodes.ensures.back in
+          let new = sides_append c.reach_all.new.tops c.reach_all-2.new.tops c.reach_all.new.nodes c.reach_all-2.new.nodes (omega (arith, c.reach_all.auto.tops, c.reach_all.auto.nodes, c.split_at_mut-front_tops.ensures.front_len, c.split_at_mut-front_nodes.ensures.front_len)) in
+          omega (arith, ap sizes_in whole, ap sizes_in new, sizes_behind (sides_on c.split_at_mut-front_tops.result.0.now c.split_at_mut-front_nodes.result.0.now) (sides_on c.split_at_mut-front_tops.result.1.now c.split_at_mut-front_nodes.result.1.now), sizes_behind (sides_on c.reach_all.new.tops c.reach_all.new.nodes) (sides_on c.reach_all-2.new.tops c.reach_all-2.new.nodes), c.reach_all.ensures.moved.smaller, c.reach_all-2.ensures.moved.smaller);
+      kept =
+          let i = c.args.index.now in
+          subst (λ (ss : Sides). AreKept i c.args.target c.args.spent.now c.reach_all-2.new.spent ss (sides_on (c.reach_all.new.tops ++ c.reach_all-2.new.tops) (c.reach_all.new.nodes ++ c.reach_all-2.new.nodes))) (sym (sides_split _ c.args.tops.now _ _ c.args.nodes.now _ _ c.split_at_mut-front_tops.ensures.front c.split_at_mut-front_tops.ensures.back c.split_at_mut-front_nodes.ensures.front c.split_at_mut-front_nodes.ensures.back))
+          (subst (λ (ss : Sides). AreKept i c.args.target c.args.spent.now c.reach_all-2.new.spent (followed_by (sides_on c.split_at_mut-front_tops.result.0.now c.split_at_mut-front_nodes.result.0.now) (sides_on c.split_at_mut-front_tops.result.1.now c.split_at_mut-front_nodes.result.1.now)) ss) (sym (sides_append c.reach_all.new.tops c.reach_all-2.new.tops c.reach_all.new.nodes c.reach_all-2.new.nodes (omega (arith, c.reach_all.auto.tops, c.reach_all.auto.nodes, c.split_at_mut-front_tops.ensures.front_len, c.split_at_mut-front_nodes.ensures.front_len))))
+          (kept_behind i c.args.target c.args.spent.now c.reach_all.new.spent c.reach_all-2.new.spent (sides_on c.split_at_mut-front_tops.result.0.now c.split_at_mut-front_nodes.result.0.now) (sides_on c.split_at_mut-front_tops.result.1.now c.split_at_mut-front_nodes.result.1.now) (sides_on c.reach_all.new.tops c.reach_all.new.nodes) (sides_on c.reach_all-2.new.tops c.reach_all-2.new.nodes) c.reach_all.ensures.moved.kept c.reach_all-2.ensures.moved.kept));
+    }
 
 pub reach_all-returns-clause-sought : goal.reach_all-returns-clause-sought
 reach_all-returns-clause-sought g t c =
@@ -274,18 +299,6 @@ pub reach_all-returns-clause-reached : goal.reach_all-returns-clause-reached
 reach_all-returns-clause-reached g t c =
     subst (λ (ss : Sides). AreFrom c.args.target ss) (sym (sides_append c.reach_all.new.tops c.reach_all-2.new.tops c.reach_all.new.nodes c.reach_all-2.new.nodes (omega (arith, c.reach_all.auto.tops, c.reach_all.auto.nodes, c.split_at_mut-front_tops.ensures.front_len, c.split_at_mut-front_nodes.ensures.front_len))))
     (from_behind c.args.target (sides_on c.reach_all.new.tops c.reach_all.new.nodes) (sides_on c.reach_all-2.new.tops c.reach_all-2.new.nodes) c.reach_all.ensures.reached c.reach_all-2.ensures.reached)
-
-pub reach_all-returns-clause-falls : goal.reach_all-returns-clause-falls
-reach_all-returns-clause-falls g t c =
-    let whole = sides_split _ c.args.tops.now _ _ c.args.nodes.now _ _ c.split_at_mut-front_tops.ensures.front c.split_at_mut-front_tops.ensures.back c.split_at_mut-front_nodes.ensures.front c.split_at_mut-front_nodes.ensures.back in
-    let new = sides_append c.reach_all.new.tops c.reach_all-2.new.tops c.reach_all.new.nodes c.reach_all-2.new.nodes (omega (arith, c.reach_all.auto.tops, c.reach_all.auto.nodes, c.split_at_mut-front_tops.ensures.front_len, c.split_at_mut-front_nodes.ensures.front_len)) in
-    omega (arith, ap greatest_sum whole, ap greatest_sum new, greatest_behind (sides_on c.split_at_mut-front_tops.result.0.now c.split_at_mut-front_nodes.result.0.now) (sides_on c.split_at_mut-front_tops.result.1.now c.split_at_mut-front_nodes.result.1.now), greatest_behind (sides_on c.reach_all.new.tops c.reach_all.new.nodes) (sides_on c.reach_all-2.new.tops c.reach_all-2.new.nodes), c.reach_all.ensures.falls, c.reach_all-2.ensures.falls)
-
-pub reach_all-returns-clause-smaller : goal.reach_all-returns-clause-smaller
-reach_all-returns-clause-smaller g t c =
-    let whole = sides_split _ c.args.tops.now _ _ c.args.nodes.now _ _ c.split_at_mut-front_tops.ensures.front c.split_at_mut-front_tops.ensures.back c.split_at_mut-front_nodes.ensures.front c.split_at_mut-front_nodes.ensures.back in
-    let new = sides_append c.reach_all.new.tops c.reach_all-2.new.tops c.reach_all.new.nodes c.reach_all-2.new.nodes (omega (arith, c.reach_all.auto.tops, c.reach_all.auto.nodes, c.split_at_mut-front_tops.ensures.front_len, c.split_at_mut-front_nodes.ensures.front_len)) in
-    omega (arith, ap sizes_in whole, ap sizes_in new, sizes_behind (sides_on c.split_at_mut-front_tops.result.0.now c.split_at_mut-front_nodes.result.0.now) (sides_on c.split_at_mut-front_tops.result.1.now c.split_at_mut-front_nodes.result.1.now), sizes_behind (sides_on c.reach_all.new.tops c.reach_all.new.nodes) (sides_on c.reach_all-2.new.tops c.reach_all-2.new.nodes), c.reach_all.ensures.smaller, c.reach_all-2.ensures.smaller)
 
 pub reach_all-returns-clause-spends : goal.reach_all-returns-clause-spends
 reach_all-returns-clause-spends g t c = record {
@@ -313,45 +326,59 @@ pub seek_tested-passes-requires-clause-all : goal.seek_tested-passes-requires-cl
 seek_tested-passes-requires-clause-all g t c =
     let i = c.args.index.now in
     moved_all i c.args.target c.args.need c.tests.from c.args.test.now c.args.below.now (shape_of c.args.node.now) c.tests.test c.tests.below (shape_of c.tests.node) c.reach.new.top (shape_of c.reach.new.node)
-    c.tests.invariant.far c.reach.ensures.top c.reach.ensures.sound c.reach.ensures.reached c.reach.ensures.falls c.reach.ensures.smaller c.reach.ensures.covers (omega (arith, c.if-below-ge-END.false))
+    c.tests.invariant.far c.reach.ensures.lands.top c.reach.ensures.lands.sound c.reach.ensures.lands.reached c.reach.ensures.falls c.reach.ensures.smaller c.reach.ensures.lands.covers (omega (arith, c.if-below-ge-END.false))
 
-pub seek_tested-returns-then-below-ge-END-clause-covers : goal.seek_tested-returns-then-below-ge-END-clause-covers
-seek_tested-returns-then-below-ge-END-clause-covers g t c =
-    let i = c.args.index.now in
-    moved_covers i c.args.target c.args.need c.tests.from c.args.test.now c.args.below.now (shape_of c.args.node.now) c.tests.test c.tests.below (shape_of c.tests.node) c.reach.new.top (shape_of c.reach.new.node)
-    c.tests.invariant.far c.reach.ensures.top c.reach.ensures.sound c.reach.ensures.reached c.reach.ensures.falls c.reach.ensures.smaller c.reach.ensures.covers
+pub seek_tested-returns-then-below-ge-END-clause-lands : goal.seek_tested-returns-then-below-ge-END-clause-lands
+seek_tested-returns-then-below-ge-END-clause-lands g t c =
+    record {
+      top = search rules;
+      sound = search rules;
+      covers =
+          let i = c.args.index.now in
+          moved_covers i c.args.target c.args.need c.tests.from c.args.test.now c.args.below.now (shape_of c.args.node.now) c.tests.test c.tests.below (shape_of c.tests.node) c.reach.new.top (shape_of c.reach.new.node)
+          c.tests.invariant.far c.reach.ensures.lands.top c.reach.ensures.lands.sound c.reach.ensures.lands.reached c.reach.ensures.falls c.reach.ensures.smaller c.reach.ensures.lands.covers;
+      reached = omega (arith, ap (λ (u : Top). u.head) c.ended.ensures, c.requires.target);
+    }
 
-pub seek_tested-returns-then-passes-clause-top : goal.seek_tested-returns-then-passes-clause-top
-seek_tested-returns-then-passes-clause-top g t c =
+pub seek_tested-returns-then-passes-clause-lands : goal.seek_tested-returns-then-passes-clause-lands
+seek_tested-returns-then-passes-clause-lands g t c =
     let i = c.args.index.now in
+    let top =
     passed_top i c.args.target c.args.need c.tests.from c.args.test.now c.args.below.now (shape_of c.args.node.now) c.tests.test c.tests.below (shape_of c.tests.node) c.reach.new.top (shape_of c.reach.new.node)
-    c.tests.invariant.far c.reach.ensures.top c.reach.ensures.sound c.reach.ensures.reached c.reach.ensures.falls c.reach.ensures.smaller c.reach.ensures.covers c.passes.new.self c.passes.ensures.same c.passes.ensures.next (omega (arith, c.if-below-ge-END.false)) (c.passes.ensures.holds c.if-passes.true)
-
-pub seek_tested-returns-then-passes-clause-sound : goal.seek_tested-returns-then-passes-clause-sound
-seek_tested-returns-then-passes-clause-sound g t c =
-    let i = c.args.index.now in
-    passed_sound i c.args.target c.args.need c.tests.from c.args.test.now c.args.below.now (shape_of c.args.node.now) c.tests.test c.tests.below (shape_of c.tests.node) c.reach.new.top (shape_of c.reach.new.node)
-    c.tests.invariant.far c.reach.ensures.top c.reach.ensures.sound c.reach.ensures.reached c.reach.ensures.falls c.reach.ensures.smaller c.reach.ensures.covers c.passes.new.self c.passes.ensures.same c.passes.ensures.next (omega (arith, c.if-below-ge-END.false)) (c.passes.ensures.holds c.if-passes.true)
-
-pub seek_tested-returns-then-passes-clause-covers : goal.seek_tested-returns-then-passes-clause-covers
-seek_tested-returns-then-passes-clause-covers g t c =
-    let i = c.args.index.now in
+    c.tests.invariant.far c.reach.ensures.lands.top c.reach.ensures.lands.sound c.reach.ensures.lands.reached c.reach.ensures.falls c.reach.ensures.smaller c.reach.ensures.lands.covers c.passes.new.self c.passes.ensures.same c.passes.ensures.next (omega (arith, c.if-below-ge-END.false)) (c.passes.ensures.holds c.if-passes.true) in
+    let covers =
     passed_covers i c.args.target c.args.need c.tests.from c.args.test.now c.args.below.now (shape_of c.args.node.now) c.tests.test c.tests.below (shape_of c.tests.node) c.reach.new.top (shape_of c.reach.new.node)
-    c.tests.invariant.far c.reach.ensures.top c.reach.ensures.sound c.reach.ensures.reached c.reach.ensures.falls c.reach.ensures.smaller c.reach.ensures.covers c.passes.new.self c.passes.ensures.same c.passes.ensures.next (omega (arith, c.if-below-ge-END.false))
+    c.tests.invariant.far c.reach.ensures.lands.top c.reach.ensures.lands.sound c.reach.ensures.lands.reached c.reach.ensures.falls c.reach.ensures.smaller c.reach.ensures.lands.covers c.passes.new.self c.passes.ensures.same c.passes.ensures.next (omega (arith, c.if-below-ge-END.false)) in
+    record {
+      top = top;
+      sound =
+          passed_sound i c.args.target c.args.need c.tests.from c.args.test.now c.args.below.now (shape_of c.args.node.now) c.tests.test c.tests.below (shape_of c.tests.node) c.reach.new.top (shape_of c.reach.new.node)
+          c.tests.invariant.far c.reach.ensures.lands.top c.reach.ensures.lands.sound c.reach.ensures.lands.reached c.reach.ensures.falls c.reach.ensures.smaller c.reach.ensures.lands.covers c.passes.new.self c.passes.ensures.same c.passes.ensures.next (omega (arith, c.if-below-ge-END.false)) (c.passes.ensures.holds c.if-passes.true);
+      covers = covers;
+      reached = head_reached c.args.target c.args.need c.reach.new.top.head c.reach.new.top.weight _ _ covers top.head c.requires.target;
+    }
 
-pub seek_tested-returns-then-from-ge-END-clause-top : goal.seek_tested-returns-then-from-ge-END-clause-top
-seek_tested-returns-then-from-ge-END-clause-top g t c =
-    let i = c.args.index.now in
-    subst (λ (u : Top). IsTop i u (tested c.passes.new.self c.ended-then-from-ge-END.result (shape_of Node.Nothing))) (sym c.ended-then-from-ge-END-2.ensures)
-    (subst (λ (s : Shape). IsTop i (record { head = 2 ^ 32; weight = 0; greatest = 0 }) (tested c.passes.new.self c.ended-then-from-ge-END.result s)) (sym shape_of-Nothing)
-    (none_top i c.passes.new.self c.ended-then-from-ge-END.result ended (λ id. refl)))
-
-pub seek_tested-returns-then-from-ge-END-clause-covers : goal.seek_tested-returns-then-from-ge-END-clause-covers
-seek_tested-returns-then-from-ge-END-clause-covers g t c =
-    let i = c.args.index.now in
-    subst (λ (s : Shape). Covers (from_on c.args.target (rest i (tested c.args.test.now c.args.below.now (shape_of c.args.node.now)))) (rest i (tested c.passes.new.self c.ended-then-from-ge-END.result s)) c.args.need) (sym shape_of-Nothing)
-    (failed_ended_covers i c.args.target c.args.need c.tests.from c.args.test.now c.args.below.now (shape_of c.args.node.now) c.tests.test c.tests.below (shape_of c.tests.node) c.reach.new.top (shape_of c.reach.new.node)
-    c.tests.invariant.far c.reach.ensures.top c.reach.ensures.sound c.reach.ensures.reached c.reach.ensures.falls c.reach.ensures.smaller c.reach.ensures.covers c.passes.new.self c.passes.ensures.same c.passes.ensures.next (omega (arith, c.if-below-ge-END.false)) (c.passes.ensures.fails c.if-passes.false) (omega (arith, c.if-from-ge-END.true)) c.ended-then-from-ge-END.result)
+pub seek_tested-returns-then-from-ge-END-clause-lands : goal.seek_tested-returns-then-from-ge-END-clause-lands
+seek_tested-returns-then-from-ge-END-clause-lands g t c =
+    record {
+      top =
+          let i = c.args.index.now in
+          subst (λ (u : Top). IsTop i u (tested c.passes.new.self c.ended-then-from-ge-END.result (shape_of Node.Nothing))) (sym c.ended-then-from-ge-END-2.ensures)
+          (subst (λ (s : Shape). IsTop i (record { head = 2 ^ 32; weight = 0; greatest = 0 }) (tested c.passes.new.self c.ended-then-from-ge-END.result s)) (sym shape_of-Nothing)
+          (none_top i c.passes.new.self c.ended-then-from-ge-END.result ended (λ id. refl)));
+      sound =
+          let i = c.args.index.now in
+          subst (λ (u : Top). IsTested i c.passes.new.self u (shape_of Node.Nothing) (Sound i (shape_of Node.Nothing))) (sym c.ended-then-from-ge-END.ensures)
+          (subst (λ (s : Shape). IsTested i c.passes.new.self (record { head = 2 ^ 32; weight = 0; greatest = 0 }) s (Sound i s)) (sym shape_of-Nothing)
+          (failed_ended_sound i c.args.target c.args.need c.tests.from c.args.test.now c.args.below.now (shape_of c.args.node.now) c.tests.test c.tests.below (shape_of c.tests.node) c.reach.new.top (shape_of c.reach.new.node)
+          c.tests.invariant.far c.reach.ensures.lands.top c.reach.ensures.lands.sound c.reach.ensures.lands.reached c.reach.ensures.falls c.reach.ensures.smaller c.reach.ensures.lands.covers c.passes.new.self c.passes.ensures.same c.passes.ensures.next (omega (arith, c.if-below-ge-END.false))));
+      covers =
+          let i = c.args.index.now in
+          subst (λ (s : Shape). Covers (from_on c.args.target (rest i (tested c.args.test.now c.args.below.now (shape_of c.args.node.now)))) (rest i (tested c.passes.new.self c.ended-then-from-ge-END.result s)) c.args.need) (sym shape_of-Nothing)
+          (failed_ended_covers i c.args.target c.args.need c.tests.from c.args.test.now c.args.below.now (shape_of c.args.node.now) c.tests.test c.tests.below (shape_of c.tests.node) c.reach.new.top (shape_of c.reach.new.node)
+          c.tests.invariant.far c.reach.ensures.lands.top c.reach.ensures.lands.sound c.reach.ensures.lands.reached c.reach.ensures.falls c.reach.ensures.smaller c.reach.ensures.lands.covers c.passes.new.self c.passes.ensures.same c.passes.ensures.next (omega (arith, c.if-below-ge-END.false)) (c.passes.ensures.fails c.if-passes.false) (omega (arith, c.if-from-ge-END.true)) c.ended-then-from-ge-END.result);
+      reached = omega (arith, ap (λ (u : Top). u.head) c.ended-then-from-ge-END-2.ensures, c.requires.target);
+    }
 
 pub seek_tested-tests-preserved : goal.seek_tested-tests-preserved
 seek_tested-tests-preserved g t c =
@@ -359,7 +386,7 @@ seek_tested-tests-preserved g t c =
     let same : entries_from i c.passes.new.self.next c.passes.new.self.numbers.items ≡ entries_from i c.passes.new.self.next c.tests.test.numbers.items = ap (entries_from i c.passes.new.self.next) c.passes.ensures.same.numbers in
     record {
       far = failed_more i c.args.target c.args.need c.tests.from c.args.test.now c.args.below.now (shape_of c.args.node.now) c.tests.test c.tests.below (shape_of c.tests.node) c.reach.new.top (shape_of c.reach.new.node)
-          c.tests.invariant.far c.reach.ensures.top c.reach.ensures.sound c.reach.ensures.reached c.reach.ensures.falls c.reach.ensures.smaller c.reach.ensures.covers c.passes.new.self c.passes.ensures.same c.passes.ensures.next (omega (arith, c.if-below-ge-END.false)) (c.passes.ensures.fails c.if-passes.false) (omega (arith, c.if-from-ge-END.false));
+          c.tests.invariant.far c.reach.ensures.lands.top c.reach.ensures.lands.sound c.reach.ensures.lands.reached c.reach.ensures.falls c.reach.ensures.smaller c.reach.ensures.lands.covers c.passes.new.self c.passes.ensures.same c.passes.ensures.next (omega (arith, c.if-below-ge-END.false)) (c.passes.ensures.fails c.if-passes.false) (omega (arith, c.if-from-ge-END.false));
       spends = record {
         paid = omega (arith, same, c.reach.ensures.spends.paid, c.passes.ensures.spends.paid, c.tests.invariant.spends.paid);
         counted = omega (arith, c.reach.ensures.spends.counted, c.passes.ensures.spends.counted, c.tests.invariant.spends.counted);
@@ -367,17 +394,17 @@ seek_tested-tests-preserved g t c =
       };
     }
 
-pub seek-returns-in-Tested-clause-top : goal.seek-returns-in-Tested-clause-top
-seek-returns-in-Tested-clause-top g t c = subst (λ (s : Shape). IsTop c.args.index.now c.seek_tested.new.top s) (sym (shape_of-Tested _ _ _)) c.seek_tested.ensures.top
-
-pub seek-returns-in-Tested-clause-sound : goal.seek-returns-in-Tested-clause-sound
-seek-returns-in-Tested-clause-sound g t c = subst (λ (s : Shape). Sound c.args.index.now s) (sym (shape_of-Tested _ _ _)) c.seek_tested.ensures.sound
-
-pub seek-returns-in-Tested-clause-covers : goal.seek-returns-in-Tested-clause-covers
-seek-returns-in-Tested-clause-covers g t c =
-    covers_along c.args.index.now c.args.target c.args.need _ _ _ _
-    (tested_shape c.args.node.now c.in-Tested.test c.in-Tested.below c.in-Tested.node _ _ _ c.in-Tested.is c.in-Tested.test-is c.in-Tested.below-is (c.deref_mut-in-Tested.ensures.value ∙ ap (λ (x : Box Node Global). x.value) c.in-Tested.node-is))
-    (shape_of-Tested _ _ _) c.seek_tested.ensures.covers
+pub seek-returns-in-Tested-clause-lands : goal.seek-returns-in-Tested-clause-lands
+seek-returns-in-Tested-clause-lands g t c =
+    record {
+      top = subst (λ (s : Shape). IsTop c.args.index.now c.seek_tested.new.top s) (sym (shape_of-Tested _ _ _)) c.seek_tested.ensures.lands.top;
+      sound = subst (λ (s : Shape). Sound c.args.index.now s) (sym (shape_of-Tested _ _ _)) c.seek_tested.ensures.lands.sound;
+      covers =
+          covers_along c.args.index.now c.args.target c.args.need _ _ _ _
+          (tested_shape c.args.node.now c.in-Tested.test c.in-Tested.below c.in-Tested.node _ _ _ c.in-Tested.is c.in-Tested.test-is c.in-Tested.below-is (c.deref_mut-in-Tested.ensures.value ∙ ap (λ (x : Box Node Global). x.value) c.in-Tested.node-is))
+          (shape_of-Tested _ _ _) c.seek_tested.ensures.lands.covers;
+      reached = omega arith;
+    }
 
 pub seek-returns-in-Tested-clause-smaller : goal.seek-returns-in-Tested-clause-smaller
 seek-returns-in-Tested-clause-smaller g t c =
@@ -411,17 +438,17 @@ seek-returns-in-Pair-clause-stays g t c =
     (parts_shape c.args.node.now c.in-Pair.form c.in-Pair.ta c.in-Pair.tb c.in-Pair.a c.in-Pair.b _ _ _ _ _ c.in-Pair.is c.in-Pair.form-is c.in-Pair.ta-is c.in-Pair.tb-is (c.deref_mut.ensures.value ∙ ap (λ (x : Box Node Global). x.value) c.in-Pair.a-is) (c.deref_mut-in-Pair.ensures.value ∙ ap (λ (x : Box Node Global). x.value) c.in-Pair.b-is))
     (shape_of-Pair _ _ _ _ _) c.seek_sides.ensures.stays
 
-pub seek-returns-in-Odd-clause-top : goal.seek-returns-in-Odd-clause-top
-seek-returns-in-Odd-clause-top g t c = subst (λ (s : Shape). IsTop c.args.index.now c.seek_odd.new.top s) (sym (odd_written _ _ c.seek_odd.new.tops c.seek_odd.new.nodes (search (rules, places)) (search (rules, places)))) c.seek_odd.ensures.top
-
-pub seek-returns-in-Odd-clause-sound : goal.seek-returns-in-Odd-clause-sound
-seek-returns-in-Odd-clause-sound g t c = subst (λ (s : Shape). Sound c.args.index.now s) (sym (odd_written _ _ c.seek_odd.new.tops c.seek_odd.new.nodes (search (rules, places)) (search (rules, places)))) c.seek_odd.ensures.sound
-
-pub seek-returns-in-Odd-clause-covers : goal.seek-returns-in-Odd-clause-covers
-seek-returns-in-Odd-clause-covers g t c =
-    covers_along c.args.index.now c.args.target c.args.need _ _ _ _
-    (odd_shape c.args.node.now c.in-Odd.tops c.in-Odd.nodes _ _ c.in-Odd.is (c.deref_mut-in-Odd.ensures.value ∙ ap (λ (v : Vec Top Global). v.items) c.in-Odd.tops-is) (c.deref_mut-in-Odd-2.ensures.value ∙ ap (λ (v : Vec Node Global). v.items) c.in-Odd.nodes-is))
-    (odd_written _ _ c.seek_odd.new.tops c.seek_odd.new.nodes (search (rules, places)) (search (rules, places))) c.seek_odd.ensures.covers
+pub seek-returns-in-Odd-clause-lands : goal.seek-returns-in-Odd-clause-lands
+seek-returns-in-Odd-clause-lands g t c =
+    record {
+      top = subst (λ (s : Shape). IsTop c.args.index.now c.seek_odd.new.top s) (sym (odd_written _ _ c.seek_odd.new.tops c.seek_odd.new.nodes (search (rules, places)) (search (rules, places)))) c.seek_odd.ensures.lands.top;
+      sound = subst (λ (s : Shape). Sound c.args.index.now s) (sym (odd_written _ _ c.seek_odd.new.tops c.seek_odd.new.nodes (search (rules, places)) (search (rules, places)))) c.seek_odd.ensures.lands.sound;
+      covers =
+          covers_along c.args.index.now c.args.target c.args.need _ _ _ _
+          (odd_shape c.args.node.now c.in-Odd.tops c.in-Odd.nodes _ _ c.in-Odd.is (c.deref_mut-in-Odd.ensures.value ∙ ap (λ (v : Vec Top Global). v.items) c.in-Odd.tops-is) (c.deref_mut-in-Odd-2.ensures.value ∙ ap (λ (v : Vec Node Global). v.items) c.in-Odd.nodes-is))
+          (odd_written _ _ c.seek_odd.new.tops c.seek_odd.new.nodes (search (rules, places)) (search (rules, places))) c.seek_odd.ensures.lands.covers;
+      reached = omega arith;
+    }
 
 pub seek-returns-in-Odd-clause-smaller : goal.seek-returns-in-Odd-clause-smaller
 seek-returns-in-Odd-clause-smaller g t c =
@@ -451,8 +478,8 @@ seek_pair-returns-in-At-clause-stays g t c =
     stays_then i c.args.form c.args.target c.args.need c.sides.from c.args.spent.now c.sides.spent c.reach-in-sides.new.spent c.args.ta.now (shape_of c.args.a.now) c.args.tb.now (shape_of c.args.b.now)
     c.sides.ta (shape_of c.sides.a) c.sides.tb (shape_of c.sides.b) c.reach.new.top (shape_of c.reach.new.node) c.reach-in-sides.new.top (shape_of c.reach-in-sides.new.node) c.sides.invariant.stays
     (round_stays i c.args.form c.sides.from c.args.need c.sides.spent c.reach.new.spent c.reach-in-sides.new.spent c.sides.ta (shape_of c.sides.a) c.sides.tb (shape_of c.sides.b) c.reach.new.top (shape_of c.reach.new.node) c.reach-in-sides.new.top (shape_of c.reach-in-sides.new.node)
-    c.sides.invariant.far.pair.second.bound c.reach.ensures.top c.reach.ensures.falls
-    (subst (λ n. Covers (from_on c.sides.from (rest i (shape_of c.sides.a))) (rest i (shape_of c.reach.new.node)) n) c.first_need.ensures c.reach.ensures.covers)
+    c.sides.invariant.far.pair.second.bound c.reach.ensures.lands.top c.reach.ensures.falls
+    (subst (λ n. Covers (from_on c.sides.from (rest i (shape_of c.sides.a))) (rest i (shape_of c.reach.new.node)) n) c.first_need.ensures c.reach.ensures.lands.covers)
     (subst (λ n. Stays i c.sides.from n c.sides.spent c.reach.new.spent (shape_of c.sides.a) (shape_of c.reach.new.node)) c.first_need.ensures c.reach.ensures.stays)
     c.second_target-next.result c.second_target-next.ensures c.reach-in-sides.ensures.falls
     (subst (λ n. Stays i c.second_target-next.result n c.reach.new.spent c.reach-in-sides.new.spent (shape_of c.sides.b) (shape_of c.reach-in-sides.new.node)) c.second_need.ensures c.reach-in-sides.ensures.stays))
@@ -464,8 +491,8 @@ seek_pair-returns-then-next-ge-END-clause-stays g t c =
     stays_then i c.args.form c.args.target c.args.need c.sides.from c.args.spent.now c.sides.spent c.reach.new.spent c.args.ta.now (shape_of c.args.a.now) c.args.tb.now (shape_of c.args.b.now)
     c.sides.ta (shape_of c.sides.a) c.sides.tb (shape_of c.sides.b) c.reach.new.top (shape_of c.reach.new.node) c.sides.tb (shape_of c.sides.b) c.sides.invariant.stays
     (round_ended i c.args.form c.sides.from c.args.need c.sides.spent c.reach.new.spent c.reach.new.spent c.sides.ta (shape_of c.sides.a) c.sides.tb (shape_of c.sides.b) c.reach.new.top (shape_of c.reach.new.node) c.sides.tb (shape_of c.sides.b)
-    c.sides.invariant.far.pair.second.bound c.reach.ensures.top c.reach.ensures.falls
-    (subst (λ n. Covers (from_on c.sides.from (rest i (shape_of c.sides.a))) (rest i (shape_of c.reach.new.node)) n) c.first_need.ensures c.reach.ensures.covers)
+    c.sides.invariant.far.pair.second.bound c.reach.ensures.lands.top c.reach.ensures.falls
+    (subst (λ n. Covers (from_on c.sides.from (rest i (shape_of c.sides.a))) (rest i (shape_of c.reach.new.node)) n) c.first_need.ensures c.reach.ensures.lands.covers)
     (subst (λ n. Stays i c.sides.from n c.sides.spent c.reach.new.spent (shape_of c.sides.a) (shape_of c.reach.new.node)) c.first_need.ensures c.reach.ensures.stays)
     at_end.0)
 
@@ -599,17 +626,17 @@ seek_pair-returns-in-At-clause-fades g t c =
 
 -- ---- an or of many sides
 
-pub seek-returns-in-Any-clause-top : goal.seek-returns-in-Any-clause-top
-seek-returns-in-Any-clause-top g t c = subst (λ (s : Shape). IsTop c.args.index.now c.seek_any.new.top s) (sym (any_written _ _ c.seek_any.new.tops c.seek_any.new.nodes (search (rules, places)) (search (rules, places)))) c.seek_any.ensures.top
-
-pub seek-returns-in-Any-clause-sound : goal.seek-returns-in-Any-clause-sound
-seek-returns-in-Any-clause-sound g t c = subst (λ (s : Shape). Sound c.args.index.now s) (sym (any_written _ _ c.seek_any.new.tops c.seek_any.new.nodes (search (rules, places)) (search (rules, places)))) c.seek_any.ensures.sound
-
-pub seek-returns-in-Any-clause-covers : goal.seek-returns-in-Any-clause-covers
-seek-returns-in-Any-clause-covers g t c =
-    covers_along c.args.index.now c.args.target c.args.need _ _ _ _
-    (any_shape c.args.node.now c.in-Any.tops c.in-Any.nodes _ _ c.in-Any.is (c.deref_mut-in-Any.ensures.value ∙ ap (λ (v : Vec Top Global). v.items) c.in-Any.tops-is) (c.deref_mut-in-Any-2.ensures.value ∙ ap (λ (v : Vec Node Global). v.items) c.in-Any.nodes-is))
-    (any_written _ _ c.seek_any.new.tops c.seek_any.new.nodes (search (rules, places)) (search (rules, places))) c.seek_any.ensures.covers
+pub seek-returns-in-Any-clause-lands : goal.seek-returns-in-Any-clause-lands
+seek-returns-in-Any-clause-lands g t c =
+    record {
+      top = subst (λ (s : Shape). IsTop c.args.index.now c.seek_any.new.top s) (sym (any_written _ _ c.seek_any.new.tops c.seek_any.new.nodes (search (rules, places)) (search (rules, places)))) c.seek_any.ensures.lands.top;
+      sound = subst (λ (s : Shape). Sound c.args.index.now s) (sym (any_written _ _ c.seek_any.new.tops c.seek_any.new.nodes (search (rules, places)) (search (rules, places)))) c.seek_any.ensures.lands.sound;
+      covers =
+          covers_along c.args.index.now c.args.target c.args.need _ _ _ _
+          (any_shape c.args.node.now c.in-Any.tops c.in-Any.nodes _ _ c.in-Any.is (c.deref_mut-in-Any.ensures.value ∙ ap (λ (v : Vec Top Global). v.items) c.in-Any.tops-is) (c.deref_mut-in-Any-2.ensures.value ∙ ap (λ (v : Vec Node Global). v.items) c.in-Any.nodes-is))
+          (any_written _ _ c.seek_any.new.tops c.seek_any.new.nodes (search (rules, places)) (search (rules, places))) c.seek_any.ensures.lands.covers;
+      reached = omega arith;
+    }
 
 pub seek-returns-in-Any-clause-smaller : goal.seek-returns-in-Any-clause-smaller
 seek-returns-in-Any-clause-smaller g t c =
@@ -659,37 +686,29 @@ seek-returns-in-Any-clause-moves g t c lone =
 
 pub seek_all-first_of-first-requires : goal.seek_all-first_of-first-requires
 seek_all-first_of-first-requires g t c =
-    omega (arith, weights_fit c.args.index.now (sides_on c.reach_all.new.tops c.reach_all.new.nodes) c.reach_all.ensures.sound, c.reach_all.ensures.falls, c.requires.sides.fits)
+    omega (arith, weights_fit c.args.index.now (sides_on c.reach_all.new.tops c.reach_all.new.nodes) c.reach_all.ensures.moved.sound, c.reach_all.ensures.moved.falls, c.requires.sides.fits)
 
-pub seek_all-returns-clause-top : goal.seek_all-returns-clause-top
-seek_all-returns-clause-top g t c =
-    let i = c.args.index.now in
-    any_top i (sides_on c.reach_all.new.tops c.reach_all.new.nodes) _ c.reach_all.ensures.sound
-    (c.first_of-first.ensures.first i (λ id. None) c.reach_all.ensures.sound none_head)
-    c.odd_greatest-top.ensures.there c.odd_greatest-top.ensures.ended
-
-pub seek_all-returns-clause-covers : goal.seek_all-returns-clause-covers
-seek_all-returns-clause-covers g t c =
-    any_covers c.args.index.now c.args.target c.args._need (sides_on c.args.tops.now c.args.nodes.now) (sides_on c.reach_all.new.tops c.reach_all.new.nodes) c.reach_all.ensures.sought
+pub seek_all-returns-clause-lands : goal.seek_all-returns-clause-lands
+seek_all-returns-clause-lands g t c =
+    record {
+      top =
+          let i = c.args.index.now in
+          any_top i (sides_on c.reach_all.new.tops c.reach_all.new.nodes) _ c.reach_all.ensures.moved.sound
+          (c.first_of-first.ensures.first i (λ id. None) c.reach_all.ensures.moved.sound none_head)
+          c.odd_greatest-top.ensures.there c.odd_greatest-top.ensures.ended;
+      sound = search rules;
+      covers = any_covers c.args.index.now c.args.target c.args._need (sides_on c.args.tops.now c.args.nodes.now) (sides_on c.reach_all.new.tops c.reach_all.new.nodes) c.reach_all.ensures.sought;
+      reached = c.first_of-first.ensures.reached c.args.target (omega (arith, c.requires.target)) c.reach_all.ensures.reached;
+    }
 
 pub seek_all-returns-clause-stays : goal.seek_all-returns-clause-stays
 seek_all-returns-clause-stays g t c =
-    any_stays c.args.index.now c.args.target c.args._need c.args.spent.now c.reach_all.new.spent (sides_on c.args.tops.now c.args.nodes.now) (sides_on c.reach_all.new.tops c.reach_all.new.nodes) c.requires.target c.reach_all.ensures.kept
-
-pub reach_all-returns-clause-kept : goal.reach_all-returns-clause-kept
-reach_all-returns-clause-kept g t c =
-    let i = c.args.index.now in
-    subst (λ (ss : Sides). AreKept i c.args.target c.args.spent.now c.reach_all-2.new.spent ss (sides_on (c.reach_all.new.tops ++ c.reach_all-2.new.tops) (c.reach_all.new.nodes ++ c.reach_all-2.new.nodes))) (sym (sides_split _ c.args.tops.now _ _ c.args.nodes.now _ _ c.split_at_mut-front_tops.ensures.front c.split_at_mut-front_tops.ensures.back c.split_at_mut-front_nodes.ensures.front c.split_at_mut-front_nodes.ensures.back))
-    (subst (λ (ss : Sides). AreKept i c.args.target c.args.spent.now c.reach_all-2.new.spent (followed_by (sides_on c.split_at_mut-front_tops.result.0.now c.split_at_mut-front_nodes.result.0.now) (sides_on c.split_at_mut-front_tops.result.1.now c.split_at_mut-front_nodes.result.1.now)) ss) (sym (sides_append c.reach_all.new.tops c.reach_all-2.new.tops c.reach_all.new.nodes c.reach_all-2.new.nodes (omega (arith, c.reach_all.auto.tops, c.reach_all.auto.nodes, c.split_at_mut-front_tops.ensures.front_len, c.split_at_mut-front_nodes.ensures.front_len))))
-    (kept_behind i c.args.target c.args.spent.now c.reach_all.new.spent c.reach_all-2.new.spent (sides_on c.split_at_mut-front_tops.result.0.now c.split_at_mut-front_nodes.result.0.now) (sides_on c.split_at_mut-front_tops.result.1.now c.split_at_mut-front_nodes.result.1.now) (sides_on c.reach_all.new.tops c.reach_all.new.nodes) (sides_on c.reach_all-2.new.tops c.reach_all-2.new.nodes) c.reach_all.ensures.kept c.reach_all-2.ensures.kept))
-
-pub seek_all-returns-clause-reached : goal.seek_all-returns-clause-reached
-seek_all-returns-clause-reached g t c = c.first_of-first.ensures.reached c.args.target (omega (arith, c.requires.target)) c.reach_all.ensures.reached
+    any_stays c.args.index.now c.args.target c.args._need c.args.spent.now c.reach_all.new.spent (sides_on c.args.tops.now c.args.nodes.now) (sides_on c.reach_all.new.tops c.reach_all.new.nodes) c.requires.target c.reach_all.ensures.moved.kept
 
 pub seek_pair-skip-from-requires-in-Behind-clause-from : goal.seek_pair-skip-from-requires-in-Behind-clause-from
 seek_pair-skip-from-requires-in-Behind-clause-from g t c =
     let i = c.args.index.now in
-    (c.in-Behind.ensures.meets (rest i (shape_of c.reach.new.node)) (rest i (shape_of c.reach-in-sides.new.node)) c.reach.ensures.top.head c.reach-in-sides.ensures.top.head).within
+    (c.in-Behind.ensures.meets (rest i (shape_of c.reach.new.node)) (rest i (shape_of c.reach-in-sides.new.node)) c.reach.ensures.lands.top.head c.reach-in-sides.ensures.lands.top.head).within
 
 -- ---- an or of many sides, where something is needed
 
@@ -705,22 +724,21 @@ seek_some-matches-init g t c =
       };
     }
 
-pub seek_some-returns-then-head-ge-END-clause-top : goal.seek_some-returns-then-head-ge-END-clause-top
-seek_some-returns-then-head-ge-END-clause-top g t c =
-    let i = c.args.index.now in
-    subst (λ (u : Top). IsTop i u (any (sides_on c.end_sides.new.tops c.end_sides.new.nodes))) (sym c.end_sides.ensures.top) (any_ended_top i (sides_on c.end_sides.new.tops c.end_sides.new.nodes) c.end_sides.ensures.over)
-
-pub seek_some-returns-then-head-ge-END-clause-sound : goal.seek_some-returns-then-head-ge-END-clause-sound
-seek_some-returns-then-head-ge-END-clause-sound g t c =
-    any_ended_sound c.args.index.now (sides_on c.end_sides.new.tops c.end_sides.new.nodes) c.end_sides.ensures.over
-
-pub seek_some-returns-then-head-ge-END-clause-covers : goal.seek_some-returns-then-head-ge-END-clause-covers
-seek_some-returns-then-head-ge-END-clause-covers g t c =
-    let i = c.args.index.now in
-    any_gone i c.args.target c.args.need c.requires.needed c.args.spent.now (sides_on c.args.tops.now c.args.nodes.now) c.lead-head.result c.lead-head.new.spent (sides_on c.lead-head.new.tops c.lead-head.new.nodes) (sides_on c.end_sides.new.tops c.end_sides.new.nodes) c.requires.sides.sides (omega (arith, c.if-head-ge-END.true))
-    (any_led i c.args.target c.args.need c.requires.needed c.args.spent.now (sides_on c.args.tops.now c.args.nodes.now) c.matches.from c.lead-head.result c.matches.spent c.lead-head.new.spent (sides_on c.matches.tops c.matches.nodes) (sides_on c.lead-head.new.tops c.lead-head.new.nodes) c.matches.invariant.within
-    c.matches.invariant.far c.lead-head.ensures.led c.lead-head.ensures.sound c.lead-head.ensures.falls c.lead-head.ensures.smaller c.lead-head.ensures.kept)
-    c.end_sides.ensures.over
+pub seek_some-returns-then-head-ge-END-clause-lands : goal.seek_some-returns-then-head-ge-END-clause-lands
+seek_some-returns-then-head-ge-END-clause-lands g t c =
+    record {
+      top =
+          let i = c.args.index.now in
+          subst (λ (u : Top). IsTop i u (any (sides_on c.end_sides.new.tops c.end_sides.new.nodes))) (sym c.end_sides.ensures.top) (any_ended_top i (sides_on c.end_sides.new.tops c.end_sides.new.nodes) c.end_sides.ensures.over);
+      sound = any_ended_sound c.args.index.now (sides_on c.end_sides.new.tops c.end_sides.new.nodes) c.end_sides.ensures.over;
+      covers =
+          let i = c.args.index.now in
+          any_gone i c.args.target c.args.need c.requires.needed c.args.spent.now (sides_on c.args.tops.now c.args.nodes.now) c.lead-head.result c.lead-head.new.spent (sides_on c.lead-head.new.tops c.lead-head.new.nodes) (sides_on c.end_sides.new.tops c.end_sides.new.nodes) c.requires.sides.sides (omega (arith, c.if-head-ge-END.true))
+          (any_led i c.args.target c.args.need c.requires.needed c.args.spent.now (sides_on c.args.tops.now c.args.nodes.now) c.matches.from c.lead-head.result c.matches.spent c.lead-head.new.spent (sides_on c.matches.tops c.matches.nodes) (sides_on c.lead-head.new.tops c.lead-head.new.nodes) c.matches.invariant.within
+          c.matches.invariant.far c.lead-head.ensures.led c.lead-head.ensures.moved.sound c.lead-head.ensures.moved.falls c.lead-head.ensures.moved.smaller c.lead-head.ensures.moved.kept)
+          c.end_sides.ensures.over;
+      reached = omega (arith, ap (λ (u : Top). u.head) c.end_sides.ensures.top, c.requires.target);
+    }
 
 pub seek_some-returns-then-head-ge-END-clause-spends : goal.seek_some-returns-then-head-ge-END-clause-spends
 seek_some-returns-then-head-ge-END-clause-spends g t c = record {
@@ -737,29 +755,28 @@ seek_some-returns-then-head-ge-END-clause-stays g t c =
     let i = c.args.index.now in
     any_gone_stays i c.args.target c.args.need c.requires.needed c.args.spent.now (sides_on c.args.tops.now c.args.nodes.now) c.lead-head.result c.lead-head.new.spent (sides_on c.lead-head.new.tops c.lead-head.new.nodes) (sides_on c.end_sides.new.tops c.end_sides.new.nodes)
     (any_led i c.args.target c.args.need c.requires.needed c.args.spent.now (sides_on c.args.tops.now c.args.nodes.now) c.matches.from c.lead-head.result c.matches.spent c.lead-head.new.spent (sides_on c.matches.tops c.matches.nodes) (sides_on c.lead-head.new.tops c.lead-head.new.nodes) c.matches.invariant.within
-    c.matches.invariant.far c.lead-head.ensures.led c.lead-head.ensures.sound c.lead-head.ensures.falls c.lead-head.ensures.smaller c.lead-head.ensures.kept)
+    c.matches.invariant.far c.lead-head.ensures.led c.lead-head.ensures.moved.sound c.lead-head.ensures.moved.falls c.lead-head.ensures.moved.smaller c.lead-head.ensures.moved.kept)
     c.end_sides.ensures.over
 
-pub seek_some-returns-then-from-ge-END-clause-top : goal.seek_some-returns-then-from-ge-END-clause-top
-seek_some-returns-then-from-ge-END-clause-top g t c =
-    let i = c.args.index.now in
-    subst (λ (u : Top). IsTop i u (any (sides_on c.end_sides-then-from-ge-END.new.tops c.end_sides-then-from-ge-END.new.nodes))) (sym c.end_sides-then-from-ge-END.ensures.top) (any_ended_top i (sides_on c.end_sides-then-from-ge-END.new.tops c.end_sides-then-from-ge-END.new.nodes) c.end_sides-then-from-ge-END.ensures.over)
-
-pub seek_some-returns-then-from-ge-END-clause-sound : goal.seek_some-returns-then-from-ge-END-clause-sound
-seek_some-returns-then-from-ge-END-clause-sound g t c =
-    any_ended_sound c.args.index.now (sides_on c.end_sides-then-from-ge-END.new.tops c.end_sides-then-from-ge-END.new.nodes) c.end_sides-then-from-ge-END.ensures.over
-
-pub seek_some-returns-then-from-ge-END-clause-covers : goal.seek_some-returns-then-from-ge-END-clause-covers
-seek_some-returns-then-from-ge-END-clause-covers g t c =
-    let i = c.args.index.now in
-    any_gone i c.args.target c.args.need c.requires.needed c.args.spent.now (sides_on c.args.tops.now c.args.nodes.now) (c.lead-head.result + 1) c.weigh-weight.new.spent (sides_on c.weigh-weight.new.tops c.weigh-weight.new.nodes) (sides_on c.end_sides-then-from-ge-END.new.tops c.end_sides-then-from-ge-END.new.nodes) c.requires.sides.sides (omega (arith, c.if-from-ge-END.true))
-    (any_on i c.args.target c.args.need c.requires.needed c.args.spent.now (sides_on c.args.tops.now c.args.nodes.now) c.lead-head.result c.weigh-weight.new.spent c.weigh-weight.result (sides_on c.lead-head.new.tops c.lead-head.new.nodes) (sides_on c.weigh-weight.new.tops c.weigh-weight.new.nodes)
-    (any_weighed i c.args.target c.args.need c.requires.needed c.args.spent.now (sides_on c.args.tops.now c.args.nodes.now) c.lead-head.result c.lead-head.new.spent c.weigh-weight.new.spent c.weigh-weight.result (sides_on c.lead-head.new.tops c.lead-head.new.nodes) (sides_on c.weigh-weight.new.tops c.weigh-weight.new.nodes) (omega (arith, c.if-head-ge-END.false))
-    (any_led i c.args.target c.args.need c.requires.needed c.args.spent.now (sides_on c.args.tops.now c.args.nodes.now) c.matches.from c.lead-head.result c.matches.spent c.lead-head.new.spent (sides_on c.matches.tops c.matches.nodes) (sides_on c.lead-head.new.tops c.lead-head.new.nodes) c.matches.invariant.within
-    c.matches.invariant.far c.lead-head.ensures.led c.lead-head.ensures.sound c.lead-head.ensures.falls c.lead-head.ensures.smaller c.lead-head.ensures.kept)
-    c.weigh-weight.ensures.weighed c.weigh-weight.ensures.sound c.weigh-weight.ensures.falls c.weigh-weight.ensures.smaller c.weigh-weight.ensures.kept)
-    c.weigh-weight.ensures.weighed (omega (arith, c.if-weight-need.false)))
-    c.end_sides-then-from-ge-END.ensures.over
+pub seek_some-returns-then-from-ge-END-clause-lands : goal.seek_some-returns-then-from-ge-END-clause-lands
+seek_some-returns-then-from-ge-END-clause-lands g t c =
+    record {
+      top =
+          let i = c.args.index.now in
+          subst (λ (u : Top). IsTop i u (any (sides_on c.end_sides-then-from-ge-END.new.tops c.end_sides-then-from-ge-END.new.nodes))) (sym c.end_sides-then-from-ge-END.ensures.top) (any_ended_top i (sides_on c.end_sides-then-from-ge-END.new.tops c.end_sides-then-from-ge-END.new.nodes) c.end_sides-then-from-ge-END.ensures.over);
+      sound = any_ended_sound c.args.index.now (sides_on c.end_sides-then-from-ge-END.new.tops c.end_sides-then-from-ge-END.new.nodes) c.end_sides-then-from-ge-END.ensures.over;
+      covers =
+          let i = c.args.index.now in
+          any_gone i c.args.target c.args.need c.requires.needed c.args.spent.now (sides_on c.args.tops.now c.args.nodes.now) (c.lead-head.result + 1) c.weigh-weight.new.spent (sides_on c.weigh-weight.new.tops c.weigh-weight.new.nodes) (sides_on c.end_sides-then-from-ge-END.new.tops c.end_sides-then-from-ge-END.new.nodes) c.requires.sides.sides (omega (arith, c.if-from-ge-END.true))
+          (any_on i c.args.target c.args.need c.requires.needed c.args.spent.now (sides_on c.args.tops.now c.args.nodes.now) c.lead-head.result c.weigh-weight.new.spent c.weigh-weight.result (sides_on c.lead-head.new.tops c.lead-head.new.nodes) (sides_on c.weigh-weight.new.tops c.weigh-weight.new.nodes)
+          (any_weighed i c.args.target c.args.need c.requires.needed c.args.spent.now (sides_on c.args.tops.now c.args.nodes.now) c.lead-head.result c.lead-head.new.spent c.weigh-weight.new.spent c.weigh-weight.result (sides_on c.lead-head.new.tops c.lead-head.new.nodes) (sides_on c.weigh-weight.new.tops c.weigh-weight.new.nodes) (omega (arith, c.if-head-ge-END.false))
+          (any_led i c.args.target c.args.need c.requires.needed c.args.spent.now (sides_on c.args.tops.now c.args.nodes.now) c.matches.from c.lead-head.result c.matches.spent c.lead-head.new.spent (sides_on c.matches.tops c.matches.nodes) (sides_on c.lead-head.new.tops c.lead-head.new.nodes) c.matches.invariant.within
+          c.matches.invariant.far c.lead-head.ensures.led c.lead-head.ensures.moved.sound c.lead-head.ensures.moved.falls c.lead-head.ensures.moved.smaller c.lead-head.ensures.moved.kept)
+          c.weigh-weight.ensures.weighed c.weigh-weight.ensures.moved.sound c.weigh-weight.ensures.moved.falls c.weigh-weight.ensures.moved.smaller c.weigh-weight.ensures.moved.kept)
+          c.weigh-weight.ensures.weighed (omega (arith, c.if-weight-need.false)))
+          c.end_sides-then-from-ge-END.ensures.over;
+      reached = omega (arith, ap (λ (u : Top). u.head) c.end_sides-then-from-ge-END.ensures.top, c.requires.target);
+    }
 
 pub seek_some-returns-then-from-ge-END-clause-spends : goal.seek_some-returns-then-from-ge-END-clause-spends
 seek_some-returns-then-from-ge-END-clause-spends g t c = record {
@@ -778,22 +795,28 @@ seek_some-returns-then-from-ge-END-clause-stays g t c =
     (any_on i c.args.target c.args.need c.requires.needed c.args.spent.now (sides_on c.args.tops.now c.args.nodes.now) c.lead-head.result c.weigh-weight.new.spent c.weigh-weight.result (sides_on c.lead-head.new.tops c.lead-head.new.nodes) (sides_on c.weigh-weight.new.tops c.weigh-weight.new.nodes)
     (any_weighed i c.args.target c.args.need c.requires.needed c.args.spent.now (sides_on c.args.tops.now c.args.nodes.now) c.lead-head.result c.lead-head.new.spent c.weigh-weight.new.spent c.weigh-weight.result (sides_on c.lead-head.new.tops c.lead-head.new.nodes) (sides_on c.weigh-weight.new.tops c.weigh-weight.new.nodes) (omega (arith, c.if-head-ge-END.false))
     (any_led i c.args.target c.args.need c.requires.needed c.args.spent.now (sides_on c.args.tops.now c.args.nodes.now) c.matches.from c.lead-head.result c.matches.spent c.lead-head.new.spent (sides_on c.matches.tops c.matches.nodes) (sides_on c.lead-head.new.tops c.lead-head.new.nodes) c.matches.invariant.within
-    c.matches.invariant.far c.lead-head.ensures.led c.lead-head.ensures.sound c.lead-head.ensures.falls c.lead-head.ensures.smaller c.lead-head.ensures.kept)
-    c.weigh-weight.ensures.weighed c.weigh-weight.ensures.sound c.weigh-weight.ensures.falls c.weigh-weight.ensures.smaller c.weigh-weight.ensures.kept)
+    c.matches.invariant.far c.lead-head.ensures.led c.lead-head.ensures.moved.sound c.lead-head.ensures.moved.falls c.lead-head.ensures.moved.smaller c.lead-head.ensures.moved.kept)
+    c.weigh-weight.ensures.weighed c.weigh-weight.ensures.moved.sound c.weigh-weight.ensures.moved.falls c.weigh-weight.ensures.moved.smaller c.weigh-weight.ensures.moved.kept)
     c.weigh-weight.ensures.weighed (omega (arith, c.if-weight-need.false)))
     c.end_sides-then-from-ge-END.ensures.over
 
-pub seek_some-returns-then-weight-need-clause-top : goal.seek_some-returns-then-weight-need-clause-top
-seek_some-returns-then-weight-need-clause-top g t c =
-    let i = c.args.index.now in
-    any_top i (sides_on c.weigh-weight.new.tops c.weigh-weight.new.nodes) _ c.weigh-weight.ensures.sound
-    (any_matches i c.args.target c.args.need c.requires.needed c.args.spent.now (sides_on c.args.tops.now c.args.nodes.now) c.lead-head.result c.weigh-weight.new.spent c.weigh-weight.result (sides_on c.lead-head.new.tops c.lead-head.new.nodes) (sides_on c.weigh-weight.new.tops c.weigh-weight.new.nodes) (omega (arith, c.if-head-ge-END.false))
-    (any_weighed i c.args.target c.args.need c.requires.needed c.args.spent.now (sides_on c.args.tops.now c.args.nodes.now) c.lead-head.result c.lead-head.new.spent c.weigh-weight.new.spent c.weigh-weight.result (sides_on c.lead-head.new.tops c.lead-head.new.nodes) (sides_on c.weigh-weight.new.tops c.weigh-weight.new.nodes) (omega (arith, c.if-head-ge-END.false))
-    (any_led i c.args.target c.args.need c.requires.needed c.args.spent.now (sides_on c.args.tops.now c.args.nodes.now) c.matches.from c.lead-head.result c.matches.spent c.lead-head.new.spent (sides_on c.matches.tops c.matches.nodes) (sides_on c.lead-head.new.tops c.lead-head.new.nodes) c.matches.invariant.within
-    c.matches.invariant.far c.lead-head.ensures.led c.lead-head.ensures.sound c.lead-head.ensures.falls c.lead-head.ensures.smaller c.lead-head.ensures.kept)
-    c.weigh-weight.ensures.weighed c.weigh-weight.ensures.sound c.weigh-weight.ensures.falls c.weigh-weight.ensures.smaller c.weigh-weight.ensures.kept)
-    c.weigh-weight.ensures.weighed (omega (arith, c.if-weight-need.true)))
-    c.odd_greatest-top.ensures.there c.odd_greatest-top.ensures.ended
+pub seek_some-returns-then-weight-need-clause-lands : goal.seek_some-returns-then-weight-need-clause-lands
+seek_some-returns-then-weight-need-clause-lands g t c =
+    record {
+      top =
+          let i = c.args.index.now in
+          any_top i (sides_on c.weigh-weight.new.tops c.weigh-weight.new.nodes) _ c.weigh-weight.ensures.moved.sound
+          (any_matches i c.args.target c.args.need c.requires.needed c.args.spent.now (sides_on c.args.tops.now c.args.nodes.now) c.lead-head.result c.weigh-weight.new.spent c.weigh-weight.result (sides_on c.lead-head.new.tops c.lead-head.new.nodes) (sides_on c.weigh-weight.new.tops c.weigh-weight.new.nodes) (omega (arith, c.if-head-ge-END.false))
+          (any_weighed i c.args.target c.args.need c.requires.needed c.args.spent.now (sides_on c.args.tops.now c.args.nodes.now) c.lead-head.result c.lead-head.new.spent c.weigh-weight.new.spent c.weigh-weight.result (sides_on c.lead-head.new.tops c.lead-head.new.nodes) (sides_on c.weigh-weight.new.tops c.weigh-weight.new.nodes) (omega (arith, c.if-head-ge-END.false))
+          (any_led i c.args.target c.args.need c.requires.needed c.args.spent.now (sides_on c.args.tops.now c.args.nodes.now) c.matches.from c.lead-head.result c.matches.spent c.lead-head.new.spent (sides_on c.matches.tops c.matches.nodes) (sides_on c.lead-head.new.tops c.lead-head.new.nodes) c.matches.invariant.within
+          c.matches.invariant.far c.lead-head.ensures.led c.lead-head.ensures.moved.sound c.lead-head.ensures.moved.falls c.lead-head.ensures.moved.smaller c.lead-head.ensures.moved.kept)
+          c.weigh-weight.ensures.weighed c.weigh-weight.ensures.moved.sound c.weigh-weight.ensures.moved.falls c.weigh-weight.ensures.moved.smaller c.weigh-weight.ensures.moved.kept)
+          c.weigh-weight.ensures.weighed (omega (arith, c.if-weight-need.true)))
+          c.odd_greatest-top.ensures.there c.odd_greatest-top.ensures.ended;
+      sound = search rules;
+      covers = search rules;
+      reached = omega arith;
+    }
 
 pub lead-returns-then-most-need-clause-led : goal.lead-returns-then-most-need-clause-led
 lead-returns-then-most-need-clause-led g t c =
@@ -809,12 +832,12 @@ weigh-returns-in-Some-split_first_mut-clause-weighed g t c =
     subst (λ (ss : Sides). AreWeighed i c.args.need c.args.id c.args.others c.weigh.result ss (side c.reach.new.top (shape_of c.reach.new.node) (sides_on c.weigh.new.tops c.weigh.new.nodes)))
     (sym (sides_cons c.args.tops.now c.in-Some.tops.now c.args.nodes.now c.in-Some-split_first_mut.nodes.now _ _ c.in-Some.ensures.cases c.in-Some-split_first_mut.ensures.cases))
     (weighed_more i c.args.need c.args.id c.args.others c.weight_at.result c.weigh.result _ _ (sides_on c.in-Some.tops.now c.in-Some-split_first_mut.nodes.now) c.reach.new.top (shape_of c.reach.new.node) (sides_on c.weigh.new.tops c.weigh.new.nodes)
-    c.reach.ensures.top c.reach.ensures.reached c.reach.ensures.covers
-    (c.weight_at.ensures.there (rest i (shape_of c.reach.new.node)) c.reach.ensures.top.head c.reach.ensures.reached c.requires.id) c.weigh.ensures.weighed)
+    c.reach.ensures.lands.top c.reach.ensures.lands.reached c.reach.ensures.lands.covers
+    (c.weight_at.ensures.there (rest i (shape_of c.reach.new.node)) c.reach.ensures.lands.top.head c.reach.ensures.lands.reached c.requires.id) c.weigh.ensures.weighed)
 
 pub seek_all-returns-clause-leads : goal.seek_all-returns-clause-leads
 seek_all-returns-clause-leads g t c =
-    any_leads c.args.index.now c.args.target c.args._need c.args.spent.now c.reach_all.new.spent (sides_on c.args.tops.now c.args.nodes.now) (sides_on c.reach_all.new.tops c.reach_all.new.nodes) c.reach_all.ensures.kept
+    any_leads c.args.index.now c.args.target c.args._need c.args.spent.now c.reach_all.new.spent (sides_on c.args.tops.now c.args.nodes.now) (sides_on c.reach_all.new.tops c.reach_all.new.nodes) c.reach_all.ensures.moved.kept
 
 pub seek_some-returns-then-head-ge-END-clause-leads : goal.seek_some-returns-then-head-ge-END-clause-leads
 seek_some-returns-then-head-ge-END-clause-leads g t c =

@@ -1,5 +1,5 @@
 -- How large the nodes are, and how far two sides have come.
-use Rattle.std.proofs.Common.{◌≡◌, ◌≤◌, ◌<◌, ◌+◌, ◌^◌, ◌-◌, ◌*◌}
+use Rattle.std.proofs.Common.{◌<◌, ◌+◌, ◌^◌, ◌-◌, ◌*◌}
 use Rattle.sk_nodes.specs.Accounts.{Spends}
 use Rattle.sk_nodes.specs.Shapes.{shape_of, size_of, sides_on, sizes_in}
 use Rattle.sk_nodes.specs.Left.{unread_of, unread_in}

@@ -28,7 +28,7 @@ returns-clause-exact g c none =
     let i = c.args.index.now in
     left_exact i c.args.target (shape_of c.args.self.now.node) (shape_of c.reach.new.node) c.requires.tree.documents
     (subst (λ n. Covers (from_on c.args.target (rest i (shape_of c.args.self.now.node))) (rest i (shape_of c.reach.new.node)) n) none
-    (subst (λ n. Covers (from_on n (rest i (shape_of c.args.self.now.node))) (rest i (shape_of c.reach.new.node)) c.args.need) c.from.ensures c.reach.ensures.covers))
+    (subst (λ n. Covers (from_on n (rest i (shape_of c.args.self.now.node))) (rest i (shape_of c.reach.new.node)) c.args.need) c.from.ensures c.reach.ensures.lands.covers))
 
 pub returns-then-self-need-clause-stops : goal.returns-then-self-need-clause-stops
 returns-then-self-need-clause-stops g c point most stops may =
