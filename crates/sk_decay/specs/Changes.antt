@@ -129,8 +129,8 @@ TakesOpen Change.Both a_ended b_ended = Unit {0}
 TakesOpen Change.Not a_ended b_ended = Unit {0}
 TakesOpen Change.NotSwap a_ended b_ended = Unit {0}
 
--- A change may stand for two sides under a form and a need: what it gives is what they give as far as it weighs what is needed, and it
--- weighs no more; the side that leads goes on leading, and no side goes on alone that has ended.
+-- A change may stand for two sides under a form and a need: what it gives covers what they give, and it can weigh no more; another form
+-- comes by the need alone, the second side leads only where the first did not, and no side goes on alone that has ended.
 pub record Serves (change : Change) (form : Form) (a b : ℕ) (a_ended b_ended : Bool) (need : ℕ) : Type 0 where
   pub covers : (v w : Option ℕ) → IsSide a a_ended v → IsSide b b_ended w → CoversAt (paired form v w) (changed change form v w) need
   pub falls : changed_greatest change form a b ≤ greatest_under form a b

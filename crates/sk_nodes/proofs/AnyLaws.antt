@@ -11,7 +11,7 @@ use Rattle.sk_decay.specs.Heads.{IsHead}
 use Rattle.sk_nodes.specs.declared.top.Top.{Top}
 use Rattle.sk_nodes.specs.Shapes.{Shape, ended, leaf, span, pair, odd, any, tested, Sides, no_sides, side, size_of, sizes_in}
 use Rattle.sk_nodes.specs.Left.{rest, rests, from_on, unread_of, unread_in, greatest_sum}
-use Rattle.sk_nodes.specs.Sound.{IsTop, IsOdd, Sound, AreSound}
+use Rattle.sk_nodes.specs.Sound.{IsTop, IsOdd, Sound, AreSound, Lands}
 use Rattle.sk_nodes.specs.Odd.{AreSought, followed_by}
 use Rattle.sk_nodes.specs.Flat.{room_to, rooms_to, IsFlat, AreFlat, AreNests, MayGo, Stays}
 use Rattle.sk_nodes.specs.Led.{follow_rooms, Leads}
@@ -464,6 +464,16 @@ any_ended_top i ss over = record {
 
 pub any_ended_sound : (i : Indexed) (ss : Sides) → AreEnded ss → IsOdd ss (AreSound i ss)
 any_ended_sound i ss over = record { sides = ended_sound i ss over; fits = omega (arith, ended_greatest ss over) }
+
+-- sides of which nothing is left, where what they gave weighs too little
+pub ended_lands : (i : Indexed) (target need : ℕ) (before : Shape) (ss : Sides) (t : Top) → t ≡ record { head = 2 ^ 32; weight = 0; greatest = 0 } → AreEnded ss → target < 2 ^ 32
+    → Covers (from_on target (rest i before)) (rest i (any ss)) need → Lands i target need before (any ss) t
+ended_lands i target need before ss t is over lt covers = record {
+  top = subst (λ (u : Top). IsTop i u (any ss)) (sym is) (any_ended_top i ss over);
+  sound = any_ended_sound i ss over;
+  covers = covers;
+  reached = omega (arith, ap (λ (u : Top). u.head) is, lt);
+}
 
 -- sides that were moved on from 0 without a need
 pub any_gives : (i : Indexed) (id : ℕ) (old new : Sides) → Covers (from_on 0 (rest i (any old))) (rest i (any new)) 0 → rest i (any new) id ≡ combined Form.Or (rests i old id)

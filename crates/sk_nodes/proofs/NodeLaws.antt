@@ -1,5 +1,5 @@
 -- What nodes give, and what a change and a move leave of it.
-use Rattle.std.proofs.Common.{min, ◌==◌, ◌≡◌, ◌≤◌, ◌<◌, ◌+◌, ◌^◌, ℕ, Bool, true, false, Option, None, Some, unwrap_or, if◌then◌else◌, inl, inr, refl, sym, subst, ap, ◌∙◌, arith, rules, le_refl, List, length, Box, Vec, Global}
+use Rattle.std.proofs.Common.{min, ◌==◌, ◌≡◌, ◌≤◌, ◌<◌, ◌^◌, ℕ, Bool, true, false, Option, None, Some, unwrap_or, if◌then◌else◌, inl, inr, refl, sym, subst, ap, ◌∙◌, arith, rules, le_refl, List, length, Box, Vec, Global}
 use Rattle.std.specs.Vec.{with_items}
 use Rattle.std.proofs.lemmas.Bool.{cases_lt}
 use Rattle.std.proofs.lemmas.List.{with_items_is}
@@ -22,7 +22,8 @@ use Rattle.sk_nodes.specs.Shapes.{Shape, ended, leaf, pair, odd, any, tested, sh
 use Rattle.sk_nodes.specs.Decayed.{changed_pair, decayed}
 use Rattle.sk_nodes.specs.Left.{rest, from_on, unread_of}
 use Rattle.sk_nodes.specs.Skips.{IsLight}
-use Rattle.sk_nodes.specs.Sound.{IsTop, IsPair, Sound, Replaces}
+use Rattle.sk_nodes.specs.Accounts.{Spends}
+use Rattle.sk_nodes.specs.Sound.{IsTop, IsPair, Sound, Replaces, Lands}
 use Rattle.sk_nodes.proofs.LeafLaws.{from_on-at, from_on-below, from_cases, covers_none}
 
 -- ---- the shapes of nodes
@@ -371,15 +372,20 @@ decays_swapped i need form other ta a tb b a_ended b_ended first second sound co
   unread = omega arith;
 }
 
-pub covers_along : (i : Indexed) (target need : ℕ) (old new s t : Shape) → old ≡ s → new ≡ t → Covers (from_on target (rest i s)) (rest i t) need → Covers (from_on target (rest i old)) (rest i new) need
-covers_along i target need old new s t e f covers =
-    subst (λ o. Covers (from_on target (rest i o)) (rest i new) need) (sym e) (subst (λ n. Covers (from_on target (rest i s)) (rest i n) need) (sym f) covers)
+pub lands_along : (i : Indexed) (target need : ℕ) (old new s t : Shape) (top : Top) → old ≡ s → new ≡ t → Lands i target need s t top → Lands i target need old new top
+lands_along i target need old new s t top e f lands =
+    subst (λ (o : Shape). Lands i target need o new top) (sym e) (subst (λ (n : Shape). Lands i target need s n top) (sym f) lands)
 
 pub size_along : (old new s t : Shape) → old ≡ s → new ≡ t → size_of t ≤ size_of s → size_of new ≤ size_of old
 size_along old new s t e f le = omega (arith, ap size_of e, ap size_of f, le)
 
-pub paid_along : (i : Indexed) (old new s t : Shape) (before after : ℕ) → old ≡ s → new ≡ t → after + unread_of i t ≤ before + unread_of i s → after + unread_of i new ≤ before + unread_of i old
-paid_along i old new s t before after e f le = omega (arith, ap (unread_of i) e, ap (unread_of i) f, le)
+pub spends_along : (i : Indexed) (old new s t : Shape) (before after steps more : ℕ) → old ≡ s → new ≡ t → Spends (unread_of i s) (unread_of i t) before after steps more
+    → Spends (unread_of i old) (unread_of i new) before after steps more
+spends_along i old new s t before after steps more e f spends = record {
+  paid = omega (arith, ap (unread_of i) e, ap (unread_of i) f, spends.paid);
+  counted = spends.counted;
+  later = spends.later;
+}
 
 -- two sides that have gone on
 pub sides_more : (i : Indexed) (form : Form) (target need from further : ℕ) (ta0 : Top) (a0 : Shape) (tb0 : Top) (b0 : Shape) (ta : Top) (a : Shape) (tb : Top) (b : Shape) (ua : Top) (c : Shape) (ub : Top) (d : Shape)

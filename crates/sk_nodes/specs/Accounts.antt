@@ -2,13 +2,14 @@
 use Rattle.std.specs.Prelude.{◌≡◌, ◌≤◌, ◌+◌, ℕ}
 
 -- What was spent was left unread before, each reading of it is counted, and none is taken back.
-pub record Spends (unread left before after steps more : ℕ) : Type 0 where
-  pub paid : after + left ≤ before + unread
-  pub counted : more + before ≡ steps + after
-  pub later : before ≤ after
+pub record Spends (unread left spent spent_after steps steps_after : ℕ) : Type 0 where
+  pub paid : spent_after + left ≤ spent + unread
+  pub counted : steps_after + spent ≡ steps + spent_after
+  pub later : spent ≤ spent_after
 
--- What an opening spent and left unread is no more than `most` rose by, and that no more than the readings of its leaves.
-pub record Pays (before after most more unread readings : ℕ) : Type 0 where
-  pub paid : after + unread + most ≤ before + more
-  pub within : more ≤ most + readings
-  pub room : after ≤ more
+-- What an opening spent and left unread is no more than `most` rose by, that no more than the readings of its leaves, and all that is spent
+-- no more than `most`.
+pub record Pays (spent spent_after most most_after unread readings : ℕ) : Type 0 where
+  pub paid : spent_after + unread + most ≤ spent + most_after
+  pub within : most_after ≤ most + readings
+  pub room : spent_after ≤ most_after

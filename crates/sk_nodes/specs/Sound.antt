@@ -70,7 +70,8 @@ pub record Replaces (i : Indexed) (need : ℕ) (old new : Shape) : Type 0 where
   pub smaller : size_of new ≤ size_of old
   pub unread : unread_of i new ≤ unread_of i old
 
--- A node was moved on to a target under a need: it gives what it gave from there on, as far as that weighs what is needed.
+-- A node was moved on to a target under a need: what it gives covers what it gave from there on, and its top, which stands at the target
+-- or behind it, is that of what it gives.
 pub record Lands (i : Indexed) (target need : ℕ) (before after : Shape) (t : Top) : Type 0 where
   pub top : IsTop i t after
   pub sound : Sound i after

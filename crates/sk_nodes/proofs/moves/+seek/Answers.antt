@@ -1,5 +1,5 @@
 -- Two sides, how far they have come and where they meet.
-use Rattle.std.proofs.Common.{◌≡◌, ◌+◌, ◌^◌, ◌++◌, refl, sym, subst, ap, ◌∙◌, Box, Vec, Global, arith, rules}
+use Rattle.std.proofs.Common.{◌≡◌, ◌+◌, ◌^◌, ◌++◌, refl, sym, subst, ap, ◌∙◌, Box, Vec, Global, arith, rules, None, inr}
 use Rattle.std.proofs.lemmas.List.{places}
 use Rattle.sk_model.specs.Covers.{Covers}
 use Rattle.sk_nodes.specs.declared.top.Top.{Top}
@@ -9,22 +9,19 @@ use Rattle.sk_nodes.specs.Left.{rest, from_on, greatest_sum, unread_in}
 use Rattle.sk_nodes.specs.Sound.{IsTop, Sound, AreSound, IsTested}
 use Rattle.sk_nodes.specs.Odd.{AreFrom, AreSought, followed_by}
 use Rattle.sk_nodes.proofs.LeafLaws.{AtMost-covers}
-use Rattle.sk_nodes.proofs.NodeLaws.{covers_more, capped_top, shape_of-Nothing, shape_of-Leaf, shape_of-Pair, leaf_shape, shape_of-Tested, tested_shape, parts_shape, covers_along, weight_le, target_ended, head_reached, pair_top, pair_top_ended, sides_covers, sides_covers_ended, sides_begun, sides_more, size_along, paid_along}
+use Rattle.sk_nodes.proofs.NodeLaws.{covers_more, capped_top, shape_of-Nothing, shape_of-Leaf, shape_of-Pair, leaf_shape, shape_of-Tested, tested_shape, parts_shape, lands_along, weight_le, target_ended, head_reached, pair_top, pair_top_ended, sides_covers, sides_covers_ended, sides_begun, sides_more, size_along, spends_along, pair_covers, odd_shape, odd_written, any_shape, any_written}
 use Rattle.sk_nodes.proofs.OddLaws.{weights_fit, sides_cons, odd_covers, odd_more, odd_top, sides_split, sides_append, both_sound, sound_behind, from_behind, sought_behind, greatest_behind, unread_behind, sizes_behind, some_sizes}
 use Rattle.sk_nodes.specs.Proximity.{entries_from}
 use Rattle.sk_nodes.proofs.ProximityLaws.{test_begun, moved_all, moved_covers, passed_top, passed_sound, passed_covers, none_top, failed_ended_covers, failed_ended_sound, failed_more}
 use Rattle.sk_nodes.specs.Flat.{Stays}
-use Rattle.sk_nodes.proofs.NodeLaws.{pair_covers, odd_shape, odd_written, any_shape, any_written}
 use Rattle.sk_nodes.proofs.StopLaws.{stays_same, stays_decayed, stays_along, stays_begun, stays_then, stays_on, stays_other, round_stays, round_ended}
-use Rattle.std.proofs.Common.{None, inr}
-use Rattle.sk_nodes.specs.Led.{IsLed, Leads}
+use Rattle.sk_nodes.specs.Led.{IsLed, Leads, IsLone}
 use Rattle.sk_nodes.proofs.RareLaws.{leads_same, leads_decayed, leads_along, leads_other, leads_begun, leads_then, leads_on, led_round, led_round_ended, decayed_led, at_along, meets_lead}
 use Rattle.sk_nodes.specs.Fading.{Moves}
-use Rattle.sk_nodes.specs.Led.{IsLone}
 use Rattle.sk_nodes.proofs.FadingLaws.{moves_same, moves_decayed, fades_other, fades_along, under_same, under_leaf, under_moved, fades_begun, fades_half, fades_both, fades_on}
 use Rattle.sk_nodes.proofs.SkipLaws.{sides_skipped, stays_skipped, leads_skipped, fades_skipped}
 use Rattle.sk_nodes.specs.Any.{AreKept, AreWeighed}
-use Rattle.sk_nodes.proofs.AnyLaws.{none_head, any_leads, any_leads_needed, any_top, any_covers, any_stays, kept_behind, led_none, weighed_light, weighed_more, any_begun, any_led, any_weighed, any_on, any_matches, any_gone, any_gone_stays, any_ended_top, any_ended_sound, ended_unread}
+use Rattle.sk_nodes.proofs.AnyLaws.{none_head, any_leads, any_leads_needed, any_top, any_covers, any_stays, kept_behind, led_none, weighed_light, weighed_more, any_begun, any_led, any_weighed, any_on, any_matches, any_gone, any_gone_stays, ended_unread, ended_lands}
 use Rattle.sk_nodes.proofs.moves.+seek.Goals as goal
 
 pub reach_inner-returns-clause-lands : goal.reach_inner-returns-clause-lands
@@ -45,15 +42,9 @@ reach_inner-returns-clause-lands g t c =
 
 pub seek-returns-in-Pair-clause-lands : goal.seek-returns-in-Pair-clause-lands
 seek-returns-in-Pair-clause-lands g t c =
-    record {
-      top = subst (λ (s : Shape). IsTop c.args.index.now c.seek_sides.new.top s) (sym (shape_of-Pair _ _ _ _ _)) c.seek_sides.ensures.lands.top;
-      sound = subst (λ (s : Shape). Sound c.args.index.now s) (sym (shape_of-Pair _ _ _ _ _)) c.seek_sides.ensures.lands.sound;
-      covers =
-          covers_along c.args.index.now c.args.target c.args.need _ _ _ _
-          (parts_shape c.args.node.now c.in-Pair.form c.in-Pair.ta c.in-Pair.tb c.in-Pair.a c.in-Pair.b _ _ _ _ _ c.in-Pair.is c.in-Pair.form-is c.in-Pair.ta-is c.in-Pair.tb-is (c.deref_mut.ensures.value ∙ ap (λ (x : Box Node Global). x.value) c.in-Pair.a-is) (c.deref_mut-in-Pair.ensures.value ∙ ap (λ (x : Box Node Global). x.value) c.in-Pair.b-is))
-          (shape_of-Pair _ _ _ _ _) c.seek_sides.ensures.lands.covers;
-      reached = omega arith;
-    }
+    lands_along c.args.index.now c.args.target c.args.need _ _ _ _ _
+    (parts_shape c.args.node.now c.in-Pair.form c.in-Pair.ta c.in-Pair.tb c.in-Pair.a c.in-Pair.b _ _ _ _ _ c.in-Pair.is c.in-Pair.form-is c.in-Pair.ta-is c.in-Pair.tb-is (c.deref_mut.ensures.value ∙ ap (λ (x : Box Node Global). x.value) c.in-Pair.a-is) (c.deref_mut-in-Pair.ensures.value ∙ ap (λ (x : Box Node Global). x.value) c.in-Pair.b-is))
+    (shape_of-Pair _ _ _ _ _) c.seek_sides.ensures.lands
 
 pub seek-returns-in-Pair-clause-smaller : goal.seek-returns-in-Pair-clause-smaller
 seek-returns-in-Pair-clause-smaller g t c =
@@ -62,14 +53,10 @@ seek-returns-in-Pair-clause-smaller g t c =
     (shape_of-Pair _ _ _ _ _) (omega (arith, c.seek_sides.ensures.smaller))
 
 pub seek-returns-in-Pair-clause-spends : goal.seek-returns-in-Pair-clause-spends
-seek-returns-in-Pair-clause-spends g t c = record {
-  paid =
-      paid_along c.args.index.now _ _ _ _ c.args.spent.now c.seek_sides.new.spent
-      (parts_shape c.args.node.now c.in-Pair.form c.in-Pair.ta c.in-Pair.tb c.in-Pair.a c.in-Pair.b _ _ _ _ _ c.in-Pair.is c.in-Pair.form-is c.in-Pair.ta-is c.in-Pair.tb-is (c.deref_mut.ensures.value ∙ ap (λ (x : Box Node Global). x.value) c.in-Pair.a-is) (c.deref_mut-in-Pair.ensures.value ∙ ap (λ (x : Box Node Global). x.value) c.in-Pair.b-is))
-      (shape_of-Pair _ _ _ _ _) c.seek_sides.ensures.spends.paid;
-  counted = omega arith;
-  later = omega arith;
-}
+seek-returns-in-Pair-clause-spends g t c =
+    spends_along c.args.index.now _ _ _ _ _ _ _ _
+    (parts_shape c.args.node.now c.in-Pair.form c.in-Pair.ta c.in-Pair.tb c.in-Pair.a c.in-Pair.b _ _ _ _ _ c.in-Pair.is c.in-Pair.form-is c.in-Pair.ta-is c.in-Pair.tb-is (c.deref_mut.ensures.value ∙ ap (λ (x : Box Node Global). x.value) c.in-Pair.a-is) (c.deref_mut-in-Pair.ensures.value ∙ ap (λ (x : Box Node Global). x.value) c.in-Pair.b-is))
+    (shape_of-Pair _ _ _ _ _) c.seek_sides.ensures.spends
 
 pub seek_pair-returns-then-next-ge-END-clause-lands : goal.seek_pair-returns-then-next-ge-END-clause-lands
 seek_pair-returns-then-next-ge-END-clause-lands g t c =
@@ -241,11 +228,7 @@ seek_pair-sides-init g t c =
       leads = leads_skipped i c.args.form c.args.target c.args.need c.args.target c.skip-from.result ta a tb b ta a tb b skips spent spent (leads_begun i c.args.form c.args.target spent ta a tb b);
       stays = stays_skipped i c.args.form c.args.target c.args.need c.args.target c.skip-from.result ta a tb b ta a tb b skips spent spent (stays_begun i c.args.form c.args.target c.args.need spent ta a tb b);
       fades = fades_skipped i c.args.form c.args.target c.args.need c.args.target c.skip-from.result ta a tb b ta a tb b skips spent spent (fades_begun i c.args.form c.args.target spent ta a tb b);
-      spends = record {
-        paid = omega arith;
-        counted = omega arith;
-        later = omega arith;
-      };
+      spends = record { paid = omega arith; counted = omega arith; later = omega arith };
     }
 
 pub reach_all-reach_all-requires : goal.reach_all-reach_all-requires
@@ -315,11 +298,7 @@ pub seek_tested-tests-init : goal.seek_tested-tests-init
 seek_tested-tests-init g t c =
     record {
       far = test_begun c.args.index.now c.args.target c.args.need c.args.test.now c.args.below.now (shape_of c.args.node.now) c.requires.target c.requires.tested;
-      spends = record {
-        paid = omega arith;
-        counted = omega arith;
-        later = omega arith;
-      };
+      spends = record { paid = omega arith; counted = omega arith; later = omega arith };
     }
 
 pub seek_tested-passes-requires-clause-all : goal.seek_tested-passes-requires-clause-all
@@ -396,15 +375,9 @@ seek_tested-tests-preserved g t c =
 
 pub seek-returns-in-Tested-clause-lands : goal.seek-returns-in-Tested-clause-lands
 seek-returns-in-Tested-clause-lands g t c =
-    record {
-      top = subst (λ (s : Shape). IsTop c.args.index.now c.seek_tested.new.top s) (sym (shape_of-Tested _ _ _)) c.seek_tested.ensures.lands.top;
-      sound = subst (λ (s : Shape). Sound c.args.index.now s) (sym (shape_of-Tested _ _ _)) c.seek_tested.ensures.lands.sound;
-      covers =
-          covers_along c.args.index.now c.args.target c.args.need _ _ _ _
-          (tested_shape c.args.node.now c.in-Tested.test c.in-Tested.below c.in-Tested.node _ _ _ c.in-Tested.is c.in-Tested.test-is c.in-Tested.below-is (c.deref_mut-in-Tested.ensures.value ∙ ap (λ (x : Box Node Global). x.value) c.in-Tested.node-is))
-          (shape_of-Tested _ _ _) c.seek_tested.ensures.lands.covers;
-      reached = omega arith;
-    }
+    lands_along c.args.index.now c.args.target c.args.need _ _ _ _ _
+    (tested_shape c.args.node.now c.in-Tested.test c.in-Tested.below c.in-Tested.node _ _ _ c.in-Tested.is c.in-Tested.test-is c.in-Tested.below-is (c.deref_mut-in-Tested.ensures.value ∙ ap (λ (x : Box Node Global). x.value) c.in-Tested.node-is))
+    (shape_of-Tested _ _ _) c.seek_tested.ensures.lands
 
 pub seek-returns-in-Tested-clause-smaller : goal.seek-returns-in-Tested-clause-smaller
 seek-returns-in-Tested-clause-smaller g t c =
@@ -413,14 +386,10 @@ seek-returns-in-Tested-clause-smaller g t c =
     (shape_of-Tested _ _ _) (omega (arith, c.seek_tested.ensures.smaller))
 
 pub seek-returns-in-Tested-clause-spends : goal.seek-returns-in-Tested-clause-spends
-seek-returns-in-Tested-clause-spends g t c = record {
-  paid =
-      paid_along c.args.index.now _ _ _ _ c.args.spent.now c.seek_tested.new.spent
-      (tested_shape c.args.node.now c.in-Tested.test c.in-Tested.below c.in-Tested.node _ _ _ c.in-Tested.is c.in-Tested.test-is c.in-Tested.below-is (c.deref_mut-in-Tested.ensures.value ∙ ap (λ (x : Box Node Global). x.value) c.in-Tested.node-is))
-      (shape_of-Tested _ _ _) c.seek_tested.ensures.spends.paid;
-  counted = omega arith;
-  later = omega arith;
-}
+seek-returns-in-Tested-clause-spends g t c =
+    spends_along c.args.index.now _ _ _ _ _ _ _ _
+    (tested_shape c.args.node.now c.in-Tested.test c.in-Tested.below c.in-Tested.node _ _ _ c.in-Tested.is c.in-Tested.test-is c.in-Tested.below-is (c.deref_mut-in-Tested.ensures.value ∙ ap (λ (x : Box Node Global). x.value) c.in-Tested.node-is))
+    (shape_of-Tested _ _ _) c.seek_tested.ensures.spends
 
 pub reach-returns-then-target-top-clause-stays : goal.reach-returns-then-target-top-clause-stays
 reach-returns-then-target-top-clause-stays g t c = stays_same c.args.index.now c.args.target c.args.need c.args.spent.now (shape_of c.args.node.now)
@@ -440,15 +409,9 @@ seek-returns-in-Pair-clause-stays g t c =
 
 pub seek-returns-in-Odd-clause-lands : goal.seek-returns-in-Odd-clause-lands
 seek-returns-in-Odd-clause-lands g t c =
-    record {
-      top = subst (λ (s : Shape). IsTop c.args.index.now c.seek_odd.new.top s) (sym (odd_written _ _ c.seek_odd.new.tops c.seek_odd.new.nodes (search (rules, places)) (search (rules, places)))) c.seek_odd.ensures.lands.top;
-      sound = subst (λ (s : Shape). Sound c.args.index.now s) (sym (odd_written _ _ c.seek_odd.new.tops c.seek_odd.new.nodes (search (rules, places)) (search (rules, places)))) c.seek_odd.ensures.lands.sound;
-      covers =
-          covers_along c.args.index.now c.args.target c.args.need _ _ _ _
-          (odd_shape c.args.node.now c.in-Odd.tops c.in-Odd.nodes _ _ c.in-Odd.is (c.deref_mut-in-Odd.ensures.value ∙ ap (λ (v : Vec Top Global). v.items) c.in-Odd.tops-is) (c.deref_mut-in-Odd-2.ensures.value ∙ ap (λ (v : Vec Node Global). v.items) c.in-Odd.nodes-is))
-          (odd_written _ _ c.seek_odd.new.tops c.seek_odd.new.nodes (search (rules, places)) (search (rules, places))) c.seek_odd.ensures.lands.covers;
-      reached = omega arith;
-    }
+    lands_along c.args.index.now c.args.target c.args.need _ _ _ _ _
+    (odd_shape c.args.node.now c.in-Odd.tops c.in-Odd.nodes _ _ c.in-Odd.is (c.deref_mut-in-Odd.ensures.value ∙ ap (λ (v : Vec Top Global). v.items) c.in-Odd.tops-is) (c.deref_mut-in-Odd-2.ensures.value ∙ ap (λ (v : Vec Node Global). v.items) c.in-Odd.nodes-is))
+    (odd_written _ _ c.seek_odd.new.tops c.seek_odd.new.nodes (search (rules, places)) (search (rules, places))) c.seek_odd.ensures.lands
 
 pub seek-returns-in-Odd-clause-smaller : goal.seek-returns-in-Odd-clause-smaller
 seek-returns-in-Odd-clause-smaller g t c =
@@ -457,14 +420,10 @@ seek-returns-in-Odd-clause-smaller g t c =
     (odd_written _ _ c.seek_odd.new.tops c.seek_odd.new.nodes (search (rules, places)) (search (rules, places))) (omega (arith, c.seek_odd.ensures.smaller))
 
 pub seek-returns-in-Odd-clause-spends : goal.seek-returns-in-Odd-clause-spends
-seek-returns-in-Odd-clause-spends g t c = record {
-  paid =
-      paid_along c.args.index.now _ _ _ _ c.args.spent.now c.seek_odd.new.spent
-      (odd_shape c.args.node.now c.in-Odd.tops c.in-Odd.nodes _ _ c.in-Odd.is (c.deref_mut-in-Odd.ensures.value ∙ ap (λ (v : Vec Top Global). v.items) c.in-Odd.tops-is) (c.deref_mut-in-Odd-2.ensures.value ∙ ap (λ (v : Vec Node Global). v.items) c.in-Odd.nodes-is))
-      (odd_written _ _ c.seek_odd.new.tops c.seek_odd.new.nodes (search (rules, places)) (search (rules, places))) c.seek_odd.ensures.spends.paid;
-  counted = omega arith;
-  later = omega arith;
-}
+seek-returns-in-Odd-clause-spends g t c =
+    spends_along c.args.index.now _ _ _ _ _ _ _ _
+    (odd_shape c.args.node.now c.in-Odd.tops c.in-Odd.nodes _ _ c.in-Odd.is (c.deref_mut-in-Odd.ensures.value ∙ ap (λ (v : Vec Top Global). v.items) c.in-Odd.tops-is) (c.deref_mut-in-Odd-2.ensures.value ∙ ap (λ (v : Vec Node Global). v.items) c.in-Odd.nodes-is))
+    (odd_written _ _ c.seek_odd.new.tops c.seek_odd.new.nodes (search (rules, places)) (search (rules, places))) c.seek_odd.ensures.spends
 
 pub seek-returns-in-Odd-clause-stays : goal.seek-returns-in-Odd-clause-stays
 seek-returns-in-Odd-clause-stays g t c =
@@ -628,15 +587,9 @@ seek_pair-returns-in-At-clause-fades g t c =
 
 pub seek-returns-in-Any-clause-lands : goal.seek-returns-in-Any-clause-lands
 seek-returns-in-Any-clause-lands g t c =
-    record {
-      top = subst (λ (s : Shape). IsTop c.args.index.now c.seek_any.new.top s) (sym (any_written _ _ c.seek_any.new.tops c.seek_any.new.nodes (search (rules, places)) (search (rules, places)))) c.seek_any.ensures.lands.top;
-      sound = subst (λ (s : Shape). Sound c.args.index.now s) (sym (any_written _ _ c.seek_any.new.tops c.seek_any.new.nodes (search (rules, places)) (search (rules, places)))) c.seek_any.ensures.lands.sound;
-      covers =
-          covers_along c.args.index.now c.args.target c.args.need _ _ _ _
-          (any_shape c.args.node.now c.in-Any.tops c.in-Any.nodes _ _ c.in-Any.is (c.deref_mut-in-Any.ensures.value ∙ ap (λ (v : Vec Top Global). v.items) c.in-Any.tops-is) (c.deref_mut-in-Any-2.ensures.value ∙ ap (λ (v : Vec Node Global). v.items) c.in-Any.nodes-is))
-          (any_written _ _ c.seek_any.new.tops c.seek_any.new.nodes (search (rules, places)) (search (rules, places))) c.seek_any.ensures.lands.covers;
-      reached = omega arith;
-    }
+    lands_along c.args.index.now c.args.target c.args.need _ _ _ _ _
+    (any_shape c.args.node.now c.in-Any.tops c.in-Any.nodes _ _ c.in-Any.is (c.deref_mut-in-Any.ensures.value ∙ ap (λ (v : Vec Top Global). v.items) c.in-Any.tops-is) (c.deref_mut-in-Any-2.ensures.value ∙ ap (λ (v : Vec Node Global). v.items) c.in-Any.nodes-is))
+    (any_written _ _ c.seek_any.new.tops c.seek_any.new.nodes (search (rules, places)) (search (rules, places))) c.seek_any.ensures.lands
 
 pub seek-returns-in-Any-clause-smaller : goal.seek-returns-in-Any-clause-smaller
 seek-returns-in-Any-clause-smaller g t c =
@@ -645,14 +598,10 @@ seek-returns-in-Any-clause-smaller g t c =
     (any_written _ _ c.seek_any.new.tops c.seek_any.new.nodes (search (rules, places)) (search (rules, places))) (omega (arith, c.seek_any.ensures.smaller))
 
 pub seek-returns-in-Any-clause-spends : goal.seek-returns-in-Any-clause-spends
-seek-returns-in-Any-clause-spends g t c = record {
-  paid =
-      paid_along c.args.index.now _ _ _ _ c.args.spent.now c.seek_any.new.spent
-      (any_shape c.args.node.now c.in-Any.tops c.in-Any.nodes _ _ c.in-Any.is (c.deref_mut-in-Any.ensures.value ∙ ap (λ (v : Vec Top Global). v.items) c.in-Any.tops-is) (c.deref_mut-in-Any-2.ensures.value ∙ ap (λ (v : Vec Node Global). v.items) c.in-Any.nodes-is))
-      (any_written _ _ c.seek_any.new.tops c.seek_any.new.nodes (search (rules, places)) (search (rules, places))) c.seek_any.ensures.spends.paid;
-  counted = omega arith;
-  later = omega arith;
-}
+seek-returns-in-Any-clause-spends g t c =
+    spends_along c.args.index.now _ _ _ _ _ _ _ _
+    (any_shape c.args.node.now c.in-Any.tops c.in-Any.nodes _ _ c.in-Any.is (c.deref_mut-in-Any.ensures.value ∙ ap (λ (v : Vec Top Global). v.items) c.in-Any.tops-is) (c.deref_mut-in-Any-2.ensures.value ∙ ap (λ (v : Vec Node Global). v.items) c.in-Any.nodes-is))
+    (any_written _ _ c.seek_any.new.tops c.seek_any.new.nodes (search (rules, places)) (search (rules, places))) c.seek_any.ensures.spends
 
 pub seek-returns-in-Any-clause-stays : goal.seek-returns-in-Any-clause-stays
 seek-returns-in-Any-clause-stays g t c =
@@ -717,28 +666,17 @@ seek_some-matches-init g t c =
     record {
       far = any_begun c.args.index.now c.args.target c.args.need c.args.spent.now (sides_on c.args.tops.now c.args.nodes.now) c.requires.sides;
       within = c.requires.target;
-      spends = record {
-        paid = omega arith;
-        counted = omega arith;
-        later = omega arith;
-      };
+      spends = record { paid = omega arith; counted = omega arith; later = omega arith };
     }
 
 pub seek_some-returns-then-head-ge-END-clause-lands : goal.seek_some-returns-then-head-ge-END-clause-lands
 seek_some-returns-then-head-ge-END-clause-lands g t c =
-    record {
-      top =
-          let i = c.args.index.now in
-          subst (λ (u : Top). IsTop i u (any (sides_on c.end_sides.new.tops c.end_sides.new.nodes))) (sym c.end_sides.ensures.top) (any_ended_top i (sides_on c.end_sides.new.tops c.end_sides.new.nodes) c.end_sides.ensures.over);
-      sound = any_ended_sound c.args.index.now (sides_on c.end_sides.new.tops c.end_sides.new.nodes) c.end_sides.ensures.over;
-      covers =
-          let i = c.args.index.now in
-          any_gone i c.args.target c.args.need c.requires.needed c.args.spent.now (sides_on c.args.tops.now c.args.nodes.now) c.lead-head.result c.lead-head.new.spent (sides_on c.lead-head.new.tops c.lead-head.new.nodes) (sides_on c.end_sides.new.tops c.end_sides.new.nodes) c.requires.sides.sides (omega (arith, c.if-head-ge-END.true))
-          (any_led i c.args.target c.args.need c.requires.needed c.args.spent.now (sides_on c.args.tops.now c.args.nodes.now) c.matches.from c.lead-head.result c.matches.spent c.lead-head.new.spent (sides_on c.matches.tops c.matches.nodes) (sides_on c.lead-head.new.tops c.lead-head.new.nodes) c.matches.invariant.within
-          c.matches.invariant.far c.lead-head.ensures.led c.lead-head.ensures.moved.sound c.lead-head.ensures.moved.falls c.lead-head.ensures.moved.smaller c.lead-head.ensures.moved.kept)
-          c.end_sides.ensures.over;
-      reached = omega (arith, ap (λ (u : Top). u.head) c.end_sides.ensures.top, c.requires.target);
-    }
+    let i = c.args.index.now in
+    ended_lands i c.args.target c.args.need _ _ _ c.end_sides.ensures.top c.end_sides.ensures.over c.requires.target
+    (any_gone i c.args.target c.args.need c.requires.needed c.args.spent.now (sides_on c.args.tops.now c.args.nodes.now) c.lead-head.result c.lead-head.new.spent (sides_on c.lead-head.new.tops c.lead-head.new.nodes) (sides_on c.end_sides.new.tops c.end_sides.new.nodes) c.requires.sides.sides (omega (arith, c.if-head-ge-END.true))
+    (any_led i c.args.target c.args.need c.requires.needed c.args.spent.now (sides_on c.args.tops.now c.args.nodes.now) c.matches.from c.lead-head.result c.matches.spent c.lead-head.new.spent (sides_on c.matches.tops c.matches.nodes) (sides_on c.lead-head.new.tops c.lead-head.new.nodes) c.matches.invariant.within
+    c.matches.invariant.far c.lead-head.ensures.led c.lead-head.ensures.moved.sound c.lead-head.ensures.moved.falls c.lead-head.ensures.moved.smaller c.lead-head.ensures.moved.kept)
+    c.end_sides.ensures.over)
 
 pub seek_some-returns-then-head-ge-END-clause-spends : goal.seek_some-returns-then-head-ge-END-clause-spends
 seek_some-returns-then-head-ge-END-clause-spends g t c = record {
@@ -760,23 +698,16 @@ seek_some-returns-then-head-ge-END-clause-stays g t c =
 
 pub seek_some-returns-then-from-ge-END-clause-lands : goal.seek_some-returns-then-from-ge-END-clause-lands
 seek_some-returns-then-from-ge-END-clause-lands g t c =
-    record {
-      top =
-          let i = c.args.index.now in
-          subst (λ (u : Top). IsTop i u (any (sides_on c.end_sides-then-from-ge-END.new.tops c.end_sides-then-from-ge-END.new.nodes))) (sym c.end_sides-then-from-ge-END.ensures.top) (any_ended_top i (sides_on c.end_sides-then-from-ge-END.new.tops c.end_sides-then-from-ge-END.new.nodes) c.end_sides-then-from-ge-END.ensures.over);
-      sound = any_ended_sound c.args.index.now (sides_on c.end_sides-then-from-ge-END.new.tops c.end_sides-then-from-ge-END.new.nodes) c.end_sides-then-from-ge-END.ensures.over;
-      covers =
-          let i = c.args.index.now in
-          any_gone i c.args.target c.args.need c.requires.needed c.args.spent.now (sides_on c.args.tops.now c.args.nodes.now) (c.lead-head.result + 1) c.weigh-weight.new.spent (sides_on c.weigh-weight.new.tops c.weigh-weight.new.nodes) (sides_on c.end_sides-then-from-ge-END.new.tops c.end_sides-then-from-ge-END.new.nodes) c.requires.sides.sides (omega (arith, c.if-from-ge-END.true))
-          (any_on i c.args.target c.args.need c.requires.needed c.args.spent.now (sides_on c.args.tops.now c.args.nodes.now) c.lead-head.result c.weigh-weight.new.spent c.weigh-weight.result (sides_on c.lead-head.new.tops c.lead-head.new.nodes) (sides_on c.weigh-weight.new.tops c.weigh-weight.new.nodes)
-          (any_weighed i c.args.target c.args.need c.requires.needed c.args.spent.now (sides_on c.args.tops.now c.args.nodes.now) c.lead-head.result c.lead-head.new.spent c.weigh-weight.new.spent c.weigh-weight.result (sides_on c.lead-head.new.tops c.lead-head.new.nodes) (sides_on c.weigh-weight.new.tops c.weigh-weight.new.nodes) (omega (arith, c.if-head-ge-END.false))
-          (any_led i c.args.target c.args.need c.requires.needed c.args.spent.now (sides_on c.args.tops.now c.args.nodes.now) c.matches.from c.lead-head.result c.matches.spent c.lead-head.new.spent (sides_on c.matches.tops c.matches.nodes) (sides_on c.lead-head.new.tops c.lead-head.new.nodes) c.matches.invariant.within
-          c.matches.invariant.far c.lead-head.ensures.led c.lead-head.ensures.moved.sound c.lead-head.ensures.moved.falls c.lead-head.ensures.moved.smaller c.lead-head.ensures.moved.kept)
-          c.weigh-weight.ensures.weighed c.weigh-weight.ensures.moved.sound c.weigh-weight.ensures.moved.falls c.weigh-weight.ensures.moved.smaller c.weigh-weight.ensures.moved.kept)
-          c.weigh-weight.ensures.weighed (omega (arith, c.if-weight-need.false)))
-          c.end_sides-then-from-ge-END.ensures.over;
-      reached = omega (arith, ap (λ (u : Top). u.head) c.end_sides-then-from-ge-END.ensures.top, c.requires.target);
-    }
+    let i = c.args.index.now in
+    ended_lands i c.args.target c.args.need _ _ _ c.end_sides-then-from-ge-END.ensures.top c.end_sides-then-from-ge-END.ensures.over c.requires.target
+    (any_gone i c.args.target c.args.need c.requires.needed c.args.spent.now (sides_on c.args.tops.now c.args.nodes.now) (c.lead-head.result + 1) c.weigh-weight.new.spent (sides_on c.weigh-weight.new.tops c.weigh-weight.new.nodes) (sides_on c.end_sides-then-from-ge-END.new.tops c.end_sides-then-from-ge-END.new.nodes) c.requires.sides.sides (omega (arith, c.if-from-ge-END.true))
+    (any_on i c.args.target c.args.need c.requires.needed c.args.spent.now (sides_on c.args.tops.now c.args.nodes.now) c.lead-head.result c.weigh-weight.new.spent c.weigh-weight.result (sides_on c.lead-head.new.tops c.lead-head.new.nodes) (sides_on c.weigh-weight.new.tops c.weigh-weight.new.nodes)
+    (any_weighed i c.args.target c.args.need c.requires.needed c.args.spent.now (sides_on c.args.tops.now c.args.nodes.now) c.lead-head.result c.lead-head.new.spent c.weigh-weight.new.spent c.weigh-weight.result (sides_on c.lead-head.new.tops c.lead-head.new.nodes) (sides_on c.weigh-weight.new.tops c.weigh-weight.new.nodes) (omega (arith, c.if-head-ge-END.false))
+    (any_led i c.args.target c.args.need c.requires.needed c.args.spent.now (sides_on c.args.tops.now c.args.nodes.now) c.matches.from c.lead-head.result c.matches.spent c.lead-head.new.spent (sides_on c.matches.tops c.matches.nodes) (sides_on c.lead-head.new.tops c.lead-head.new.nodes) c.matches.invariant.within
+    c.matches.invariant.far c.lead-head.ensures.led c.lead-head.ensures.moved.sound c.lead-head.ensures.moved.falls c.lead-head.ensures.moved.smaller c.lead-head.ensures.moved.kept)
+    c.weigh-weight.ensures.weighed c.weigh-weight.ensures.moved.sound c.weigh-weight.ensures.moved.falls c.weigh-weight.ensures.moved.smaller c.weigh-weight.ensures.moved.kept)
+    c.weigh-weight.ensures.weighed (omega (arith, c.if-weight-need.false)))
+    c.end_sides-then-from-ge-END.ensures.over)
 
 pub seek_some-returns-then-from-ge-END-clause-spends : goal.seek_some-returns-then-from-ge-END-clause-spends
 seek_some-returns-then-from-ge-END-clause-spends g t c = record {
