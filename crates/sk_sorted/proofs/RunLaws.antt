@@ -6,7 +6,7 @@ use Rattle.std.proofs.lemmas.Bool.Decides.{nat_tests}
 use Rattle.std.proofs.lemmas.List.{append_assoc, append-nil, take-append-drop, length-append, length-take, length-drop, drop_more}
 use Rattle.sk_sorted.specs.Entries.{RiseAbove, LieBelow, AreSorted, put, without, found, top_id}
 use Rattle.sk_sorted.proofs.EntryLaws.{RiseAbove-lower, RiseAbove-put, RiseAbove-without, put-append, put-front_append, without-append, without-front_append, found-append, found-front_append}
-use Rattle.sk_runs.specs.Runs.{flat, RunsRise, AreRuns, FitsAt}
+use Rattle.sk_sorted.specs.Runs.{flat, RunsRise, AreRuns, FitsAt}
 
 module _ {X : Type 0} where
   -- ---- the last id

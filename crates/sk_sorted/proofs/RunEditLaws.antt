@@ -7,8 +7,8 @@ use Rattle.std.proofs.lemmas.Bool.Decides.{nat_tests}
 use Rattle.std.proofs.lemmas.List.{length-append, length-take, length-drop, set-get_or, get_or_default, get_or-set_same}
 use Rattle.sk_sorted.specs.Entries.{RiseAbove, LieBelow, put, without, has, found, top_id}
 use Rattle.sk_sorted.proofs.EntryLaws.{LieBelow-put, LieBelow-without, length_fits, put-last, without-absent}
-use Rattle.sk_runs.specs.Runs.{flat, RunsRise, AreRuns, FitsAt}
-use Rattle.sk_runs.proofs.RunLaws.{put_in_run, without_in_run, found_in_run, rise_put, rise_without, rise_cut, flat-cut, rise_joined, flat-join, fits-cut, fits-behind, cut-first, cut-second, cut-length, before-removed, put-back, next-rises, tops_rise, all_below, flat-remove, rise_remove, flat-last, rise_last, AreRuns-sorted}
+use Rattle.sk_sorted.specs.Runs.{flat, RunsRise, AreRuns, FitsAt}
+use Rattle.sk_sorted.proofs.RunLaws.{put_in_run, without_in_run, found_in_run, rise_put, rise_without, rise_cut, flat-cut, rise_joined, flat-join, fits-cut, fits-behind, cut-first, cut-second, cut-length, before-removed, put-back, next-rises, tops_rise, all_below, flat-remove, rise_remove, flat-last, rise_last, AreRuns-sorted}
 
 module _ {X : Type 0} where
   -- an id that is not there has nothing

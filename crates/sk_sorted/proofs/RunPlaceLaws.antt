@@ -3,8 +3,8 @@ use Rattle.std.proofs.Common.{◌≡◌, ℕ, zero, suc, ◌+◌, ◌-◌, ◌<�
 use Rattle.std.proofs.lemmas.List.{length-append, drop-append-le, take_more, take_all}
 use Rattle.std.proofs.Math.Seq.{drop-append-add}
 use Rattle.sk_sorted.specs.Entries.{RiseAbove, top_id}
-use Rattle.sk_runs.specs.Runs.{flat, RunsRise, IsPlace}
-use Rattle.sk_runs.proofs.RunLaws.{flat-rise, flat-last}
+use Rattle.sk_sorted.specs.Runs.{flat, RunsRise, IsPlace}
+use Rattle.sk_sorted.proofs.RunLaws.{flat-rise, flat-last}
 
 module _ {X : Type 0} where
   -- behind a place stands the rest of its run, and then the runs behind that

@@ -1,7 +1,7 @@
 -- The words on runs, computed.
 use Rattle.std.proofs.Common.{◌≡◌, ℕ, List, [], ◌∷◌, refl, lit<}
 use Rattle.sk_sorted.specs.Entries.{put, without}
-use Rattle.sk_runs.specs.Runs.{flat, RunsRise, AreRuns, FitsAt}
+use Rattle.sk_sorted.specs.Runs.{flat, RunsRise, AreRuns, FitsAt}
 
 abbrev first : List (ℕ × ℕ)
 first = (1, 3) ∷ (4, 0) ∷ []
