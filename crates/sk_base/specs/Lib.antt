@@ -8,3 +8,4 @@ pub mod Documents
 pub mod Numbers
 pub mod Loads
 pub mod Fitting
+pub mod Rooms
