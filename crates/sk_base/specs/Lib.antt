@@ -9,3 +9,5 @@ pub mod Numbers
 pub mod Loads
 pub mod Fitting
 pub mod Rooms
+pub mod Finds
+pub mod Commands

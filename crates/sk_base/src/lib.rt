@@ -21,11 +21,13 @@ mod term;
 mod text;
 
 pub use bytes::Bytes;
-pub use command::Command;
+pub use command::{Command, Question};
 pub use doc::Doc;
 pub use doc_entry::{DocTerm, SlotValue};
 pub use doc_lists::{DocTerms, SlotValues};
-pub use find::{Ask, Collapse, Find, Join, Options, Scheme};
+pub use find::{
+    Ask, Collapse, Find, Join, Options, Paging, Scheme, default_options, default_paging,
+};
 pub use items::Items;
 pub use limits::{MOST_FIELDS, MOST_HITS, MOST_LEAVES, MOST_TERM, MOST_TEXT, MOST_WDF};
 pub use operands::Operands;
