@@ -16,7 +16,7 @@ abbrev entry : ℕ → FieldValue → Entry
 entry place value = record { field = place; value = value }
 
 abbrev made : List FieldKind → List Entry → Document
-made kinds values = document_of (map of_kind kinds) (record { values = values; payload = [] })
+made kinds values = document_of (record { fields = map of_kind kinds }) (record { values = values; payload = [] })
 
 abbrev terms_made : List FieldKind → List Entry → List DocTerm
 terms_made kinds values = let doc : Document = made kinds values in doc.terms
