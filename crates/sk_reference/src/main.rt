@@ -25,7 +25,8 @@ fn main(rt: HostRuntime) -> io::Result<ExitCode> {
         Ok(path) => (read, path),
         Err(AllocError) => (Err(Status::Memory), String::new(alloc)),
     };
-    let code = start::<Shelf, _, _, _, _, Brand>(
+    let code = start::<Shelf, _, _, _, _, _, Brand>(
+        &rt,
         Blank::new(1),
         alloc,
         USAGE,

@@ -10,6 +10,7 @@ use std::alloc::{AllocError, Global};
 use std::io;
 use std::marker::Brand;
 use std::process::ExitCode;
+use std::rt::Env;
 use std::sync::ledger::{Blank, Ledger};
 
 /// How many entries a list is given.
@@ -113,7 +114,8 @@ fn are_sought<L: Ledger>(both: &Both, apart: u32, steps: &mut Steps<L>) -> bool 
 }
 
 /// How many edits were made of lists that then had the same entries; none where two differ.
-fn edits_of<L: Ledger>(
+fn edits_of<R: Env, L: Ledger>(
+    rt: &R,
     blank: Blank,
     alloc: Global,
     way: Way,
@@ -123,7 +125,7 @@ fn edits_of<L: Ledger>(
     requires parts { blank.parts ≡ L.parts }
     requires one { blank.parts ≡ 1 }
 {
-    let mut steps = Steps::<L>::open(blank);
+    let mut steps = Steps::<L>::open(rt, blank);
     let mut both = Both::new(alloc);
     let mut edits = 0u64;
     'puts: for i in 0..count {
@@ -165,7 +167,7 @@ fn main(rt: HostRuntime) -> io::Result<ExitCode> {
     let mut edits = 0u64;
     'sizes: for count in SIZES {
         'ways: for way in WAYS {
-            let Some(more) = edits_of::<Brand>(Blank::new(1), alloc, way, count)? else {
+            let Some(more) = edits_of::<_, Brand>(&rt, Blank::new(1), alloc, way, count)? else {
                 println!(rt; "a list of {count} differs")?;
                 return Ok(ExitCode::FAILURE);
             };

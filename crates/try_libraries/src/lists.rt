@@ -4,16 +4,17 @@ ghost use Rattle.std.specs.Prelude.{◌≡◌};
 use sk_lists::{Cursor, List};
 use sk_steps::Steps;
 use std::marker::Brand;
+use std::rt::Env;
 use std::sync::ledger::{Blank, Ledger};
 use std::test::Fail;
 
 /// The head behind a seek.
-fn sought<L: Ledger>(blank: Blank, list: &List, target: u32) -> (u32, Option<u32>, u32)
+fn sought<R: Env, L: Ledger>(rt: &R, blank: Blank, list: &List, target: u32) -> (u32, Option<u32>, u32)
     requires name { blank.name ≡ L.name }
     requires parts { blank.parts ≡ L.parts }
     requires one { blank.parts ≡ 1 }
 {
-    let mut steps = Steps::<L>::open(blank);
+    let mut steps = Steps::<L>::open(rt, blank);
     let mut cursor = Cursor::open(list, &mut steps);
     let read = cursor.seek(list, target, 0, &mut steps);
     (read, cursor.head(), cursor.wdf())
@@ -29,7 +30,7 @@ fn each_call_succeeds_with_memory(rt: HostRuntime) -> Result<(), Fail> {
         list.ids(rt.alloc())?.as_slice(),
         [1, 4294967295].as_slice()
     );
-    let found = sought::<Brand>(Blank::new(1), &list, 2);
+    let found = sought::<_, Brand>(&rt, Blank::new(1), &list, 2);
     assert_eq!(rt; found, (1, Some(4294967295), 5));
     assert!(rt; list.remove(4294967295));
     let text = format!(in rt.alloc(); "{list:?}")?;

@@ -5,21 +5,23 @@ use sk_base::{Bytes, DocId};
 use sk_steps::Steps;
 use sk_values::{RangeCursor, SlotList};
 use std::marker::Brand;
+use std::rt::Env;
 use std::sync::ledger::{Blank, Ledger};
 use std::test::Fail;
 
 /// The document's value, read once.
-fn read_one<L: Ledger>(blank: Blank, list: &SlotList, id: DocId) -> &[u8]
+fn read_one<R: Env, L: Ledger>(rt: &R, blank: Blank, list: &SlotList, id: DocId) -> &[u8]
     requires name { blank.name ≡ L.name }
     requires parts { blank.parts ≡ L.parts }
     requires one { blank.parts ≡ 1 }
 {
-    let mut steps = Steps::<L>::open(blank);
+    let mut steps = Steps::<L>::open(rt, blank);
     list.get(id, &mut steps)
 }
 
 /// The first id whose value is at least `lo`, and the first from the target on; and how many entries were come past.
-fn two_ids<L: Ledger>(
+fn two_ids<R: Env, L: Ledger>(
+    rt: &R,
     blank: Blank,
     list: &SlotList,
     lo: Option<Bytes>,
@@ -29,7 +31,7 @@ fn two_ids<L: Ledger>(
     requires parts { blank.parts ≡ L.parts }
     requires one { blank.parts ≡ 1 }
 {
-    let mut steps = Steps::<L>::open(blank);
+    let mut steps = Steps::<L>::open(rt, blank);
     let mut cursor = RangeCursor::open(list, lo, None, &mut steps);
     let first = cursor.head();
     cursor.seek(list, target, &mut steps);
@@ -44,9 +46,9 @@ fn each_call_succeeds_with_memory(rt: HostRuntime) -> Result<(), Fail> {
         assert!(rt; !value.as_slice().is_empty());
         list.set(id, value)?;
     }
-    assert_eq!(rt; read_one::<Brand>(Blank::new(1), &list, 1), b"b".as_slice());
+    assert_eq!(rt; read_one::<_, Brand>(&rt, Blank::new(1), &list, 1), b"b".as_slice());
     let lo = Bytes::new(rt.alloc(), b"b")?;
-    let ids = two_ids::<Brand>(Blank::new(1), &list, Some(lo), 2);
+    let ids = two_ids::<_, Brand>(&rt, Blank::new(1), &list, Some(lo), 2);
     assert_eq!(rt; ids, (Some(1), Some(4294967295), 2));
     assert!(rt; list.clear(1));
     let text = format!(in rt.alloc(); "{list:?}")?;
@@ -67,10 +69,10 @@ fn a_list_of_many_pieces(rt: HostRuntime) -> Result<(), Fail> {
     assert!(rt; !value.as_slice().is_empty());
     list.set(100, value)?;
     assert_eq!(rt;
-        read_one::<Brand>(Blank::new(1), &list, 100),
+        read_one::<_, Brand>(&rt, Blank::new(1), &list, 100),
         b"w".as_slice()
     );
-    let ids = two_ids::<Brand>(Blank::new(1), &list, None, 500);
+    let ids = two_ids::<_, Brand>(&rt, Blank::new(1), &list, None, 500);
     assert_eq!(rt; ids, (Some(1), Some(501), 252));
     for i in 0..300u32 {
         assert!(rt; list.clear(2 * i + 1));

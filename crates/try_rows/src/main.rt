@@ -13,6 +13,7 @@ use std::alloc::{AllocError, Global};
 use std::io;
 use std::marker::Brand;
 use std::process::ExitCode;
+use std::rt::Env;
 use std::sync::ledger::Blank;
 
 /// How many bytes of sections are read at the most.
@@ -36,7 +37,7 @@ fn main(rt: HostRuntime) -> io::Result<ExitCode> {
         };
         if line.is_none_or(section::is_title) {
             rows = rows.saturating_add(section.rows());
-            if let Some((turn, ran)) = differing_run(&section, alloc)? {
+            if let Some((turn, ran)) = differing_run(&rt, &section, alloc)? {
                 differing = differing.saturating_add(1);
                 let title = section.title();
                 let answered = ran.answered.as_str();
@@ -60,10 +61,10 @@ fn main(rt: HostRuntime) -> io::Result<ExitCode> {
 }
 
 /// The first run of a section that is not as it should be, with its turn.
-fn differing_run(section: &Section, alloc: Global) -> Result<Option<(u64, Ran)>, AllocError> {
+fn differing_run<R: Env>(rt: &R, section: &Section, alloc: Global) -> Result<Option<(u64, Ran)>, AllocError> {
     let mut whole = String::new(alloc);
     for turn in 0..u64::MAX {
-        let ran = section.run::<Brand>(Blank::new(1), alloc, turn)?;
+        let ran = section.run::<_, Brand>(rt, Blank::new(1), alloc, turn)?;
         match section.verdict(&ran, turn, whole.as_str()) {
             Verdict::Fits => return Ok(None),
             Verdict::GoesOn if turn == 0 => whole = ran.answered,

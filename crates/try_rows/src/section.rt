@@ -7,6 +7,7 @@ use sk_engine::{Status, start};
 use sk_io::{MemorySink, MemorySource};
 use std::alloc::{AllocError, Global};
 use std::str;
+use std::rt::Env;
 use std::sync::ledger::{Blank, Ledger};
 
 /// What is said where the word is no form.
@@ -160,7 +161,7 @@ impl Section {
 
     /// Runs the lines over a store of their own. Where each call of a stream is to fail in turn, that of the turn does,
     /// and none in turn 0.
-    pub fn run<L: Ledger>(&self, blank: Blank, alloc: Global, turn: u64) -> Result<Ran, AllocError>
+    pub fn run<R: Env, L: Ledger>(&self, rt: &R, blank: Blank, alloc: Global, turn: u64) -> Result<Ran, AllocError>
         requires name { blank.name ≡ L.name }
         requires parts { blank.parts ≡ L.parts }
         requires one { blank.parts ≡ 1 }
@@ -178,7 +179,8 @@ impl Section {
         let mut records = MemorySource::new(self.records.clone()?, piece, record_reads);
         let mut output = MemorySink::new(alloc, piece, self.setting.room, writes)?;
         let mut errors = MemorySink::new(alloc, 100, 100, Vec::new(alloc))?;
-        let code = start::<_, _, _, _, L>(
+        let code = start::<_, _, _, _, _, L>(
+            rt,
             blank,
             alloc,
             USAGE,

@@ -22,7 +22,8 @@ fn main(rt: HostRuntime) -> io::Result<ExitCode> {
         Ok(path) => (read, path),
         Err(AllocError) => (Err(Status::Memory), String::new(alloc)),
     };
-    let code = start::<_, _, _, _, Brand>(
+    let code = start::<_, _, _, _, _, Brand>(
+        &rt,
         Blank::new(1),
         alloc,
         USAGE,

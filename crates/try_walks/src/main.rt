@@ -26,6 +26,7 @@ use sk_steps::Steps;
 use std::alloc::{AllocError, Global};
 use std::marker::Brand;
 use std::process::ExitCode;
+use std::rt::Env;
 use std::sync::ledger::{Blank, Ledger};
 use std::{env, io};
 
@@ -78,7 +79,8 @@ fn is_lawful<L: Ledger>(
 }
 
 /// How many seeks there were in all walks through the tree of a query; none where one leaves what it may not.
-fn seeks_of<L: Ledger>(
+fn seeks_of<R: Env, L: Ledger>(
+    rt: &R,
     blank: Blank,
     alloc: Global,
     index: &Index,
@@ -89,7 +91,7 @@ fn seeks_of<L: Ledger>(
     requires one { blank.parts ≡ 1 }
     requires fits { fits_tree (query_view query.now) ≡ true }
 {
-    let mut steps = Steps::<L>::open(blank);
+    let mut steps = Steps::<L>::open(rt, blank);
     let mut tree = Tree::open(alloc, index, query, Scheme::Nnn, &mut steps)?;
     let greatest = tree.ceiling().saturating_add(1);
     let all = left_of(alloc, index, &mut tree, 0, &mut steps)?;
@@ -109,14 +111,14 @@ fn seeks_of<L: Ledger>(
 }
 
 /// The same of a line, under a counter of its own; none where the line is no query.
-fn outcome(alloc: Global, index: &Index, line: &[u8]) -> Result<Option<u64>, AllocError> {
+fn outcome<R: Env>(rt: &R, alloc: Global, index: &Index, line: &[u8]) -> Result<Option<u64>, AllocError> {
     let Ok(value) = Value::from_slice(alloc, line) else {
         return Ok(None);
     };
     let Ok(query) = from_json(alloc, &value) else {
         return Ok(None);
     };
-    let seeks = seeks_of::<Brand>(Blank::new(1), alloc, index, &query)?;
+    let seeks = seeks_of::<_, Brand>(rt, Blank::new(1), alloc, index, &query)?;
     Ok(seeks)
 }
 
@@ -139,7 +141,7 @@ fn main(rt: HostRuntime) -> io::Result<ExitCode> {
             walks: number(args.next()),
             form: number(args.next()),
         };
-        let sum = sum_of_rounds(alloc, rounds)?;
+        let sum = sum_of_rounds(&rt, alloc, rounds)?;
         println!(rt; "{sum}")?;
     }
     let mut source = StdSource::new(rt.stdin());
@@ -160,7 +162,7 @@ fn main(rt: HostRuntime) -> io::Result<ExitCode> {
             index = add(alloc, index, text)?;
             continue;
         }
-        let Some(more) = outcome(alloc, &index, line)? else {
+        let Some(more) = outcome(&rt, alloc, &index, line)? else {
             let line = String::from_utf8_lossy(alloc, line)?;
             println!(rt; "leaves what it may not: {line}")?;
             return Ok(ExitCode::FAILURE);

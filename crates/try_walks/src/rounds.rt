@@ -11,6 +11,7 @@ use sk_query::Query;
 use sk_steps::Steps;
 use std::alloc::{AllocError, Global};
 use std::marker::Brand;
+use std::rt::Env;
 use std::sync::ledger::{Blank, Ledger};
 
 /// How many documents there are, how many walks, and through which tree.
@@ -83,12 +84,12 @@ fn walk<L: Ledger>(
 }
 
 /// The sum of all weights in all rounds.
-fn sum_of<L: Ledger>(blank: Blank, alloc: Global, rounds: Rounds) -> Result<u64, AllocError>
+fn sum_of<R: Env, L: Ledger>(rt: &R, blank: Blank, alloc: Global, rounds: Rounds) -> Result<u64, AllocError>
     requires name { blank.name ≡ L.name }
     requires parts { blank.parts ≡ L.parts }
     requires one { blank.parts ≡ 1 }
 {
-    let mut steps = Steps::<L>::open(blank);
+    let mut steps = Steps::<L>::open(rt, blank);
     let index = filled(alloc, rounds.documents)?;
     let query = query(alloc, rounds.form)?;
     if !query.fits() {
@@ -102,7 +103,7 @@ fn sum_of<L: Ledger>(blank: Blank, alloc: Global, rounds: Rounds) -> Result<u64,
 }
 
 /// The same, under a counter of its own.
-pub(crate) fn sum_of_rounds(alloc: Global, rounds: Rounds) -> Result<u64, AllocError> {
-    let sum = sum_of::<Brand>(Blank::new(1), alloc, rounds)?;
+pub(crate) fn sum_of_rounds<R: Env>(rt: &R, alloc: Global, rounds: Rounds) -> Result<u64, AllocError> {
+    let sum = sum_of::<_, Brand>(rt, Blank::new(1), alloc, rounds)?;
     Ok(sum)
 }
