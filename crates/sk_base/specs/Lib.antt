@@ -10,3 +10,4 @@ pub mod Loads
 pub mod Fitting
 pub mod Finds
 pub mod Commands
+pub mod Rooms

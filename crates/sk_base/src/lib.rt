@@ -10,6 +10,7 @@ mod find;
 mod fitting;
 mod items;
 mod limits;
+mod operands;
 mod positions;
 mod rank;
 mod record;
@@ -29,6 +30,7 @@ pub use find::{
 };
 pub use items::Items;
 pub use limits::{MOST_FIELDS, MOST_HITS, MOST_LEAVES, MOST_TERM, MOST_TEXT, MOST_WDF};
+pub use operands::Operands;
 pub use positions::Positions;
 pub use rank::{Order, OrderBy, Rank, SortKey, total_order};
 pub use record::{Edit, Entries, Entry, FieldValue, Record, Reply};
