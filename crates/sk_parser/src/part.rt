@@ -182,7 +182,10 @@ pub(crate) fn part_of(
             Ok(Part::Chosen(*field, Query::Term(term)))
         }
         Kind::Range(field, text) => {
-            Ok(Part::Chosen(*field, range_in(alloc, schema.fields(), *field, text.as_str())?))
+            Ok(Part::Chosen(
+                *field,
+                range_in(alloc, schema.fields(), *field, text.as_str())?,
+            ))
         }
         Kind::Near(n) => Ok(Part::Link(false, *n)),
         Kind::Adj(n) => Ok(Part::Link(true, *n)),

@@ -9,5 +9,5 @@ tree_in-requires c = sound_of c.args.schema.now [] c.as_slice-list.result.now (s
 
 pub returns-clause-fits : goal.returns-clause-fits
 returns-clause-fits c =
-    made_fits c.args.schema.now c.args.join c.args.text.now _ c.as_slice-list.result.now (query_view c.in_ok-query-in-None.query) c.fields-_fields.ensures.sound
+    made_fits c.args.schema.now c.args.join c.args.text.now _ c.as_slice-list.result.now (query_view c.in_ok-query-in-None.query) c.fields-fields.ensures.sound
     c.in_ok-found.ensures.value c.as_slice-list.ensures (sym c.fault_in.ensures ∙ c.in-None.is) c.in_ok-query-in-None.ensures

@@ -1,4 +1,4 @@
-use Rattle.std.proofs.Common.{◌≡◌, List, length}
+use Rattle.std.proofs.Common.{◌≡◌, length}
 use Rattle.sk_base.specs.declared.schema.Schema.{Schema}
 use Rattle.sk_parser.specs.Sound.{nothing_behind}
 use Rattle.sk_parser.specs.Stack.{ends_as}
