@@ -1,7 +1,7 @@
 //! From what a find asks for to its query.
 ghost use Rattle.std.specs.Prelude.{◌≡◌, ◌≤◌, true, length, IfOk};
 ghost use Rattle.serde_json.specs.View.{view};
-ghost use Rattle.sk_base.specs.Records.{FitsAsk};
+ghost use Rattle.sk_base.specs.Finds.{FitsAsk, ask_over};
 ghost use Rattle.sk_query.specs.Trees.{query_view};
 ghost use Rattle.sk_query.specs.Fits.{fits_tree};
 ghost use Rattle.sk_query_json.specs.Reading.{tree_of};
@@ -31,9 +31,9 @@ pub enum AskError {
 }
 
 /// The query that a find asks for under the schema.
-pub fn query_of(alloc: Global, schema: &Schema, ask: &Ask) -> Result<Query, AskError>
+pub fn query_of(alloc: Global, schema: &Schema, ask: &Ask<Value>) -> Result<Query, AskError>
     requires { FitsAsk ask.now }
-    ensures reads { ReadsAs (asked schema.now ask.now) result }
+    ensures reads { ReadsAs (asked schema.now (ask_over view ask.now)) result }
     ensures fits { IfOk result (λ query. fits_tree (query_view query) ≡ true) }
 {
     match ask {
