@@ -9,7 +9,7 @@ ghost use Rattle.sk_base.specs.Loads.{IsLight};
 ghost use Rattle.sk_base.specs.Numbers.{some_has};
 ghost use Rattle.sk_base.specs.Order.{ArePositions};
 ghost use Rattle.sk_dict.specs.Terms.{term_at, number_of};
-ghost use Rattle.sk_runs.specs.Runs.{flat};
+ghost use Rattle.sk_sorted.specs.Runs.{flat};
 ghost use Rattle.sk_model.specs.Documents.{keeps_slot, has_slot};
 ghost use Rattle.sk_model.specs.Edits.{nothing_live, edited, reply_to, document_at, IsLive};
 ghost use Rattle.sk_documents.specs.Documented.{HasTerms};

@@ -3,6 +3,7 @@
 ghost use Rattle.std.specs.Prelude.{◌≡◌, ◌+◌};
 
 use std::marker::Model;
+use std::rt::Env;
 use std::sync::ledger::{Blank, Book, Ledger, Share};
 
 /// How many index entries were read. Contracts see a number; a program holds no bytes of it. Only `tick` changes it.
@@ -23,8 +24,9 @@ impl<L: Ledger> Model for Steps<L> {
 }
 
 impl<L: Ledger> Steps<L> {
-    /// A counter at 0. The blank, `Blank::new(1)`, is the whole of its ledger.
-    pub fn open(blank: Blank) -> Self
+    /// A counter at 0. The blank, `Blank::new(1)`, is the whole of its ledger. Only `main` and tests have the runtime,
+    /// so that no code below them opens a counter beside the one that it was given.
+    pub fn open<R: Env>(_rt: &R, blank: Blank) -> Self
         requires name { blank.name ≡ L.name }
         requires parts { blank.parts ≡ L.parts }
         requires one { blank.parts ≡ 1 }

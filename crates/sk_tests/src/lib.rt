@@ -18,7 +18,7 @@ mod lists;
 #[cfg(test)]
 mod pieces;
 #[cfg(test)]
-mod shown;
+mod query_json;
 #[cfg(test)]
 mod sorted;
 #[cfg(test)]
