@@ -7,3 +7,5 @@ pub mod NeedLaws
 pub mod HeavyLaws
 pub mod StopLaws
 pub mod SharpLaws
+pub mod OfferLaws
+pub mod SeeLaws

@@ -1,57 +1,15 @@
 //! A match that is offered to a page.
-ghost use Rattle.std.specs.Prelude.{◌≡◌, ◌≢◌, ◌≤◌, ◌<◌, ◌+◌, ◌^◌, ℕ, true, List, [], length, All, IfOk, IsOk, OnOk, IfSome, None};
+ghost use Rattle.std.specs.Prelude.{◌≡◌, ◌≢◌, ◌<◌, ◌+◌, ◌^◌, ℕ, true, List, [], length, All, IfOk, IsOk, OnOk, IfSome, None};
 ghost use Rattle.sk_base.specs.declared.rank.Rank.{Rank};
-ghost use Rattle.sk_model.specs.Allowance.{key_readings, value_readings};
-ghost use Rattle.sk_model.specs.Edits.{document_at};
-ghost use Rattle.sk_model.specs.Matches.{key_for};
 ghost use Rattle.sk_collapse.specs.Collapsed.{group_of};
 ghost use Rattle.std.specs.Option.{IsSomeAnd};
 ghost use Rattle.sk_heap.specs.Held.{need_of, offered};
 ghost use Rattle.sk_seen.specs.Pages.{Offers};
-ghost use Rattle.sk_match.specs.Hits.{value_at};
 
-use sk_base::{Bytes, Collapse, DocId, OrderBy, Rank, Weight};
+use sk_base::{Bytes, DocId, Rank, Weight};
 use sk_collapse::{Collapser, Verdict};
 use sk_heap::{Hit, ResultHeap};
-use sk_index::Index;
-use sk_steps::Steps;
 use std::alloc::{AllocError, Global};
-use std::sync::ledger::Ledger;
-
-/// The value that an order reads of a document, which is one reading where it reads one.
-pub(crate) fn value_of<'a, L: Ledger>(
-    index: &'a Index,
-    by: OrderBy,
-    id: DocId,
-    steps: &mut Steps<L>,
-) -> &'a [u8]
-    ensures value { result.now ≡ value_at by (document_at id index.now.live.documents) }
-    ensures cost { steps.new ≡ steps.old + value_readings by 1 }
-{
-    let key = match by {
-        OrderBy::Relevance => return &[],
-        OrderBy::Value(key) => key,
-        OrderBy::ValueThenRelevance(key) => key,
-        OrderBy::RelevanceThenValue(key) => key,
-    };
-    index.value(key.slot, id, steps)
-}
-
-/// The key that a document is collapsed on, which is one reading where something is collapsed.
-pub(crate) fn key_of<'a, L: Ledger>(
-    index: &'a Index,
-    collapse: Option<Collapse>,
-    id: DocId,
-    steps: &mut Steps<L>,
-) -> &'a [u8]
-    ensures key { result.now ≡ key_for collapse (document_at id index.now.live.documents) }
-    ensures cost { steps.new ≡ steps.old + key_readings collapse 1 }
-{
-    match collapse {
-        Some(collapse) => index.value(collapse.slot, id, steps),
-        None => &[],
-    }
-}
 
 /// Bytes for an entry. No bytes take no memory.
 fn bytes_of(alloc: Global, bytes: &[u8]) -> Result<Bytes, AllocError>

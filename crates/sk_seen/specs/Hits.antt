@@ -1,7 +1,8 @@
--- What a search reads of a match, and what it tells of one on its page.
+-- What a page reads of a match, and what it tells of one.
 use Rattle.std.specs.Prelude.{ℕ, List, [], Option, None, Some}
 use Rattle.sk_base.specs.declared.rank.OrderBy.{OrderBy}
 use Rattle.sk_base.specs.declared.report.Ranked.{Ranked}
+use Rattle.sk_base.specs.Documents.{value_in}
 use Rattle.sk_base.specs.Numbers.{Docs}
 use Rattle.sk_model.specs.Documents.{Document}
 use Rattle.sk_model.specs.Edits.{document_at}
@@ -9,6 +10,11 @@ use Rattle.sk_model.specs.Matches.{value_by}
 use Rattle.sk_model.specs.Reports.{payload_of}
 use Rattle.sk_heap.specs.declared.hit.Hit.{Hit}
 use Rattle.sk_collapse.specs.Collapsed.{Collapsed, group_of}
+
+-- The value of a document in a slot, and the empty one where it is not there.
+abbrev pub value_there : ℕ → Option Document → List ℕ
+value_there slot None = []
+value_there slot (Some document) = value_in slot document.values
 
 -- The value that an order reads of a document, and the empty one where it is not there.
 abbrev pub value_at : OrderBy → Option Document → List ℕ

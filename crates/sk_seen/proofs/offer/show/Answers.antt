@@ -1,6 +1,6 @@
 use Rattle.std.proofs.Common.{rules}
-use Rattle.sk_match.proofs.TurnLemmas.{kept_out}
-use Rattle.sk_match.proofs.offer.show.Goals as goal
+use Rattle.sk_seen.proofs.OfferLaws.{kept_out}
+use Rattle.sk_seen.proofs.offer.show.Goals as goal
 
 pub returns-then-is_kept_out-clause-offers : goal.returns-then-is_kept_out-clause-offers
 returns-then-is_kept_out-clause-offers c =

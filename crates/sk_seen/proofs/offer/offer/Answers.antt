@@ -1,8 +1,8 @@
 use Rattle.std.proofs.Common.{◌≢◌, All, sym, ap, subst}
 use Rattle.sk_heap.specs.declared.hit.Hit.{Hit}
 use Rattle.sk_heap.specs.Held.{Held}
-use Rattle.sk_match.proofs.TurnLemmas.{differ_without}
-use Rattle.sk_match.proofs.offer.offer.Goals as goal
+use Rattle.sk_seen.proofs.OfferLaws.{differ_without}
+use Rattle.sk_seen.proofs.offer.offer.Goals as goal
 
 pub put-requires-in-KeepFor-clause-differs : goal.put-requires-in-KeepFor-clause-differs
 put-requires-in-KeepFor-clause-differs g =

@@ -1,46 +1,46 @@
 //! The hits of a page.
 ghost use Rattle.std.specs.Prelude.{◌≡◌, ◌≤◌, ◌+◌, length, map, drop, IfOk};
-ghost use Rattle.sk_match.specs.Hits.{dropped_of, ranked_of};
+ghost use Rattle.sk_seen.specs.Hits.{dropped_of, ranked_of};
 
+use crate::reader::Reader;
 use sk_base::{Hits, Items, Ranked, Text};
 use sk_collapse::Collapser;
 use sk_heap::Hit;
-use sk_index::Index;
 use sk_steps::Steps;
 use std::alloc::{AllocError, Global};
 use std::sync::ledger::Ledger;
 
 /// The hits of a page, each with its document's payload, which is one reading.
-pub(crate) fn hits_of<L: Ledger>(
+pub(crate) fn hits_of<R: Reader, L: Ledger>(
     alloc: Global,
-    index: &Index,
+    reader: &R,
     collapser: &Option<Collapser>,
     hits: &[Hit],
     steps: &mut Steps<L>,
 ) -> Result<Hits, AllocError>
-    ensures hits { IfOk result (λ page. page ≡ map (ranked_of index.now.live.documents collapser.now) hits.now) }
+    ensures hits { IfOk result (λ page. page ≡ map (ranked_of (R.documents reader.now) collapser.now) hits.now) }
     ensures cost { IfOk result (λ page. steps.new ≡ steps.old + length page) }
     ensures later { steps.old ≤ steps.new }
 {
     let mut page = Vec::new(alloc);
     'hits: for hit in hits {
-        let ranked = ranked_of(alloc, index, collapser, hit, steps)?;
+        let ranked = ranked_of(alloc, reader, collapser, hit, steps)?;
         page.push(ranked)?;
     }
     Ok(Items::from_vec(page))
 }
 
-fn ranked_of<L: Ledger>(
+fn ranked_of<R: Reader, L: Ledger>(
     alloc: Global,
-    index: &Index,
+    reader: &R,
     collapser: &Option<Collapser>,
     hit: &Hit,
     steps: &mut Steps<L>,
 ) -> Result<Ranked, AllocError>
-    ensures ranked { IfOk result (λ ranked. ranked ≡ ranked_of index.now.live.documents collapser.now hit.now) }
+    ensures ranked { IfOk result (λ ranked. ranked ≡ ranked_of (R.documents reader.now) collapser.now hit.now) }
     ensures cost { steps.new ≡ steps.old + 1 }
 {
-    let payload = match index.payload(hit.rank.id, steps) {
+    let payload = match reader.payload(hit.rank.id, steps) {
         Some(text) => Text::new(alloc, text)?,
         None => Text::empty(alloc),
     };

@@ -1,6 +1,6 @@
 use Rattle.std.proofs.Common.{[], Some, sym, subst}
 use Rattle.sk_seen.specs.Pages.{CollapsesBy}
-use Rattle.sk_match.proofs.turns.collapser_of.Goals as goal
+use Rattle.sk_seen.proofs.page.collapser_of.Goals as goal
 
 pub returns-in-Some : goal.returns-in-Some
 returns-in-Some c key =
