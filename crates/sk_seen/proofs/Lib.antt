@@ -9,3 +9,4 @@ pub mod StopLaws
 pub mod SharpLaws
 pub mod OfferLaws
 pub mod SeeLaws
+pub mod EndLaws

@@ -5,7 +5,7 @@ ghost use Rattle.sk_base.specs.declared.rank.OrderBy.TheVariants as OrderBy;
 ghost use Rattle.sk_base.specs.declared.rank.Rank as RankView;
 ghost use Rattle.sk_model.specs.Allowance.{key_readings, value_readings};
 ghost use Rattle.sk_seen.specs.Hits.{kept_count};
-ghost use Rattle.sk_seen.specs.Needs.{is_settled, need_for, wanted_by};
+ghost use Rattle.sk_seen.specs.Needs.{is_settled, is_whole, need_for, wanted_by};
 ghost use Rattle.sk_seen.specs.Pages.{CollapsesBy};
 ghost use Rattle.sk_seen.specs.Views.{Opens, MaySee, Sees, MayReport, Reports};
 
@@ -110,6 +110,14 @@ impl Page {
             None => true,
         };
         ceiling < self.options.cutoff || self.wanted() <= u64::from(self.seen) && is_above
+    }
+
+    /// Whether a search that is done saw all that matches: it never asked for more than the cutoff, and nothing is left, or
+    /// nothing that weighs as much as that.
+    pub fn is_whole(&self, need: Weight, is_ended: bool, ceiling: Weight) -> bool
+        ensures { result ≡ is_whole self.now.options need is_ended ceiling }
+    {
+        need <= self.options.cutoff && (is_ended || ceiling < self.options.cutoff)
     }
 
     fn wanted(&self) -> u64
