@@ -10,3 +10,4 @@ pub mod SharpLaws
 pub mod OfferLaws
 pub mod SeeLaws
 pub mod EndLaws
+pub mod SpentLaws

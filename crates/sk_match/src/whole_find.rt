@@ -5,7 +5,7 @@ ghost use Rattle.sk_query.specs.Fits.{fits_tree};
 ghost use Rattle.sk_report.specs.Reports.{ReportsFor};
 ghost use Rattle.sk_base.specs.Records.{FitsFind};
 
-use crate::turns::{Search, Turn};
+use crate::open_search::{Search, Turn};
 use sk_base::{Find, Report};
 use sk_index::Index;
 use sk_query::Query;
