@@ -5,8 +5,8 @@ ghost use Rattle.std.specs.Cmp.Lexicographic.{slice_cmp};
 ghost use Rattle.std.specs.Map.{lookup, values_of};
 ghost use Rattle.std.specs.BTreeMap.{is_at};
 ghost use Rattle.sk_base.specs.declared.rank.Rank.{Rank};
-ghost use Rattle.sk_collapse.specs.Collapsed.{Collapsed, Knows, group_of, kept_in};
-ghost use Rattle.sk_collapse.specs.Verdicts.{Judges, verdict_of};
+ghost use Rattle.sk_collapse.specs.Collapsed.{Knows, group_of};
+ghost use Rattle.sk_collapse.specs.Verdicts.{KnowsMore, verdict_of};
 ghost use Rattle.sk_collapse.specs.Groups.{groups_of, fallen, group_with, AreAlike};
 ghost use Rattle.sk_heap.specs.Held.{ranks_of};
 
@@ -66,10 +66,7 @@ impl Collapser {
         requires light { rank.now.weight < 2 ^ 63 }
         requires differs { (k : List ℕ) → 0 < length k → All (λ r. r.id ≢ rank.now.id) (group_of k self.old.groups).kept }
         ensures same { IfOk result (λ verdict. (self.new.order ≡ self.old.order) × (self.new.most ≡ self.old.most) × (self.new.seen ≡ self.old.seen + 1)) }
-        ensures knows { IfOk result (λ verdict. (f : Rank → List ℕ) (ranks : List Rank)
-            → Knows self.old f ranks → f rank.now ≡ key.now → All (λ r. r.id ≢ rank.now.id) ranks
-            → Knows self.new f (rank.now ∷ ranks)
-            × Judges verdict self.old.order f rank.now (kept_in self.old.order self.old.most f ranks) (kept_in self.old.order self.old.most f (rank.now ∷ ranks))) }
+        ensures knows { IfOk result (λ verdict. KnowsMore self.old self.new verdict key.now rank.now) }
         ensures err { OnErr result (self.new ≡ self.old) }
     {
         if key.is_empty() {

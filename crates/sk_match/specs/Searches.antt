@@ -1,33 +1,26 @@
 -- What a search has seen, and what it still has to see.
-use Rattle.std.specs.Prelude.{◌≡◌, ◌≤◌, ◌<◌, ℕ, ◌+◌, ◌||◌, ◌&&◌, ◌⊎◌, max, nat_le, nat_lt, Bool, true, List, [], ◌∷◌, length, filter, is_none, None, Some, if◌then◌else◌}
+use Rattle.std.specs.Prelude.{◌≡◌, ◌≤◌, ◌<◌, ℕ, ◌+◌, ◌||◌, ◌⊎◌, max, nat_le, Bool, true, List, [], ◌∷◌, length, filter, is_none, None, Some, if◌then◌else◌}
 use Rattle.std.specs.List.{AllByRecursion}
 use Rattle.sk_base.specs.declared.find.Find.{Find}
-use Rattle.sk_base.specs.declared.rank.Rank.{Rank}
-use Rattle.sk_base.specs.Numbers.{Docs}
+use Rattle.sk_base.specs.declared.find.Scheme.{Scheme}
 use Rattle.sk_sorted.specs.Entries.{first_id}
 use Rattle.sk_query.specs.declared.form.Form.TheVariants as Form
 use Rattle.sk_query.specs.Trees as Query
 use Rattle.sk_query.specs.Fits.{is_sound}
-use Rattle.sk_model.specs.Allowance.{key_readings, value_readings}
 use Rattle.sk_model.specs.Bounds.{ceil, static_count}
 use Rattle.sk_model.specs.Covers.{CoversAt}
-use Rattle.sk_model.specs.Edits.{document_at, last_id}
-use Rattle.sk_model.specs.Matches.{key_for}
+use Rattle.sk_model.specs.Edits.{last_id}
 use Rattle.sk_model.specs.Settled.{stop_point, decay_point}
 use Rattle.sk_model.specs.Sharp.{is_plain, flat_lists, ups, rare_lists, rare_readings, terms_in, decay_readings}
 use Rattle.sk_index.specs.Indexed.{Indexed}
-use Rattle.sk_nodes.specs.Built.{gives, left, Built}
-use Rattle.sk_seen.specs.Walks.{Walk}
+use Rattle.sk_nodes.specs.Built.{gives, left, first_weight, Built}
 use Rattle.sk_nodes.specs.Stops.{Stops, MayMove}
 use Rattle.sk_nodes.specs.Rare.{Rare}
 use Rattle.sk_nodes.specs.Decays.{Decays, MayFall}
 use Rattle.sk_nodes.specs.declared.tree.Tree.{Tree}
-use Rattle.sk_heap.specs.declared.hit.Hit.{Hit}
-use Rattle.sk_seen.specs.Pages.{Offers, Pages}
 use Rattle.sk_seen.specs.Needs.{is_settled, need_for}
-use Rattle.sk_seen.specs.Calm.{IsCalm}
-use Rattle.sk_match.specs.Hits.{value_at}
-use Rattle.sk_match.specs.declared.turns.Search.{Search}
+use Rattle.sk_seen.specs.Views.{PageOf, Sees}
+use Rattle.sk_match.specs.declared.open_search.Search.{Search}
 
 -- What a search still has to see: ids and weights, by rising id.
 abbrev pub ahead : Indexed → Search → List (ℕ × ℕ)
@@ -37,13 +30,17 @@ ahead index search = left index search.tree
 abbrev pub ahead_to : ℕ → Indexed → Search → List (ℕ × ℕ)
 ahead_to id index search = filter (λ p. nat_le p.0 id) (ahead index search)
 
+-- How many of them stand up to the point at which a page by relevance is settled.
+abbrev pub left_to_stop : Find → Query.Tree → Indexed → Search → ℕ
+left_to_stop find query index search = length (ahead_to (stop_point query find index.live.documents) index search)
+
 -- A search is done where nothing is ahead, or what is ahead cannot change its page.
 abbrev pub is_done : Indexed → Search → Bool
-is_done index search = is_none (first_id (ahead index search)) || is_settled search.options search.seen search.heap search.tree.top.greatest
+is_done index search = is_none (first_id (ahead index search)) || is_settled search.page.options search.page.seen search.page.heap search.tree.top.greatest
 
 -- The readings of a search so far: in lists, and of keys and values.
 abbrev pub spent_by : Search → ℕ
-spent_by search = search.tree.spent + search.read
+spent_by search = search.tree.spent + search.page.read
 
 -- The second of two terms fades behind the point at which it cannot bring a document into the page by itself.
 abbrev pub DecaysBehind : Indexed → Find → Query.Tree → Tree → List ℕ → List ℕ → Type 0
@@ -51,61 +48,25 @@ DecaysBehind index find query tree a b =
     Decays index tree (decay_point query (Query.term b) find index.live.documents) (ceil (Query.term b) find.options.scheme 1 index.live.documents)
     (decay_readings a b (decay_point query (Query.term b) find index.live.documents) index.live.documents 0)
 
--- What a search of this find and query may read: before the point at which a page by relevance is settled it asks its tree for little, of terms alone its tree stops there, where one of its lists leads it reads the others with it, and of an or of two terms either may fade.
-pub record Accounts (index : Indexed) (find : Find) (query : Query.Tree) (last need : ℕ) (tree : Tree) : Type 0 where
-  pub calm : is_plain find ≡ true → IsCalm query find index.live.documents (stop_point query find index.live.documents) last need
+-- What the tree of a search of this find and query may read: of terms alone it stops at the point at which a page by relevance is settled, where one of its lists leads it reads the others with it, and of an or of two terms either may fade.
+pub record Accounts (index : Indexed) (find : Find) (query : Query.Tree) (tree : Tree) : Type 0 where
   pub stops : is_plain find ≡ true → (lists : List (List ℕ)) → flat_lists query index.live.documents ≡ Some lists
       → Stops index tree (stop_point query find index.live.documents) (ups lists (stop_point query find index.live.documents) index.live.documents)
   pub rare : (lists : List (List ℕ)) (m : ℕ) → rare_lists query index.live.documents ≡ Some (lists, m) → Rare index tree (rare_readings lists m index.live.documents)
   pub decays : is_plain find ≡ true → (ts : Query.Trees) (a b : List ℕ) → query ≡ Query.parts Form.Or ts → terms_in ts ≡ Some (a ∷ b ∷ [])
       → DecaysBehind index find query tree a b × DecaysBehind index find query tree b a
 
--- A search is one of this find and query on this index: its tree is the query's; it saw some of the matches, and is sure of what it passed over; it holds the page of them.
+-- A search is one of this find and query on this index: its tree is the query's, its bounds are the query's, and its page is that of a search that is given what the tree gives.
 pub record Stands (search : Search) (index : Indexed) (find : Find) (query : Query.Tree) : Type 0 where
   pub built : Built search.tree index query find.options.scheme
   pub sound : is_sound 1 query ≡ true
-  pub options : search.options ≡ find.options
-  pub order : search.order ≡ find.order
-  pub collapse : search.collapse ≡ find.collapse
-  pub greatest : search.greatest ≡ ceil query find.options.scheme 1 index.live.documents
-  pub most : search.most ≡ static_count query index.live.documents
+  pub bounds : search.bounds ≡ record { greatest = ceil query find.options.scheme 1 index.live.documents; most = static_count query index.live.documents }
   pub need : search.need ≡ search.tree.need
-  pub low : search.greatest < find.options.cutoff → search.need ≤ find.options.cutoff
-  pub saw : List Rank
-  pub seen : search.seen ≡ length saw
-  pub walk : Walk query find index.live.documents (gives index search.tree) search.need saw
-  pub pages : Pages find index.live.documents walk.last saw search.heap search.collapser
-  pub read : search.read ≤ key_readings find.collapse (length saw) + value_readings find.order.by (length saw)
-  pub accounts : Accounts index find query walk.last search.need search.tree
-
--- Nothing was passed over, and nothing is left that weighs as much as the cutoff, where nothing weighs more than the ceiling.
-abbrev pub is_whole : Indexed → Search → ℕ → Bool
-is_whole index search ceiling = nat_le search.need search.options.cutoff && (is_none (first_id (ahead index search)) || nat_lt ceiling search.options.cutoff)
+  pub low : ceil query find.options.scheme 1 index.live.documents < find.options.cutoff → search.need ≤ find.options.cutoff
+  pub page : PageOf search.page query find index.live.documents (gives index search.tree) search.need
+  pub accounts : Accounts index find query search.tree
 
 -- ---- a step of a search
-
--- What it looks for, and in what order, is the same.
-pub record IsSamePage (old new : Search) : Type 0 where
-  pub options : new.options ≡ old.options
-  pub order : new.order ≡ old.order
-  pub collapse : new.collapse ≡ old.collapse
-  pub greatest : new.greatest ≡ old.greatest
-  pub most : new.most ≡ old.most
-
--- And so are its tree, and what that was asked for.
-pub record IsSameBut (old new : Search) : Type 0 where
-  pub page : IsSamePage old new
-  pub tree : new.tree ≡ old.tree
-  pub need : new.need ≡ old.need
-
--- It saw a document with this weight: as a hit with its value and its key it was offered to the page.
-pub record Sees (docs : Docs) (id weight : ℕ) (old new : Search) : Type 0 where
-  pub hit : Hit
-  pub rank : hit.rank ≡ record { weight = weight; value = value_at old.order.by (document_at id docs); id = id }
-  pub key : hit.key ≡ key_for old.collapse (document_at id docs)
-  pub offers : Offers old.heap new.heap old.collapser new.collapser hit
-  pub seen : new.seen ≡ old.seen + 1
-  pub read : new.read ≡ old.read + (value_readings old.order.by 1 + key_readings old.collapse 1)
 
 -- A tree went past a document: of each live one behind it what is left covers what was, under the need, and of the others nothing is left.
 abbrev pub PassesOver : Indexed → ℕ → Tree → Tree → ℕ → Type 0
@@ -120,9 +81,39 @@ KeepsStops index id need old new = (point most : ℕ) → Stops index old point 
 abbrev pub KeepsDecays : Indexed → ℕ → ℕ → Tree → Tree → Type 0
 KeepsDecays index id need old new = (point greatest most : ℕ) → Decays index old point greatest most → (id ≡ last_id) ⊎ MayFall point greatest (id + 1) need old.top.greatest → Decays index new point greatest most
 
+-- What a search asked its tree for behind a document: the need of its page with what it saw, and no less than before; or nothing is left behind the last id.
+abbrev pub AsksBehind : Indexed → ℕ → Search → Search → Type 0
+AsksBehind index id old new =
+    ((new.need ≡ old.need) × (id ≡ last_id) × (ahead index new ≡ []))
+    ⊎ (new.need ≡ max old.need (need_for old.page.options old.page.seen old.page.heap old.tree.top.greatest))
+
+-- A search went past a document, and saw nothing.
+pub record Passes (index : Indexed) (id : ℕ) (old new : Search) : Type 0 where
+  pub over : PassesOver index id old.tree new.tree new.need
+  pub built : (query : Query.Tree) (scheme : Scheme) → Built old.tree index query scheme → Built new.tree index query scheme
+  pub need : new.need ≡ new.tree.need
+  pub asked : AsksBehind index id old new
+  pub stops : KeepsStops index id new.need old.tree new.tree
+  pub rare : (most : ℕ) → Rare index old.tree most → Rare index new.tree most
+  pub decays : KeepsDecays index id new.need old.tree new.tree
+  pub page : new.page ≡ old.page
+  pub bounds : new.bounds ≡ old.bounds
+
+-- Its page saw the document with this id where that weighs the cutoff, and else it is as it was.
+abbrev pub SeesHead : Indexed → ℕ → ℕ → Search → Search → Type 0
+SeesHead index id weight old new =
+    ((old.page.options.cutoff ≤ weight) × Sees index.live.documents id weight old.page new.page) ⊎ ((weight < old.page.options.cutoff) × (new.page ≡ old.page))
+
+-- A search moved past the document at its head alone: it saw that where it weighs the cutoff, and what is left covers what was left behind it, under the need.
+pub record MovesPast (index : Indexed) (old new : Search) : Type 0 where
+  pub head : ℕ
+  pub first : first_id (ahead index old) ≡ Some head
+  pub sees : SeesHead index head (first_weight (ahead index old)) old new
+  pub over : PassesOver index head old.tree new.tree new.need
+
 -- A search asked its tree for the need of its page, with what it saw, and for no less than before; or nothing is ahead.
 abbrev pub Asks : Indexed → Search → Search → Type 0
-Asks index old new = (ahead index new ≡ []) ⊎ (new.need ≡ max old.need (need_for new.options new.seen new.heap old.tree.top.greatest))
+Asks index old new = (ahead index new ≡ []) ⊎ (new.need ≡ max old.need (need_for new.page.options new.page.seen new.page.heap old.tree.top.greatest))
 
 -- A search is on this index: it is one of some find and query there.
 abbrev pub IsOn : Search → Indexed → Type 0

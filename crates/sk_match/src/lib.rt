@@ -1,10 +1,9 @@
 //! One search over an index: from a query to its report.
 #![tactic(auto)]
 
-mod offer;
-mod page;
-mod turns;
-mod whole;
+mod open_search;
+mod reader;
+mod whole_find;
 
-pub use turns::{Search, Turn};
-pub use whole::search;
+pub use open_search::{Search, Turn};
+pub use whole_find::search;

@@ -7,3 +7,7 @@ pub mod NeedLaws
 pub mod HeavyLaws
 pub mod StopLaws
 pub mod SharpLaws
+pub mod OfferLaws
+pub mod SeeLaws
+pub mod EndLaws
+pub mod SpentLaws

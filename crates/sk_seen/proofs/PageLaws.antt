@@ -3,7 +3,7 @@ use Rattle.std.proofs.Common.{◌≡◌, ◌≢◌, ◌≤◌, ◌<◌, ◌+◌,
 use Rattle.std.specs.List.{AllByRecursion, list_all, IsAmong}
 use Rattle.std.specs.List.Sorted.{IsSortedBy}
 use Rattle.std.proofs.lemmas.Bool.Decides.{nat_tests}
-use Rattle.std.proofs.lemmas.List.{length-map}
+use Rattle.std.proofs.lemmas.List.{length-map, get_or-map, get_or-take}
 use Rattle.std.proofs.lemmas.List.Elements.{All-from_recursion, recursion_from_All}
 use Rattle.std.proofs.lemmas.List.Sorted.{IsPermutation-to_front, IsPermutation-sym, IsPermutation-cons, IsPermutation-trans}
 use Rattle.sk_base.specs.declared.find.Collapse.{Collapse}
@@ -343,6 +343,26 @@ module _ (find : Find) (docs : Docs) where
             let less : suc (length (without_rank id Before)) ≡ length Before = subst (λ n. suc (length (without_rank n Before)) ≡ length Before) j.1 (length-without_rank y Before (distinct_from Before orders.1) j.2) in
             omega (arith, h, e, length_place x (without_rank id Before), less)
         longer Verdict.Drop j h = subst (λ zs. page_end find ≤ length zs) (sym j) h
+
+  -- the hits of a page stand in order
+  pub hits_sorted : (last : ℕ) (saw : List Rank) (held : Held) (c : Option Collapsed) → Pages find docs last saw held c → IsSortedBy (λ (x y : Hit). is_before held.order x.rank y.rank) held.hits
+  hits_sorted last saw held c pages k d low m =
+      let long : length (ranks_of held.hits) ≡ length held.hits = length-map held.hits (λ (h : Hit). h.rank) in
+      let same : length (ranks_of held.hits) ≡ length (take (page_end find) (kept_by find docs pages.newest)) = ap length pages.hits in
+      let short : length (take (page_end find) (kept_by find docs pages.newest)) ≡ min (page_end find) (length (kept_by find docs pages.newest)) = length-take (page_end find) (kept_by find docs pages.newest) in
+      subst (λ (o : Order). is_before o (get_or held.hits (k + 1) d).rank (get_or held.hits k d).rank ≡ false) (sym pages.order)
+      (subst (λ (r : Rank). is_before find.order (get_or held.hits (k + 1) d).rank r ≡ false) (rank_at k (omega (arith, m)))
+      (subst (λ (r : Rank). is_before find.order r (get_or (kept_by find docs pages.newest) k d.rank) ≡ false) (rank_at (k + 1) (omega (arith, m)))
+      ((kept_orders pages.newest pages.differ find.collapse key).0 k d.rank (omega arith) (omega (arith, m, long, same, short)))))
+    where
+      rank_at : (j : ℕ) → j < length held.hits → get_or (kept_by find docs pages.newest) j d.rank ≡ (get_or held.hits j d).rank
+      rank_at j l =
+          let long : length (ranks_of held.hits) ≡ length held.hits = length-map held.hits (λ (h : Hit). h.rank) in
+          let same : length (ranks_of held.hits) ≡ length (take (page_end find) (kept_by find docs pages.newest)) = ap length pages.hits in
+          let short : length (take (page_end find) (kept_by find docs pages.newest)) ≡ min (page_end find) (length (kept_by find docs pages.newest)) = length-take (page_end find) (kept_by find docs pages.newest) in
+          sym (get_or-take (page_end find) (kept_by find docs pages.newest) j d.rank (omega (arith, l, long, same, short)))
+          ∙ ap (λ rs. get_or rs j d.rank) (sym pages.hits)
+          ∙ get_or-map (λ (h : Hit). h.rank) held.hits j d d.rank l
 
   -- ---- a match that is offered
 

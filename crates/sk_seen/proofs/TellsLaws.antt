@@ -49,11 +49,11 @@ pub dropped_alike : (order : Order) (collapse : Option Collapse) (key : Rank →
     → count_key key k xs ≡ count_key key k ys → dropped order collapse key k xs ≡ dropped order collapse key k ys
 dropped_alike order collapse key k xs ys h = λ i. cond (length k == 0) 0 (h i - kept_same order collapse key k xs ys h i)
 
-more_keys : (collapse : Option Collapse) (m n : ℕ) → m ≤ n → key_readings collapse m ≤ key_readings collapse n
+pub more_keys : (collapse : Option Collapse) (m n : ℕ) → m ≤ n → key_readings collapse m ≤ key_readings collapse n
 more_keys None m n h = omega arith
 more_keys (Some collapse) m n h = h
 
-more_values : (by : OrderBy) (m n : ℕ) → m ≤ n → value_readings by m ≤ value_readings by n
+pub more_values : (by : OrderBy) (m n : ℕ) → m ≤ n → value_readings by m ≤ value_readings by n
 more_values OrderBy.Relevance m n h = omega arith
 more_values (OrderBy.Value key) m n h = h
 more_values (OrderBy.ValueThenRelevance key) m n h = h

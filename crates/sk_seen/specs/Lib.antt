@@ -4,3 +4,5 @@ pub mod Tells
 pub mod Pages
 pub mod Needs
 pub mod Calm
+pub mod Hits
+pub mod Views

@@ -25,3 +25,7 @@ need_at (Some need) cutoff ceiling = max need cutoff
 -- What a tree is asked for: the cutoff, until enough matches were seen.
 abbrev pub need_for : Options → ℕ → Held → ℕ → ℕ
 need_for options seen held ceiling = if nat_lt seen (wanted_by options) then options.cutoff else need_at (need_of held) options.cutoff ceiling
+
+-- Nothing was passed over, and of what is left nothing weighs as much as the cutoff: nothing is left, or nothing that weighs more than the ceiling.
+abbrev pub is_whole : Options → ℕ → Bool → ℕ → Bool
+is_whole options need ended ceiling = nat_le need options.cutoff && (ended || nat_lt ceiling options.cutoff)

@@ -1,6 +1,6 @@
 -- What a search keeps for its page.
 -- Source: Own.
-use Rattle.std.specs.Prelude.{◌≡◌, ◌≢◌, ◌≤◌, ℕ, List, ◌∷◌, All, AllPairs, Option, None, Some}
+use Rattle.std.specs.Prelude.{◌≡◌, ◌≢◌, ◌≤◌, ℕ, List, AllPairs, Option, None, Some}
 use Rattle.std.specs.List.{AllByRecursion}
 use Rattle.sk_base.specs.declared.find.Collapse.{Collapse}
 use Rattle.sk_base.specs.declared.find.Find.{Find}
@@ -11,8 +11,8 @@ use Rattle.sk_model.specs.Matches.{key_of}
 use Rattle.sk_model.specs.Page.{best_first}
 use Rattle.sk_heap.specs.declared.hit.Hit.{Hit}
 use Rattle.sk_heap.specs.Held.{Held, ranks_of, offered, without}
-use Rattle.sk_collapse.specs.Collapsed.{Collapsed, Knows, kept_in}
-use Rattle.sk_collapse.specs.Verdicts.{Judges}
+use Rattle.sk_collapse.specs.Collapsed.{Collapsed, Knows}
+use Rattle.sk_collapse.specs.Verdicts.{KnowsMore}
 use Rattle.sk_collapse.specs.declared.verdict.Verdict.{Verdict}
 use Rattle.sk_seen.specs.Walks.{page_end, held_by}
 
@@ -29,15 +29,12 @@ judged Verdict.Keep hit held = offered hit held
 judged (Verdict.KeepFor id) hit held = offered hit (without id held)
 judged Verdict.Drop hit held = held
 
--- What a collapser made of a match, if there is one: for every key function that agrees, it knows the match too, and its verdict is what became of the kept ones.
+-- What a collapser made of a match, if there is one: it knows the match too, and its verdict is what became of the kept ones.
 abbrev pub SeesBy : Option Collapsed → Option Collapsed → Verdict → Hit → Type 0
 SeesBy None None verdict hit = verdict ≡ Verdict.Keep
 SeesBy None (Some d) verdict hit = ⊥
 SeesBy (Some c) None verdict hit = ⊥
-SeesBy (Some c) (Some d) verdict hit =
-    (d.order ≡ c.order) × (d.most ≡ c.most)
-    × ((key : Rank → List ℕ) (ranks : List Rank) → Knows c key ranks → key hit.rank ≡ hit.key → All (λ r. r.id ≢ hit.rank.id) ranks
-    → Knows d key (hit.rank ∷ ranks) × Judges verdict c.order key hit.rank (kept_in c.order c.most key ranks) (kept_in c.order c.most key (hit.rank ∷ ranks)))
+SeesBy (Some c) (Some d) verdict hit = (d.order ≡ c.order) × (d.most ≡ c.most) × KnowsMore c d verdict hit.key hit.rank
 
 -- A match was offered to a heap, as the collapser judged.
 pub record Offers (held held2 : Held) (c c2 : Option Collapsed) (hit : Hit) : Type 0 where

@@ -1,6 +1,0 @@
-use Rattle.std.proofs.Common.{◌≡◌, ◌+◌, length, map, take}
-use Rattle.sk_match.specs.Hits.{ranked_of}
-use Rattle.sk_match.proofs.page.hits_of.Given as goal
-
-abbrev pub invariant-hits : goal.invariant-hits
-invariant-hits g l = (l.page.items ≡ map (ranked_of l.index.live.documents l.collapser) (take l.hit-index l.hits)) × (l.steps ≡ l.fn.steps + length l.page.items)
