@@ -7,19 +7,22 @@ use Rattle.sk_model.specs.Covers.{CoversAt, Covers}
 use Rattle.sk_model.proofs.CombiningLaws.{either-apart}
 use Rattle.sk_model.proofs.CoverLaws.{covers_itself, covers_exactly}
 use Rattle.sk_index.specs.Indexed.{Indexed}
-use Rattle.sk_decay.specs.Heads.{IsHead}
+use Rattle.sk_decay.specs.Heads.{IsHead, NoneBelow}
 use Rattle.sk_nodes.specs.declared.top.Top.{Top}
-use Rattle.sk_nodes.specs.Shapes.{Shape, ended, leaf, span, pair, odd, any, tested, Sides, no_sides, side, size_of, sizes_in}
+use Rattle.sk_nodes.specs.Shapes.{Shape, ended, any, Sides, no_sides, side, size_of, sizes_in}
 use Rattle.sk_nodes.specs.Left.{rest, rests, from_on, unread_of, unread_in, greatest_sum}
 use Rattle.sk_nodes.specs.Sound.{IsTop, IsOdd, Sound, AreSound, Lands}
 use Rattle.sk_nodes.specs.Odd.{AreSought, followed_by}
-use Rattle.sk_nodes.specs.Flat.{room_to, rooms_to, IsFlat, AreFlat, AreNests, MayGo, Stays}
-use Rattle.sk_nodes.specs.Led.{follow_rooms, Leads}
-use Rattle.sk_nodes.specs.Any.{AreKept, HaveLed, AreWeighed, AreEnded}
+use Rattle.sk_nodes.specs.Flat.{room_to, rooms_to, IsFlat, AreFlat, AreNests, MayGo}
+use Rattle.sk_nodes.specs.Led.{follow_room, follow_rooms}
+use Rattle.sk_nodes.specs.Accounts.{Keeps}
+use Rattle.sk_nodes.specs.Moved.{Kind, flat_to, plain_to, with_lead, lone_behind, nest_behind, account_of, Accounts, Sought}
+use Rattle.sk_nodes.specs.Any.{AreKept, AreMoved, HaveLed, AreWeighed, AreEnded}
 use Rattle.sk_nodes.specs.Skips.{IsLight}
 use Rattle.sk_nodes.proofs.LeafLaws.{from_on-at, from_cases}
 use Rattle.sk_nodes.proofs.NodeLaws.{IsHead-none, ended_top, none_bound}
 use Rattle.sk_nodes.proofs.OddLaws.{either_none, either_first, either_second, either_both, sum_bound, none_below, same_from}
+use Rattle.sk_nodes.proofs.AccountLaws.{keeps_other}
 use Rattle.sk_nodes.proofs.StopLaws.{may_target}
 use Rattle.sk_nodes.proofs.BlockLaws.{light_enough}
 
@@ -128,18 +131,28 @@ kept_same i target spent ss = record {
 
 -- one side, and the others
 pub kept_first : (i : Indexed) (target before between after : ℕ) (t : Top) (s : Shape) (ss : Sides) (u : Top) (r : Shape) (rs : Sides)
-    → Stays i target 0 before between s r → Leads i target 0 before between s r → AreKept i target between after ss rs → AreKept i target before after (side t s ss) (side u r rs)
-kept_first i target before between after t s ss u r rs first leads others = record {
-  flat = λ flat. (first.flat 0 (omega arith) flat.0, others.flat flat.1);
+    → Accounts i target 0 before between s r → AreKept i target between after ss rs → AreKept i target before after (side t s ss) (side u r rs)
+kept_first i target before between after t s ss u r rs first others = record {
+  flat = λ flat. ((first.keeps (flat_to 0)).kind flat.0, others.flat flat.1);
   paid = λ point flat near.
-      let one = first.flat_paid 0 point (omega arith) flat.0 (inr (inl (refl, near))) in
+      let one : between + room_to i point r ≤ before + room_to i point s = (first.keeps (flat_to point)).paid flat.0 (inr (inl (refl, near))) in
       let more = others.paid point flat.1 near in
       omega (arith, one, more);
-  nests = λ nests. (leads.nest refl nests.0, others.nests nests.1);
+  nests = λ nests. (((first.keeps (nest_behind 0 0)).kind (refl, nests.0)).1, others.nests nests.1);
   nests_paid = λ head unread following nests.
-      let one = leads.nest_paid head unread following refl nests.0 in
+      let one : between + follow_room i head unread r ≤ before + follow_room i head unread s = (first.keeps (nest_behind head unread)).paid (refl, nests.0) following in
       let more = others.nests_paid head unread following nests.1 in
       omega (arith, one, more);
+}
+
+-- the same of all that is kept of them
+pub moved_first : (i : Indexed) (target before between after steps more : ℕ) (t : Top) (s : Shape) (ss : Sides) (u : Top) (r : Shape) (rs : Sides)
+    → Sought i target 0 t.greatest before between steps more s r u → Accounts i target 0 before between s r → AreMoved i target between after ss rs → AreMoved i target before after (side t s ss) (side u r rs)
+moved_first i target before between after steps more t s ss u r rs sought accounts others = record {
+  sound = record { top = sought.lands.top; sound = sought.lands.sound; others = others.sound };
+  falls = omega (arith, sought.falls, others.falls);
+  smaller = omega (arith, sought.smaller, others.smaller);
+  kept = kept_first i target before between after t s ss u r rs accounts others.kept;
 }
 
 pub rooms_behind : (i : Indexed) (point : ℕ) (ss rs : Sides) → rooms_to i point (followed_by ss rs) ≡ rooms_to i point ss + rooms_to i point rs
@@ -185,41 +198,31 @@ kept_behind i target before between after ss rs us vs some others = record {
 }
 
 -- a node of these sides
-pub any_stays : (i : Indexed) (target need before after : ℕ) (ss rs : Sides) → target < 2 ^ 32 → AreKept i target before after ss rs → Stays i target need before after (any ss) (any rs)
-any_stays i target need before after ss rs lt kept = record {
-  flat = λ last le flat. kept.flat flat;
-  flat_paid = λ last point le flat may. kept.paid point flat (may_target point target need (rest i (any ss) point) lt may);
-  plain = λ plain. absurd plain;
-  plain_paid = λ point plain le. absurd plain;
-}
+pub any_accounts : (i : Indexed) (target need before after : ℕ) (ss rs : Sides) → target < 2 ^ 32 → AreKept i target before after ss rs → Accounts i target need before after (any ss) (any rs)
+any_accounts i target need before after ss rs small kept = record { keeps = by; advances = λ led. absurd led }
+  where
+    by : (kind : Kind) → Keeps (account_of i need kind) target before after (any ss) (any rs)
+    by (flat_to point) = record { kind = λ flat. kept.flat flat; paid = λ flat may. kept.paid point flat (may_target point target need (rest i (any ss) point) small may) }
+    by (plain_to point) = keeps_other (account_of i need (plain_to point)) target before after (any ss) (any rs) (λ h. h)
+    by with_lead = keeps_other (account_of i need with_lead) target before after (any ss) (any rs) (λ h. h)
+    by (lone_behind head unread) = keeps_other (account_of i need (lone_behind head unread)) target before after (any ss) (any rs) (λ h. h)
+    by (nest_behind head unread) = record { kind = λ h. (h.0, (refl, kept.nests h.1.1)); paid = λ h following. kept.nests_paid head unread following h.1.1 }
+
+-- the same under a need: nothing follows
+any_needed : (i : Indexed) (target need before after : ℕ) (ss rs : Sides) → 0 < need → (AreFlat ss → AreFlat rs)
+    → ((point : ℕ) → AreFlat ss → MayGo point target need (rest i (any ss) point) → after + rooms_to i point rs ≤ before + rooms_to i point ss) → Accounts i target need before after (any ss) (any rs)
+any_needed i target need before after ss rs needed flat paid = record { keeps = by; advances = λ led. absurd led }
+  where
+    by : (kind : Kind) → Keeps (account_of i need kind) target before after (any ss) (any rs)
+    by (flat_to point) = record { kind = λ h. flat h; paid = λ h may. paid point h may }
+    by (plain_to point) = keeps_other (account_of i need (plain_to point)) target before after (any ss) (any rs) (λ h. h)
+    by with_lead = keeps_other (account_of i need with_lead) target before after (any ss) (any rs) (λ h. h)
+    by (lone_behind head unread) = keeps_other (account_of i need (lone_behind head unread)) target before after (any ss) (any rs) (λ h. h)
+    by (nest_behind head unread) = keeps_other (account_of i need (nest_behind head unread)) target before after (any ss) (any rs) (λ h. omega (arith, needed, h.0))
 
 sum_past : (i : Indexed) (ss : Sides) (id : ℕ) → AreSound i ss → 2 ^ 32 ≤ id → sum_of_any (rests i ss id) ≡ None
 sum_past i no_sides id sound le = refl
 sum_past i (side t s ss) id sound le = either_none (rest i s id) (sum_of_any (rests i ss id)) (sound.top.head.past id le) (sum_past i ss id sound.others le)
-
--- the same node, as one that follows a list
-pub any_leads : (i : Indexed) (target need before after : ℕ) (ss rs : Sides) → AreKept i target before after ss rs → Leads i target need before after (any ss) (any rs)
-any_leads i target need before after ss rs kept = record {
-  led = λ led. absurd led;
-  led_paid = λ led. absurd led;
-  advances = λ led. absurd led;
-  lone = λ lone. absurd lone;
-  lone_paid = λ head unread following lone. absurd lone;
-  nest = λ none nest. (refl, kept.nests nest.1);
-  nest_paid = λ head unread following none nest. kept.nests_paid head unread following nest.1;
-}
-
--- nothing follows under a need
-pub any_leads_needed : (i : Indexed) (target need before after : ℕ) (ss rs : Sides) → 0 < need → Leads i target need before after (any ss) (any rs)
-any_leads_needed i target need before after ss rs needed = record {
-  led = λ led. absurd led;
-  led_paid = λ led. absurd led;
-  advances = λ led. absurd led;
-  lone = λ lone. absurd lone;
-  lone_paid = λ head unread following lone. absurd lone;
-  nest = λ none nest. absurd (omega (arith, needed, none));
-  nest_paid = λ head unread following none nest. absurd (omega (arith, needed, none));
-}
 
 -- ---- some sides lead
 
@@ -318,12 +321,7 @@ ended_flat (side t s ss) h = (subst (λ (r : Shape). IsFlat 0 r) (sym h.0.1) tt,
 
 pub size_some : (s : Shape) → 1 ≤ size_of s
 size_some ended = omega arith
-size_some (leaf l) = omega arith
-size_some (span r) = omega arith
-size_some (pair form ta a tb b) = omega arith
-size_some (odd ss) = omega arith
-size_some (any ss) = omega arith
-size_some (tested p t s) = omega arith
+size_some _ = omega arith
 
 -- ---- how far the sides have come
 
@@ -445,13 +443,23 @@ module _ (i : Indexed) (target need : ℕ) (some_need : 0 < need) (before : ℕ)
       ])
       (λ lt. ended_none i rs id over)
 
-  pub any_gone_stays : (from after : ℕ) (ss rs : Sides) → AnySoFar i target need from before after ss0 ss → AreEnded rs → Stays i target need before after (any ss0) (any rs)
-  any_gone_stays from after ss rs far over = record {
-    flat = λ last le flat. ended_flat rs over;
-    flat_paid = λ last point le flat may. let paid = far.paid point flat may in omega (arith, paid, ended_rooms i point rs over);
-    plain = λ plain. absurd plain;
-    plain_paid = λ point plain le. absurd plain;
-  }
+  -- what they give covers what they gave
+  pub any_found : (head after : ℕ) (rs : Sides) → AnySoFar i target need head before after ss0 rs → NoneBelow head (rest i (any rs)) → Covers (from_on target (rest i (any ss0))) (rest i (any rs)) need
+  any_found head after rs far below = λ id.
+      from_cases target (rest i (any ss0)) id (rest i (any rs) id) need
+      (λ up. elim (cases_lt id head) as (λ _. CoversAt (rest i (any ss0) id) (rest i (any rs) id) need) [
+        | inl lt ↦ light_covers need (rest i (any ss0) id) (rest i (any rs) id) (below id lt) (far.light id up lt)
+        | inr le ↦ subst (λ (xs : List (Option ℕ)). CoversAt (rest i (any ss0) id) (sum_of_any xs) need) (sym (far.same id le)) (covers_itself (rest i (any ss0) id) need)
+      ])
+      (λ lt. below id (omega (arith, lt, far.begun)))
+
+  -- the account of a node of these sides
+  pub any_kept : (from after : ℕ) (ss : Sides) → AnySoFar i target need from before after ss0 ss → Accounts i target need before after (any ss0) (any ss)
+  any_kept from after ss far = any_needed i target need before after ss0 ss some_need far.flat far.paid
+
+  pub any_gone_kept : (from after : ℕ) (ss rs : Sides) → AnySoFar i target need from before after ss0 ss → AreEnded rs → Accounts i target need before after (any ss0) (any rs)
+  any_gone_kept from after ss rs far over =
+      any_needed i target need before after ss0 rs some_need (λ flat. ended_flat rs over) (λ point flat may. let paid = far.paid point flat may in omega (arith, paid, ended_rooms i point rs over))
 
 -- the end of all
 pub any_ended_top : (i : Indexed) (ss : Sides) → AreEnded ss → IsTop i (record { head = 2 ^ 32; weight = 0; greatest = 0 }) (any ss)

@@ -8,8 +8,8 @@ use Rattle.sk_nodes.specs.declared.top.Top.{Top}
 use Rattle.sk_nodes.specs.Shapes.{Shape, any, Sides, no_sides, side}
 use Rattle.sk_nodes.specs.Odd.{followed_by}
 use Rattle.sk_nodes.specs.Opened.{count_in}
-use Rattle.sk_nodes.specs.Flat.{IsNest, Stays, OpensNest}
-use Rattle.sk_nodes.specs.Led.{Leads}
+use Rattle.sk_nodes.specs.Flat.{IsNest, OpensNest}
+use Rattle.sk_nodes.specs.Moved.{flat_to, nest_behind, Accounts}
 use Rattle.sk_nodes.specs.OpenedLed.{CanLead, OpensFollowing}
 use Rattle.sk_nodes.specs.Any.{OpensTerms}
 use Rattle.sk_nodes.proofs.NestLaws.{nests_flat, split_entered}
@@ -40,23 +40,23 @@ opens_both i us ss rs lists first second s0 s1 s2 is whole one two = subst (λ (
 })
 
 -- the node of these sides
-pub terms_nest : (i : Indexed) (form : Form) (ss : Sides) (s : Shape) (lists : List (List ℕ)) (s0 s1 s2 : ℕ) → form ≡ Form.Or → OpensTerms i ss lists s0 s1 → Stays i 0 0 s1 s2 (any ss) s → Leads i 0 0 s1 s2 (any ss) s → OpensNest i form s lists s0 s2
-terms_nest i form ss s lists s0 s1 s2 is opens stays leads = record {
-  nest = subst (λ (f : Form). IsNest f s) (sym is) (leads.nest refl (refl, opens.nests));
+pub terms_nest : (i : Indexed) (form : Form) (ss : Sides) (s : Shape) (lists : List (List ℕ)) (s0 s1 s2 : ℕ) → form ≡ Form.Or → OpensTerms i ss lists s0 s1 → Accounts i 0 0 s1 s2 (any ss) s → OpensNest i form s lists s0 s2
+terms_nest i form ss s lists s0 s1 s2 is opens accounts = record {
+  nest = subst (λ (f : Form). IsNest f s) (sym is) ((accounts.keeps (nest_behind 0 0)).kind (refl, (refl, opens.nests))).1;
   account = λ point.
       let p = opens.account point in
-      let q = stays.flat_paid 0 point (omega arith) (nests_flat ss opens.nests) (inr (inl (refl, omega arith))) in
+      let q = (accounts.keeps (flat_to point)).paid (nests_flat ss opens.nests) (inr (inl (refl, omega arith))) in
       omega (arith, p, q);
 }
 
 -- the same, as one that follows a list
-pub terms_follow : (i : Indexed) (ts : Trees.Trees) (ss : Sides) (s : Shape) (lists : List (List ℕ)) (s0 s1 s2 : ℕ) → 3 ≤ count_in ts → terms_in ts ≡ Some lists → OpensTerms i ss lists s0 s1 → Leads i 0 0 s1 s2 (any ss) s → OpensFollowing i s lists s0 s2
-terms_follow i ts ss s lists s0 s1 s2 many e opens leads = record {
-  nest = leads.nest refl (refl, opens.nests);
+pub terms_follow : (i : Indexed) (ts : Trees.Trees) (ss : Sides) (s : Shape) (lists : List (List ℕ)) (s0 s1 s2 : ℕ) → 3 ≤ count_in ts → terms_in ts ≡ Some lists → OpensTerms i ss lists s0 s1 → Accounts i 0 0 s1 s2 (any ss) s → OpensFollowing i s lists s0 s2
+terms_follow i ts ss s lists s0 s1 s2 many e opens accounts = record {
+  nest = ((accounts.keeps (nest_behind 0 0)).kind (refl, (refl, opens.nests))).1;
   lone = λ one. let n = terms_count ts lists e in absurd (omega (arith, n.0, many, one));
   account = λ head unread m within begun.
       let p = opens.follows head unread m within begun in
-      let q = leads.nest_paid head unread (inr refl) refl (refl, opens.nests) in
+      let q = (accounts.keeps (nest_behind head unread)).paid (refl, (refl, opens.nests)) (inr refl) in
       omega (arith, p, q);
 }
 

@@ -14,13 +14,15 @@ use Rattle.sk_decay.specs.Sides.{second_target}
 use Rattle.sk_nodes.specs.declared.top.Top.{Top}
 use Rattle.sk_nodes.specs.declared.leaf.Leaf.{Leaf}
 use Rattle.sk_nodes.specs.Leaves.{entries_of, head_of, leaf_unread}
-use Rattle.sk_nodes.specs.Shapes.{Shape, ended, leaf, span, pair, odd, any, tested}
+use Rattle.sk_nodes.specs.Shapes.{Shape, ended, leaf, pair}
 use Rattle.sk_nodes.specs.Left.{greatest_in}
 use Rattle.sk_nodes.specs.Sound.{IsTop, Sound}
 use Rattle.sk_nodes.specs.Decayed.{changed_pair, decayed}
 use Rattle.sk_nodes.specs.Flat.{room_to}
 use Rattle.sk_nodes.specs.Led.{count_behind, IsLone, lead_head, lead_unread, Walks}
-use Rattle.sk_nodes.specs.Fading.{room_behind, StandsOn, following_room, leading_room, both_room, fading_room, IsFadingForm, IsFading, PairMayFade, MayFade, Moves, Fades, MayLeave, FadesUnder}
+use Rattle.sk_nodes.specs.Fading.{room_behind, StandsOn, following_room, leading_room, both_room, fading_room, IsFadingForm, IsFading, PairMayFade, MayFade, Moves, MayLeave, FadesUnder}
+use Rattle.sk_nodes.specs.Accounts.{Keeps}
+use Rattle.sk_nodes.specs.Moved.{fading_account}
 use Rattle.sk_nodes.proofs.StopLaws.{if_so}
 use Rattle.sk_nodes.proofs.FadeNumbers.{following_under, leading_le, OtherMoved, FadingMoved, followed_paid, followed_gone, Sought, AreOpen, Leaves, leads_gone, leads_paid, leaves_met, leaves_on}
 
@@ -34,50 +36,30 @@ behind_some i point (leaf l) lone past small = by (entries_of i l) past small
     by : (es : Postings) → point < head_of es → head_of es < 2 ^ 32 → 1 ≤ count_behind point es
     by [] past small = absurd (omega (arith, small))
     by (p ∷ ps) past small = grind (arith, nat_tests)
-behind_some i point (span r) lone past small = absurd lone
-behind_some i point (pair form ta a tb b) lone past small = absurd lone
-behind_some i point (odd ss) lone past small = absurd lone
-behind_some i point (any ss) lone past small = absurd lone
-behind_some i point (tested p t s) lone past small = absurd lone
+behind_some i point _ lone past small = absurd lone
 
 decayed_itself : (s : Shape) (need : ℕ) → IsLone s → decayed need s ≡ s
 decayed_itself ended need lone = refl
 decayed_itself (leaf l) need lone = refl
-decayed_itself (span r) need lone = absurd lone
-decayed_itself (pair form ta a tb b) need lone = absurd lone
-decayed_itself (odd ss) need lone = absurd lone
-decayed_itself (any ss) need lone = absurd lone
-decayed_itself (tested p t s) need lone = absurd lone
+decayed_itself _ need lone = absurd lone
 
 -- what it may read alone, being read out or fading
 alone_room : (i : Indexed) (point : ℕ) (s : Shape) → IsLone s → (fading_room i point true s ≡ lead_unread i s) × (fading_room i point false s ≡ room_to i point s)
 alone_room i point ended lone = (refl, refl)
 alone_room i point (leaf l) lone = (refl, refl)
-alone_room i point (span r) lone = absurd lone
-alone_room i point (pair form ta a tb b) lone = absurd lone
-alone_room i point (odd ss) lone = absurd lone
-alone_room i point (any ss) lone = absurd lone
-alone_room i point (tested p t s) lone = absurd lone
+alone_room i point _ lone = absurd lone
 
 -- it goes on alone, being read out
 alone_other : (i : Indexed) (greatest point target : ℕ) (s : Shape) → IsLone s → IsFading i greatest true s × MayFade point target true s
 alone_other i greatest point target ended lone = (tt, tt)
 alone_other i greatest point target (leaf l) lone = (tt, tt)
-alone_other i greatest point target (span r) lone = absurd lone
-alone_other i greatest point target (pair form ta a tb b) lone = absurd lone
-alone_other i greatest point target (odd ss) lone = absurd lone
-alone_other i greatest point target (any ss) lone = absurd lone
-alone_other i greatest point target (tested p t s) lone = absurd lone
+alone_other i greatest point target _ lone = absurd lone
 
 -- or fading
 alone_fading : (i : Indexed) (greatest point target : ℕ) (s : Shape) → IsLone s → greatest_in s ≤ greatest → target ≤ point + 1 → IsFading i greatest false s × MayFade point target false s
 alone_fading i greatest point target ended lone bound near = (tt, tt)
 alone_fading i greatest point target (leaf l) lone bound near = (bound, near)
-alone_fading i greatest point target (span r) lone bound near = absurd lone
-alone_fading i greatest point target (pair form ta a tb b) lone bound near = absurd lone
-alone_fading i greatest point target (odd ss) lone bound near = absurd lone
-alone_fading i greatest point target (any ss) lone bound near = absurd lone
-alone_fading i greatest point target (tested p t s) lone bound near = absurd lone
+alone_fading i greatest point target _ lone bound near = absurd lone
 
 -- ---- a leaf that was moved on
 
@@ -132,10 +114,6 @@ moves_decayed i target need before after s t top new lone same moves =
       greatest = m.greatest;
     }
 
-pub moves_along : (i : Indexed) (target before after : ℕ) (old new s n : Shape) (top : Top) → old ≡ s → new ≡ n → (IsLone s → Moves i target before after s top n) → IsLone old → Moves i target before after old top new
-moves_along i target before after old new s n top e f moves lone =
-    subst (λ (o : Shape). Moves i target before after o top new) (sym e) (subst (λ (o : Shape). Moves i target before after s top o) (sym f) (moves (subst (λ (o : Shape). IsLone o) e lone)))
-
 pub moves_leaf : (i : Indexed) (target before after : ℕ) (old new : Leaf) (top : Top) → top.head ≡ head_of (entries_of i new) → Walks i target before after old new
     → ((point : ℕ) → target ≤ point + 1 → after + count_to point (entries_of i new) ≤ before + count_to point (entries_of i old))
     → after + leaf_unread i new ≤ before + leaf_unread i old → new.greatest ≡ old.greatest → Moves i target before after (leaf old) top (leaf new)
@@ -154,36 +132,10 @@ moves_leaf i target before after old new top at walks moves paid own = record {
 
 -- ---- a node that was moved on
 
-pub fades_other : (i : Indexed) (target before after : ℕ) (old new : Shape) → ((greatest : ℕ) (first : Bool) → IsFading i greatest first old → ⊥) → Fades i target before after old new
-fades_other i target before after old new other = record {
-  fading = λ greatest first h. absurd (other greatest first h);
-  paid = λ point greatest first h may. absurd (other greatest first h);
-}
-
-pub fades_ended : (i : Indexed) (target spent : ℕ) → Fades i target spent spent ended ended
-fades_ended i target spent = record {
-  fading = λ greatest first h. h;
-  paid = λ point greatest first h may. omega arith;
-}
-
 pub fades_leaf : (i : Indexed) (target before after : ℕ) (old new : Leaf) → ((point : ℕ) → target ≤ point + 1 → after + count_to point (entries_of i new) ≤ before + count_to point (entries_of i old))
-    → after + leaf_unread i new ≤ before + leaf_unread i old → new.greatest ≡ old.greatest → Fades i target before after (leaf old) (leaf new)
-fades_leaf i target before after old new moves paid own = record {
-  fading = λ greatest first h. fading first greatest h;
-  paid = λ point greatest first h may. room first point greatest h may;
-}
-  where
-    fading : (first : Bool) (greatest : ℕ) → IsFading i greatest first (leaf old) → IsFading i greatest first (leaf new)
-    fading true greatest h = tt
-    fading false greatest h = omega (arith, own, h)
-
-    room : (first : Bool) (point greatest : ℕ) → IsFading i greatest first (leaf old) → MayFade point target first (leaf old) → after + fading_room i point first (leaf new) ≤ before + fading_room i point first (leaf old)
-    room true point greatest h may = paid
-    room false point greatest h may = moves point may
-
-pub fades_along : (i : Indexed) (target before after : ℕ) (old new s n : Shape) → old ≡ s → new ≡ n → Fades i target before after s n → Fades i target before after old new
-fades_along i target before after old new s n e f h =
-    subst (λ (o : Shape). Fades i target before after o new) (sym e) (subst (λ (o : Shape). Fades i target before after s o) (sym f) h)
+    → after + leaf_unread i new ≤ before + leaf_unread i old → new.greatest ≡ old.greatest → (point greatest : ℕ) (first : Bool) → Keeps (fading_account i point greatest first) target before after (leaf old) (leaf new)
+fades_leaf i target before after old new moves paid own point greatest true = record { kind = λ h. tt; paid = λ h may. paid }
+fades_leaf i target before after old new moves paid own point greatest false = record { kind = λ h. omega (arith, own, h); paid = λ h may. moves point may }
 
 -- ---- what is put in the place of two sides
 
@@ -342,7 +294,6 @@ decayed_stands i point greatest target need first top s is sound opened enough h
     by first ended le sound h = (first, (tt, (tt, omega arith)))
     by true (leaf l) le sound h = (true, (tt, (tt, le_refl (leaf_unread i l))))
     by false (leaf l) le sound h = (false, (h, (leaf_near l le h may, le_refl (count_to point (entries_of i l)))))
-    by first (span r) le sound h = absurd h
     by true (pair Form.Or ta a tb b) le sound h = or_second i point greatest target need ta a tb b sound.first sound.second h.1.0 h.1.1.0 may h.1.1.1 le
     by true (pair Form.AndMaybe ta a tb b) le sound h = maybe_second i point greatest target need ta a tb b sound.first sound.second h.1.0 h.1.1.0 may h.1.1.1
     by true (pair Form.And ta a tb b) le sound h = both_second i point greatest target need ta a tb b sound.first sound.second h.1.0 h.1.1.0 may h.1.1.1
@@ -351,9 +302,7 @@ decayed_stands i point greatest target need first top s is sound opened enough h
     by false (pair Form.And ta a tb b) le sound h = both_first i point greatest target need ta a tb b sound.first sound.second h.1.0 h.1.1.0 may h.1.1.1
     by true (pair _ ta a tb b) le sound h = absurd h.0
     by false (pair _ ta a tb b) le sound h = absurd h.0
-    by first (odd ss) le sound h = absurd h
-    by first (any ss) le sound h = absurd h
-    by first (tested p t s) le sound h = absurd h
+    by first _ le sound h = absurd h
 
 -- ---- a node under a need
 
@@ -382,12 +331,12 @@ under_leaf i target need before after old new top s n e f is opened enough own p
     by point greatest false h may = (false, (omega (arith, own, h), moves point (near point greatest h may)))
 
 -- it was replaced, and moved on
-pub under_moved : (i : Indexed) (target need before after : ℕ) (top : Top) (s mid new : Shape) → IsTop i top s → Sound i s → top.head < 2 ^ 32 → need ≤ top.greatest → mid ≡ decayed need s → Fades i target before after mid new → FadesUnder i target need before after s new
+pub under_moved : (i : Indexed) (target need before after : ℕ) (top : Top) (s mid new : Shape) → IsTop i top s → Sound i s → top.head < 2 ^ 32 → need ≤ top.greatest → mid ≡ decayed need s → ((point greatest : ℕ) (first : Bool) → Keeps (fading_account i point greatest first) target before after mid new) → FadesUnder i target need before after s new
 under_moved i target need before after top s mid new is sound opened enough e fades point greatest first h may =
     let stands = decayed_stands i point greatest target need first top s is sound opened enough h may in
-    let f = subst (λ (o : Shape). Fades i target before after o new) e fades in
-    let paid = f.paid point greatest stands.0 stands.1.0 stands.1.1.0 in
-    (stands.0, (f.fading greatest stands.0 stands.1.0, omega (arith, paid, stands.1.1.1)))
+    let keeps = subst (λ (o : Shape). Keeps (fading_account i point greatest stands.0) target before after o new) e (fades point greatest stands.0) in
+    let paid : after + fading_room i point stands.0 new ≤ before + fading_room i point stands.0 (decayed need s) = keeps.paid stands.1.0 stands.1.1.0 in
+    (stands.0, (keeps.kind stands.1.0, omega (arith, paid, stands.1.1.1)))
 
 -- ---- two sides that are moved on
 
@@ -561,19 +510,19 @@ fades_begun i form target spent ta a tb b = record {
 module _ (i : Indexed) (form : Form) (target from before spent between : ℕ) (ta0 : Top) (a0 : Shape) (tb0 : Top) (b0 : Shape) (ta : Top) (a : Shape) (tb : Top) (b : Shape) (ua : Top) (c : Shape)
     (far : FadesSoFar i form target from before spent ta0 a0 tb0 b0 ta a tb b) (one : StandsOn i ta a → Moves i from spent between a ua c) where
   -- the first side alone, where the form is led and it has ended
-  pub fades_half : 2 ^ 32 ≤ second_target form from ua.head → from < 2 ^ 32 → Fades i target before between (pair form ta0 a0 tb0 b0) (pair form ua c tb b)
-  fades_half end small = record {
-    fading = λ greatest first h. half_fading i from spent between ta a tb b ua c one greatest first form (far.fading greatest first h);
-    paid = λ point greatest first h may.
+  pub fades_half : 2 ^ 32 ≤ second_target form from ua.head → from < 2 ^ 32 → (point greatest : ℕ) (first : Bool) → Keeps (fading_account i point greatest first) target before between (pair form ta0 a0 tb0 b0) (pair form ua c tb b)
+  fades_half end small point greatest first = record {
+    kind = λ h. half_fading i from spent between ta a tb b ua c one greatest first form (far.fading greatest first h);
+    paid = λ h may.
         let on = sides_stand i greatest first form ta a tb b (far.fading greatest first h) in
         half_paid i from spent between ta a tb b ua c one point (before + fading_room i point first (pair form ta0 a0 tb0 b0)) form first on.0 on.1.0 on.1.1 end small (far.ready point greatest first h may);
   }
 
   module _ (after next : ℕ) (small : next < 2 ^ 32) (ub : Top) (d : Shape) (is : next ≡ second_target form from ua.head) (two : StandsOn i tb b → Moves i next between after b ub d) where
-    pub fades_both : (head weight : ℕ) → MeetsBoth form ua.head ub.head (Meeting.At head weight) → Fades i target before after (pair form ta0 a0 tb0 b0) (pair form ua c ub d)
-    fades_both head weight meets = record {
-      fading = λ greatest first h. both_fading i from spent between ta a tb b ua c one after next small ub d two greatest first form (far.fading greatest first h);
-      paid = λ point greatest first h may.
+    pub fades_both : (head weight : ℕ) → MeetsBoth form ua.head ub.head (Meeting.At head weight) → (point greatest : ℕ) (first : Bool) → Keeps (fading_account i point greatest first) target before after (pair form ta0 a0 tb0 b0) (pair form ua c ub d)
+    fades_both head weight meets point greatest first = record {
+      kind = λ h. both_fading i from spent between ta a tb b ua c one after next small ub d two greatest first form (far.fading greatest first h);
+      paid = λ h may.
           let on = sides_stand i greatest first form ta a tb b (far.fading greatest first h) in
           both_paid i from spent between ta a tb b ua c one after next small ub d two point (before + fading_room i point first (pair form ta0 a0 tb0 b0)) form first head weight on.0 on.1.0 on.1.1 is meets (far.ready point greatest first h may);
     }

@@ -14,11 +14,12 @@ use Rattle.sk_model.specs.Sharp.{terms_in, led_by_first, of_two, rare_lists, rar
 use Rattle.sk_index.specs.Indexed.{Indexed}
 use Rattle.sk_nodes.specs.declared.top.Top.{Top}
 use Rattle.sk_nodes.specs.Leaves.{entries_of, head_of}
-use Rattle.sk_nodes.specs.Shapes.{Shape, ended, leaf, span, pair, odd, any, tested}
+use Rattle.sk_nodes.specs.Shapes.{Shape, ended, leaf, pair}
 use Rattle.sk_chunks.specs.Postings.{Postings}
 use Rattle.sk_nodes.specs.Opened.{count_in, is_nest, others_of}
 use Rattle.sk_nodes.specs.Flat.{IsNest, SplitsTerms}
-use Rattle.sk_nodes.specs.Led.{IsLone, lead_head, lead_unread, owed, follow_room, led_room, IsAtLead, MayFollow, IsLed, Advances, Leads}
+use Rattle.sk_nodes.specs.Led.{IsLone, lead_head, lead_unread, owed, follow_room, led_room, IsAtLead, MayFollow, IsLed, Advances}
+use Rattle.sk_nodes.specs.Moved.{with_lead, nest_behind, Accounts}
 use Rattle.sk_nodes.specs.OpenedLed.{first_length, last_length, lead_length, CanLead, SplitsOff, IsOrdered, SplitsLed, OpensLone, OpensFollowing, OpensLed, OpensRare}
 use Rattle.sk_nodes.proofs.OpenLaws.{joined}
 use Rattle.sk_nodes.proofs.NestLaws.{InOrder, in_order}
@@ -213,20 +214,12 @@ static_last (p ∷ r ∷ qs) lists docs q d (suc n) long is e =
 lone_nest : (s : Shape) → IsLone s → IsNest Form.Or s
 lone_nest ended h = tt
 lone_nest (leaf l) h = tt
-lone_nest (span r) h = h
-lone_nest (pair form ta a tb b) h = absurd h
-lone_nest (odd ss) h = h
-lone_nest (any ss) h = absurd h
-lone_nest (tested p t s) h = h
+lone_nest _ h = absurd h
 
 lone_led : (i : Indexed) (s : Shape) → IsLone s → IsLed i s × (led_room i s ≡ lead_unread i s)
 lone_led i ended h = (tt, refl)
 lone_led i (leaf l) h = (tt, refl)
-lone_led i (span r) h = absurd h
-lone_led i (pair form ta a tb b) h = absurd h
-lone_led i (odd ss) h = absurd h
-lone_led i (any ss) h = absurd h
-lone_led i (tested p t s) h = absurd h
+lone_led i _ h = absurd h
 
 owed_so : (head own unread m : ℕ) → unread ≤ m → (head < 2 ^ 32 → unread < m) → owed head own + 128 * unread ≤ 128 * m
 owed_so head own unread m within begun =
@@ -239,11 +232,7 @@ lone_follow : (i : Indexed) (s : Shape) (head unread m long before after : ℕ) 
     → after + follow_room i head unread s ≤ before + min long (128 * (m + 1))
 lone_follow i ended head unread m long before after h within begun few paid = omega (arith, few, paid)
 lone_follow i (leaf l) head unread m long before after h within begun few paid = let less = owed_so head (head_of (entries_of i l)) unread m within begun in omega (arith, less, few, paid)
-lone_follow i (span r) head unread m long before after h within begun few paid = absurd h
-lone_follow i (pair form ta a tb b) head unread m long before after h within begun few paid = absurd h
-lone_follow i (odd ss) head unread m long before after h within begun few paid = absurd h
-lone_follow i (any ss) head unread m long before after h within begun few paid = absurd h
-lone_follow i (tested p t s) head unread m long before after h within begun few paid = absurd h
+lone_follow i _ head unread m long before after h within begun few paid = absurd h
 
 pub lone_following : (i : Indexed) (t : Top) (s : Shape) (term : List ℕ) (before after : ℕ) → OpensLone i t s (length_of term i.live.documents) before after → OpensFollowing i s (term ∷ []) before after
 lone_following i t s term before after opens = record {
@@ -294,14 +283,14 @@ none_lone i t s long spent head is =
 
 -- an or of two sides that follow
 pub pair_following : (i : Indexed) (form : Form) (ta : Top) (a : Shape) (tb : Top) (b s : Shape) (lists first second : List (List ℕ)) (s0 s1 s2 s3 : ℕ) → form ≡ Form.Or → 0 < length first → 0 < length second
-    → (lists ≡ first ++ second) ⊎ (lists ≡ second ++ first) → OpensFollowing i a first s0 s1 → OpensFollowing i b second s1 s2 → Leads i 0 0 s2 s3 (pair form ta a tb b) s → OpensFollowing i s lists s0 s3
-pair_following i form ta a tb b s lists first second s0 s1 s2 s3 is some more whole one two leads = record {
-  nest = leads.nest refl (is, (one.nest, two.nest));
+    → (lists ≡ first ++ second) ⊎ (lists ≡ second ++ first) → OpensFollowing i a first s0 s1 → OpensFollowing i b second s1 s2 → Accounts i 0 0 s2 s3 (pair form ta a tb b) s → OpensFollowing i s lists s0 s3
+pair_following i form ta a tb b s lists first second s0 s1 s2 s3 is some more whole one two accounts = record {
+  nest = ((accounts.keeps (nest_behind 0 0)).kind (refl, (is, (one.nest, two.nest)))).1;
   lone = λ e. absurd (long whole e);
   account = λ head unread m within begun.
       let p = one.account head unread m within begun in
       let q = two.account head unread m within begun in
-      let r = leads.nest_paid head unread (inr refl) refl (is, (one.nest, two.nest)) in
+      let r = (accounts.keeps (nest_behind head unread)).paid (refl, (is, (one.nest, two.nest))) (inr refl) in
       let all = split_rare lists first second m i.live.documents whole in
       omega (arith, p, q, r, all);
 }
@@ -334,19 +323,19 @@ still_within h u h2 u2 m (inr h3) within = omega (arith, h3.0, within)
 
 -- a side that leads, and one that follows it
 pub pair_leads : (i : Indexed) (form : Form) (ta : Top) (a : Shape) (tb : Top) (b : Shape) (t : Top) (s : Shape) (lists : List (List ℕ)) (front back : Option (List (List ℕ))) (s0 s1 s2 s3 : ℕ)
-    → (split : SplitsLed form lists i.live.documents front back) → OpensLed i form ta a split.first s0 s1 → OpensFollowing i b split.second s1 s2 → Leads i 0 0 s2 s3 (pair form ta a tb b) s
+    → (split : SplitsLed form lists i.live.documents front back) → OpensLed i form ta a split.first s0 s1 → OpensFollowing i b split.second s1 s2 → Accounts i 0 0 s2 s3 (pair form ta a tb b) s
     → (IsLed i (pair form ta a tb b) → IsAtLead i t s) → OpensLed i form t s lists s0 s3
-pair_leads i form ta a tb b t s lists front back s0 s1 s2 s3 split one two leads at =
+pair_leads i form ta a tb b t s lists front back s0 s1 s2 s3 split one two accounts at =
     let docs = i.live.documents in
     let m = lead_length form split.first docs in
     let led : IsLed i (pair form ta a tb b) = (may_follow form split.first split.second b split.can split.alone two.nest two.lone, (one.at, one.led)) in
     let p = one.account in
     let q = two.account (lead_head i a) (lead_unread i a) m one.within one.begun in
-    let r = leads.led_paid led in
+    let r = (accounts.keeps with_lead).paid led tt in
     let all = split_rare lists split.first split.second m docs split.whole in
-    let on = leads.advances led in
+    let on = accounts.advances led in
     record {
-      led = leads.led led;
+      led = (accounts.keeps with_lead).kind led;
       at = at led;
       within = subst (λ n. lead_unread i s ≤ n) split.lead (still_within (lead_head i a) (lead_unread i a) (lead_head i s) (lead_unread i s) m on one.within);
       begun = λ lt. subst (λ n. lead_unread i s < n) split.lead (still_begun (lead_head i a) (lead_unread i a) (lead_head i s) (lead_unread i s) m on one.within one.begun lt);
@@ -416,9 +405,9 @@ term_lone i t s query x y before after e f opens = named_lone i t s (length_of x
 pub split_leads : (i : Indexed) (form other : Form) (ta : Top) (a : Shape) (tb : Top) (b : Shape) (t : Top) (s : Shape) (lists : List (List ℕ)) (front back : Option (List (List ℕ))) (s0 s1 s2 s3 : ℕ) → CanLead form lists → other ≡ others_of form
     → ((xs : List (List ℕ)) → CanLead form xs → front ≡ Some xs → OpensLed i form ta a xs s0 s1)
     → ((ys : List (List ℕ)) → (other ≡ Form.Or) ⊎ (length ys ≡ 1) → back ≡ Some ys → OpensFollowing i b ys s1 s2)
-    → Leads i 0 0 s2 s3 (pair form ta a tb b) s → (IsLed i (pair form ta a tb b) → IsAtLead i t s) → SplitsLed form lists i.live.documents front back → OpensLed i form t s lists s0 s3
-split_leads i form other ta a tb b t s lists front back s0 s1 s2 s3 can is one two leads at split =
-    pair_leads i form ta a tb b t s lists front back s0 s1 s2 s3 split (one split.first split.can split.front_is) (two split.second (alone split.alone) split.back_is) leads at
+    → Accounts i 0 0 s2 s3 (pair form ta a tb b) s → (IsLed i (pair form ta a tb b) → IsAtLead i t s) → SplitsLed form lists i.live.documents front back → OpensLed i form t s lists s0 s3
+split_leads i form other ta a tb b t s lists front back s0 s1 s2 s3 can is one two accounts at split =
+    pair_leads i form ta a tb b t s lists front back s0 s1 s2 s3 split (one split.first split.can split.front_is) (two split.second (alone split.alone) split.back_is) accounts at
   where
     alone : (form ≡ Form.AndNot) ⊎ (length split.second ≡ 1) → (other ≡ Form.Or) ⊎ (length split.second ≡ 1)
     alone (inl e) = inl (is ∙ ap others_of e)
@@ -427,8 +416,8 @@ split_leads i form other ta a tb b t s lists front back s0 s1 s2 s3 can is one t
 pub split_follows : (i : Indexed) (form other : Form) (ta : Top) (a : Shape) (tb : Top) (b s : Shape) (fs bs : Trees.Trees) (lists : List (List ℕ)) (s0 s1 s2 s3 : ℕ) → (form ≡ Form.Or) ⊎ (length lists ≡ 1) → other ≡ others_of form → 0 < count_in fs → 0 < count_in bs
     → ((xs : List (List ℕ)) → (form ≡ Form.Or) ⊎ (length xs ≡ 1) → terms_in fs ≡ Some xs → OpensFollowing i a xs s0 s1)
     → ((ys : List (List ℕ)) → (other ≡ Form.Or) ⊎ (length ys ≡ 1) → terms_in bs ≡ Some ys → OpensFollowing i b ys s1 s2)
-    → Leads i 0 0 s2 s3 (pair form ta a tb b) s → SplitsTerms lists (terms_in fs) (terms_in bs) → OpensFollowing i s lists s0 s3
-split_follows i form other ta a tb b s fs bs lists s0 s1 s2 s3 so is some more one two leads split = by so
+    → Accounts i 0 0 s2 s3 (pair form ta a tb b) s → SplitsTerms lists (terms_in fs) (terms_in bs) → OpensFollowing i s lists s0 s3
+split_follows i form other ta a tb b s fs bs lists s0 s1 s2 s3 so is some more one two accounts split = by so
   where
     first_some : 0 < length split.first
     first_some = let n = terms_count fs split.first split.front_is in omega (arith, n.0, some)
@@ -443,7 +432,7 @@ split_follows i form other ta a tb b s fs bs lists s0 s1 s2 s3 so is some more o
     by : (form ≡ Form.Or) ⊎ (length lists ≡ 1) → OpensFollowing i s lists s0 s3
     by (inl e) =
         pair_following i form ta a tb b s lists split.first split.second s0 s1 s2 s3 e first_some second_some split.whole
-        (one split.first (inl e) split.front_is) (two split.second (inl (is ∙ ap others_of e)) split.back_is) leads
+        (one split.first (inl e) split.front_is) (two split.second (inl (is ∙ ap others_of e)) split.back_is) accounts
     by (inr e) = absurd (long split.whole e)
 
 -- an xor of three parts or more follows nothing

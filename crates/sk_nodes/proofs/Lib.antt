@@ -24,3 +24,5 @@ pub mod FadeNumbers
 pub mod OpenedFadingLaws
 pub mod FadingLaws
 pub mod SkipLaws
+pub mod AccountLaws
+pub mod MoveLaws

@@ -20,13 +20,13 @@ use Rattle.sk_index.proofs.NumberLemmas.{length-postings, count_to-postings}
 use Rattle.sk_nodes.proofs.SynonymLaws.{wild_apart, only_one}
 use Rattle.sk_nodes.specs.declared.top.Top.{Top}
 use Rattle.sk_nodes.specs.Leaves.{list_in}
-use Rattle.sk_nodes.specs.Shapes.{Shape, ended, leaf, span, pair, odd, any, tested, Sides, no_sides, side}
+use Rattle.sk_nodes.specs.Shapes.{Shape, ended, leaf, pair, any, Sides, no_sides, side}
 use Rattle.sk_nodes.specs.Left.{rest}
 use Rattle.sk_nodes.specs.Proximity.{numbered}
 use Rattle.sk_base.specs.declared.find.Scheme.{Scheme}
 use Rattle.sk_nodes.specs.Opened.{is_nest, joint_form, others_of}
-use Rattle.sk_nodes.specs.Led.{Leads}
-use Rattle.sk_nodes.specs.Flat.{room_to, IsFlat, AreFlat, IsPlain, IsNest, AreNests, IsJoint, Stays, entered, PairsNest, OpensNest, OpensFlat, SplitsTerms}
+use Rattle.sk_nodes.specs.Moved.{flat_to, plain_to, nest_behind, Accounts}
+use Rattle.sk_nodes.specs.Flat.{room_to, IsFlat, AreFlat, IsPlain, IsNest, AreNests, IsJoint, entered, PairsNest, OpensNest, OpensFlat, SplitsTerms}
 use Rattle.sk_nodes.proofs.OpenLaws.{joined, is_xor}
 use Rattle.sk_nodes.proofs.StopLaws.{flat-mono}
 
@@ -36,12 +36,10 @@ mutual
   pub nest_flat : (s : Shape) → IsNest Form.Or s → IsFlat 0 s
   nest_flat ended h = tt
   nest_flat (leaf l) h = tt
-  nest_flat (span r) h = h
   nest_flat (pair form ta a tb b) h =
       subst (λ (f : Form). IsFlat 0 (pair f ta a tb b)) (sym h.0) (tt, (flat-mono a 0 (0 - tb.greatest) (omega arith) (nest_flat a h.1.0), flat-mono b 0 (0 - ta.greatest) (omega arith) (nest_flat b h.1.1)))
-  nest_flat (odd ss) h = h
   nest_flat (any ss) h = nests_flat ss h.1
-  nest_flat (tested p t s) h = h
+  nest_flat _ h = h
 
   pub nests_flat : (ss : Sides) → AreNests Form.Or ss → AreFlat ss
   nests_flat no_sides h = tt
@@ -50,47 +48,36 @@ mutual
 pub nest_plain : (s : Shape) → IsNest Form.Max s → IsPlain s
 nest_plain ended h = tt
 nest_plain (leaf l) h = tt
-nest_plain (span r) h = h
 nest_plain (pair form ta a tb b) h = subst (λ (f : Form). IsPlain (pair f ta a tb b)) (sym h.0) (nest_plain a h.1.0, nest_plain b h.1.1)
-nest_plain (odd ss) h = h
 nest_plain (any ss) h = absurd (other h.0)
   where
     other : Form.Max ≡ Form.Or → ⊥
     other e = cc
-nest_plain (tested p t s) h = h
+nest_plain _ h = h
 
 pub plain_nest : (s : Shape) → IsPlain s → IsNest Form.Max s
 plain_nest ended h = tt
 plain_nest (leaf l) h = tt
-plain_nest (span r) h = h
 plain_nest (pair Form.Max ta a tb b) h = (refl, (plain_nest a h.0, plain_nest b h.1))
-plain_nest (pair Form.Or ta a tb b) h = absurd h
-plain_nest (pair Form.And ta a tb b) h = absurd h
-plain_nest (pair Form.AndMaybe ta a tb b) h = absurd h
-plain_nest (pair Form.Xor ta a tb b) h = absurd h
-plain_nest (pair Form.AndNot ta a tb b) h = absurd h
-plain_nest (pair Form.Filter ta a tb b) h = absurd h
-plain_nest (odd ss) h = h
-plain_nest (any ss) h = absurd h
-plain_nest (tested p t s) h = h
+plain_nest _ h = absurd h
 
 -- ---- two nests become one
 
-module _ (i : Indexed) (form : Form) (before after : ℕ) (ta : Top) (a : Shape) (tb : Top) (b s : Shape) (stays : Stays i 0 0 before after (pair form ta a tb b) s) (leads : Leads i 0 0 before after (pair form ta a tb b) s) (first : IsNest form a) (second : IsNest form b) where
+module _ (i : Indexed) (form : Form) (before after : ℕ) (ta : Top) (a : Shape) (tb : Top) (b s : Shape) (accounts : Accounts i 0 0 before after (pair form ta a tb b) s) (first : IsNest form a) (second : IsNest form b) where
   by_or : form ≡ Form.Or → PairsNest i form a b s before after
   by_or e =
       let whole : IsNest Form.Or (pair form ta a tb b) = (e, (subst (λ (f : Form). IsNest f a) e first, subst (λ (f : Form). IsNest f b) e second)) in
       record {
-        nest = subst (λ (f : Form). IsNest f s) (sym e) (leads.nest refl whole);
-        account = λ point. stays.flat_paid 0 point (omega arith) (nest_flat (pair form ta a tb b) whole) (inr (inl (refl, omega arith)));
+        nest = subst (λ (f : Form). IsNest f s) (sym e) ((accounts.keeps (nest_behind 0 0)).kind (refl, whole)).1;
+        account = λ point. (accounts.keeps (flat_to point)).paid (nest_flat (pair form ta a tb b) whole) (inr (inl (refl, omega arith)));
       }
 
   by_max : form ≡ Form.Max → PairsNest i form a b s before after
   by_max e =
       let plain : IsPlain (pair form ta a tb b) = nest_plain (pair form ta a tb b) (e, (subst (λ (f : Form). IsNest f a) e first, subst (λ (f : Form). IsNest f b) e second)) in
       record {
-        nest = subst (λ (f : Form). IsNest f s) (sym e) (plain_nest s (stays.plain plain));
-        account = λ point. stays.plain_paid point plain (omega arith);
+        nest = subst (λ (f : Form). IsNest f s) (sym e) (plain_nest s ((accounts.keeps (plain_to 0)).kind plain));
+        account = λ point. (accounts.keeps (plain_to point)).paid plain (omega arith);
       }
 
   pub paired_nest : IsJoint form → PairsNest i form a b s before after

@@ -20,10 +20,10 @@ use Rattle.sk_nodes.specs.declared.proximity.Proximity.{Proximity}
 use Rattle.sk_nodes.specs.declared.leaf.Leaf.{Leaf}
 use Rattle.sk_nodes.specs.Shapes.{Shape, ended, leaf, pair, odd, any, tested, shape_of, size_of, sides_on}
 use Rattle.sk_nodes.specs.Decayed.{changed_pair, decayed}
-use Rattle.sk_nodes.specs.Left.{rest, from_on, unread_of}
+use Rattle.sk_nodes.specs.Left.{rest, from_on, unread_of, greatest_in}
 use Rattle.sk_nodes.specs.Skips.{IsLight}
-use Rattle.sk_nodes.specs.Accounts.{Spends}
-use Rattle.sk_nodes.specs.Sound.{IsTop, IsPair, Sound, Replaces, Lands}
+use Rattle.sk_nodes.specs.Moved.{Sought}
+use Rattle.sk_nodes.specs.Sound.{IsTop, IsPair, Sound, Replaces}
 use Rattle.sk_nodes.proofs.LeafLaws.{from_on-at, from_on-below, from_cases, covers_none}
 
 -- ---- the shapes of nodes
@@ -372,20 +372,22 @@ decays_swapped i need form other ta a tb b a_ended b_ended first second sound co
   unread = omega arith;
 }
 
-pub lands_along : (i : Indexed) (target need : ℕ) (old new s t : Shape) (top : Top) → old ≡ s → new ≡ t → Lands i target need s t top → Lands i target need old new top
-lands_along i target need old new s t top e f lands =
-    subst (λ (o : Shape). Lands i target need o new top) (sym e) (subst (λ (n : Shape). Lands i target need s n top) (sym f) lands)
+-- ---- a node that was moved on, by what the shapes are
 
-pub size_along : (old new s t : Shape) → old ≡ s → new ≡ t → size_of t ≤ size_of s → size_of new ≤ size_of old
-size_along old new s t e f le = omega (arith, ap size_of e, ap size_of f, le)
+pub sought_along : (i : Indexed) (target need before after steps more : ℕ) (old new s t : Shape) (top : Top) → old ≡ s → new ≡ t → Sought i target need (greatest_in s) before after steps more s t top
+    → Sought i target need (greatest_in old) before after steps more old new top
+sought_along i target need before after steps more old new s t top e f h =
+    subst (λ (o : Shape). Sought i target need (greatest_in o) before after steps more o new top) (sym e) (subst (λ (n : Shape). Sought i target need (greatest_in s) before after steps more s n top) (sym f) h)
 
-pub spends_along : (i : Indexed) (old new s t : Shape) (before after steps more : ℕ) → old ≡ s → new ≡ t → Spends (unread_of i s) (unread_of i t) before after steps more
-    → Spends (unread_of i old) (unread_of i new) before after steps more
-spends_along i old new s t before after steps more e f spends = record {
-  paid = omega (arith, ap (unread_of i) e, ap (unread_of i) f, spends.paid);
-  counted = spends.counted;
-  later = spends.later;
-}
+-- what two sides can weigh together falls with them
+pub greatest_under-mono : (form : Form) (a b c d : ℕ) → c ≤ a → d ≤ b → greatest_under form c d ≤ greatest_under form a b
+greatest_under-mono Form.And a b c d p q = omega (arith, p, q)
+greatest_under-mono Form.Or a b c d p q = omega (arith, p, q)
+greatest_under-mono Form.Xor a b c d p q = omega (arith, p, q)
+greatest_under-mono Form.Max a b c d p q = omega (arith, p, q)
+greatest_under-mono Form.AndNot a b c d p q = p
+greatest_under-mono Form.AndMaybe a b c d p q = omega (arith, p, q)
+greatest_under-mono Form.Filter a b c d p q = p
 
 -- two sides that have gone on
 pub sides_more : (i : Indexed) (form : Form) (target need from further : ℕ) (ta0 : Top) (a0 : Shape) (tb0 : Top) (b0 : Shape) (ta : Top) (a : Shape) (tb : Top) (b : Shape) (ua : Top) (c : Shape) (ub : Top) (d : Shape)

@@ -326,22 +326,25 @@ sought_covers i target need ss rs sought = λ id.
 
 -- ---- how far the sides have come
 
-pub record OddSoFar (i : Indexed) (target need from : ℕ) (ss0 ss : Sides) : Type 0 where
+pub record OddSoFar (i : Indexed) (target from : ℕ) (ss0 ss : Sides) : Type 0 where
   pub sides : IsOdd ss (AreSound i ss)
-  pub covers : Covers (from_on target (rest i (odd ss0))) (from_on from (rest i (odd ss))) need
+  pub covers : Covers (from_on target (rest i (odd ss0))) (from_on from (rest i (odd ss))) 0
   pub within : from < 2 ^ 32
   pub falls : greatest_sum ss ≤ greatest_sum ss0
   pub smaller : sizes_in ss ≤ sizes_in ss0
 
-pub odd_covers : (i : Indexed) (target need from : ℕ) (ss0 ss rs : Sides) → OddSoFar i target need from ss0 ss → AreSought i from ss rs → Covers (from_on target (rest i (odd ss0))) (rest i (odd rs)) need
-odd_covers i target need from ss0 ss rs far sought = λ id.
-    covers_then (from_on target (rest i (odd ss0)) id) (from_on from (rest i (odd ss)) id) (rest i (odd rs) id) need need (le_refl need) (far.covers id) (sought_covers i from need ss rs sought id)
+pub odd_begun : (i : Indexed) (target : ℕ) (ss : Sides) → IsOdd ss (AreSound i ss) → target < 2 ^ 32 → OddSoFar i target target ss ss
+odd_begun i target ss sides within = record { sides = sides; covers = λ id. covers_itself (from_on target (rest i (odd ss)) id) 0; within = within; falls = le_refl (greatest_sum ss); smaller = le_refl (sizes_in ss) }
 
-pub odd_more : (i : Indexed) (target need from further : ℕ) (ss0 ss rs : Sides) → OddSoFar i target need from ss0 ss → AreSound i rs → AreSought i from ss rs
-    → greatest_sum rs ≤ greatest_sum ss → sizes_in rs ≤ sizes_in ss → GoesOn from further (rest i (odd rs)) → OddSoFar i target need further ss0 rs
-odd_more i target need from further ss0 ss rs far sound sought falls smaller on = record {
+pub odd_covers : (i : Indexed) (target need from : ℕ) (ss0 ss rs : Sides) → OddSoFar i target from ss0 ss → AreSought i from ss rs → Covers (from_on target (rest i (odd ss0))) (rest i (odd rs)) need
+odd_covers i target need from ss0 ss rs far sought = λ id.
+    covers_then (from_on target (rest i (odd ss0)) id) (from_on from (rest i (odd ss)) id) (rest i (odd rs) id) 0 need (omega arith) (far.covers id) (sought_covers i from need ss rs sought id)
+
+pub odd_more : (i : Indexed) (target from further : ℕ) (ss0 ss rs : Sides) → OddSoFar i target from ss0 ss → AreSound i rs → AreSought i from ss rs
+    → greatest_sum rs ≤ greatest_sum ss → sizes_in rs ≤ sizes_in ss → GoesOn from further (rest i (odd rs)) → OddSoFar i target further ss0 rs
+odd_more i target from further ss0 ss rs far sound sought falls smaller on = record {
   sides = record { sides = sound; fits = omega (arith, falls, far.sides.fits) };
-  covers = goes_on_covers target need further (rest i (odd ss0)) (rest i (odd rs)) (odd_covers i target need from ss0 ss rs far sought) on.below;
+  covers = goes_on_covers target 0 further (rest i (odd ss0)) (rest i (odd rs)) (odd_covers i target 0 from ss0 ss rs far sought) on.below;
   within = on.within;
   falls = omega (arith, falls, far.falls);
   smaller = omega (arith, smaller, far.smaller);

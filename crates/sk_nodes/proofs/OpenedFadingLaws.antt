@@ -24,7 +24,9 @@ use Rattle.sk_nodes.specs.Flat.{SplitsTerms}
 use Rattle.sk_nodes.specs.Led.{count_behind}
 use Rattle.sk_nodes.specs.OpenedLed.{OpensLone}
 use Rattle.sk_nodes.specs.Opened.{count_in, is_nest}
-use Rattle.sk_nodes.specs.Fading.{IsFading, Fades}
+use Rattle.sk_nodes.specs.Fading.{IsFading}
+use Rattle.sk_nodes.specs.Accounts.{Keeps}
+use Rattle.sk_nodes.specs.Moved.{fading_account}
 use Rattle.sk_nodes.specs.OpenedFading.{Begins, OpensAlone, OpensDecay, OpensFading}
 use Rattle.sk_nodes.proofs.ListLaws.{greatest-term}
 use Rattle.sk_nodes.proofs.LedLaws.{terms_count}
@@ -87,26 +89,28 @@ term_alone i t s query x y factor scheme before after e f opens = named_alone i 
 
 -- ---- an or of two terms
 
-module _ (i : Indexed) (scheme : Scheme) (factor : ℕ) (ta : Top) (a : Shape) (tb : Top) (b : Shape) (s : Shape) (s0 s1 s2 s3 : ℕ) (fades : Fades i 0 s2 s3 (pair Form.Or ta a tb b) s) where
+module _ (i : Indexed) (scheme : Scheme) (factor : ℕ) (ta : Top) (a : Shape) (tb : Top) (b : Shape) (s : Shape) (s0 s1 s2 s3 : ℕ) (fades : (point greatest : ℕ) (first : Bool) → Keeps (fading_account i point greatest first) 0 s2 s3 (pair Form.Or ta a tb b) s) where
   -- the second side fades
   second_decays : (x y : List ℕ) → OpensAlone i ta a x (term_ceil scheme factor x i.live.documents) s0 s1 → OpensAlone i tb b y (term_ceil scheme factor y i.live.documents) s1 s2 → OpensDecay i scheme factor s x y s0 s3
   second_decays x y one two point =
       let g = term_ceil scheme factor y i.live.documents in
       let h : IsFading i g true (pair Form.Or ta a tb b) = (tt, (one.stands, (two.stands, two.own))) in
-      let paid = fades.paid point g true h (omega arith) in
+      let keeps = fades point g true in
+      let paid = keeps.paid h (omega arith) in
       let most = one.behind point in
       let below = two.to point in
-      (true, (fades.fading g true h, omega (arith, paid, one.paid, two.few, most, below)))
+      (true, (keeps.kind h, omega (arith, paid, one.paid, two.few, most, below)))
 
   -- the first side fades
   first_decays : (x y : List ℕ) → OpensAlone i ta a x (term_ceil scheme factor x i.live.documents) s0 s1 → OpensAlone i tb b y (term_ceil scheme factor y i.live.documents) s1 s2 → OpensDecay i scheme factor s y x s0 s3
   first_decays x y one two point =
       let g = term_ceil scheme factor x i.live.documents in
       let h : IsFading i g false (pair Form.Or ta a tb b) = (tt, (one.stands, (two.stands, one.own))) in
-      let paid = fades.paid point g false h (omega arith) in
+      let keeps = fades point g false in
+      let paid = keeps.paid h (omega arith) in
       let most = two.behind point in
       let below = one.to point in
-      (false, (fades.fading g false h, omega (arith, paid, two.paid, one.few, most, below)))
+      (false, (keeps.kind h, omega (arith, paid, two.paid, one.few, most, below)))
 
   pub pair_decays : (x y : List ℕ) → OpensAlone i ta a x (term_ceil scheme factor x i.live.documents) s0 s1 → OpensAlone i tb b y (term_ceil scheme factor y i.live.documents) s1 s2 → OpensFading i scheme factor s x y s0 s3
   pair_decays x y one two = (second_decays x y one two, first_decays x y one two)
@@ -122,7 +126,7 @@ one_each (u ∷ v ∷ xs) ys x y some more e = absurd (omega (arith, ap length e
 pub split_decays : (i : Indexed) (scheme : Scheme) (factor : ℕ) (form other : Form) (ta : Top) (a : Shape) (tb : Top) (b : Shape) (s : Shape) (fs bs : Trees.Trees) (x y : List ℕ) (s0 s1 s2 s3 : ℕ) → form ≡ Form.Or → 0 < count_in fs → 0 < count_in bs
     → ((t : List ℕ) → terms_in fs ≡ Some (t ∷ []) → OpensAlone i ta a t (term_ceil scheme factor t i.live.documents) s0 s1)
     → ((t : List ℕ) → terms_in bs ≡ Some (t ∷ []) → OpensAlone i tb b t (term_ceil scheme factor t i.live.documents) s1 s2)
-    → Fades i 0 s2 s3 (pair form ta a tb b) s → SplitsTerms (x ∷ y ∷ []) (terms_in fs) (terms_in bs) → OpensFading i scheme factor s x y s0 s3
+    → ((point greatest : ℕ) (first : Bool) → Keeps (fading_account i point greatest first) 0 s2 s3 (pair form ta a tb b) s) → SplitsTerms (x ∷ y ∷ []) (terms_in fs) (terms_in bs) → OpensFading i scheme factor s x y s0 s3
 split_decays i scheme factor form other ta a tb b s fs bs x y s0 s1 s2 s3 is some more one two fades split = by split.whole
   where
     first_some : 0 < length split.first
@@ -131,8 +135,8 @@ split_decays i scheme factor form other ta a tb b s fs bs x y s0 s1 s2 s3 is som
     second_some : 0 < length split.second
     second_some = let n = terms_count bs split.second split.back_is in omega (arith, n.0, more)
 
-    or_fades : Fades i 0 s2 s3 (pair Form.Or ta a tb b) s
-    or_fades = subst (λ (f : Form). Fades i 0 s2 s3 (pair f ta a tb b) s) is fades
+    or_fades : (point greatest : ℕ) (first : Bool) → Keeps (fading_account i point greatest first) 0 s2 s3 (pair Form.Or ta a tb b) s
+    or_fades point greatest first = subst (λ (f : Form). Keeps (fading_account i point greatest first) 0 s2 s3 (pair f ta a tb b) s) is (fades point greatest first)
 
     by : (x ∷ y ∷ [] ≡ split.first ++ split.second) ⊎ (x ∷ y ∷ [] ≡ split.second ++ split.first) → OpensFading i scheme factor s x y s0 s3
     by (inl e) =

@@ -328,6 +328,13 @@ lengths_next i ns k n most more start e f before =
     let whole : length (from 0 (list_in i (Some n))) ≡ length (list_in i (Some n)) = ap length (from_zero (list_in i (Some n))) in
     omega (arith, here, whole, f, before)
 
+-- the node below has ended
+pub ended_test : (i : Indexed) (p : Proximity) (t : Top) (s : Shape) → IsTop i t s → 2 ^ 32 ≤ t.head → IsTop i (record { head = 2 ^ 32; weight = 0; greatest = 0 }) (tested p t s)
+ended_test i p t s top end = none_top i p t s (λ id. IsHead-none t.weight id (rest i s) (subst (λ h. IsHead h t.weight (rest i s)) (is end top.head.within) top.head))
+  where
+    is : 2 ^ 32 ≤ t.head → t.head ≤ 2 ^ 32 → t.head ≡ 2 ^ 32
+    is p q = omega (arith, p, q)
+
 -- ---- without a need
 
 -- a test that was moved on from 0 without a need gives what passes it

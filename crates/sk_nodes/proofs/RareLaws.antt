@@ -8,16 +8,18 @@ use Rattle.sk_index.specs.Indexed.{Indexed}
 use Rattle.sk_decay.specs.declared.change.Change.{Change}
 use Rattle.sk_decay.specs.declared.meeting.Meeting.{Meeting}
 use Rattle.sk_decay.specs.Changes.{change_of, LeadsByNeed}
-use Rattle.sk_decay.specs.Heads.{GoesOnOnly, MeetsAt}
+use Rattle.sk_decay.specs.Heads.{MeetsAt}
 use Rattle.sk_decay.specs.Sides.{is_led, second_target}
 use Rattle.sk_nodes.specs.declared.top.Top.{Top}
-use Rattle.sk_nodes.specs.declared.leaf.Leaf.{Leaf}
 use Rattle.sk_nodes.specs.Leaves.{entries_of, head_of, leaf_unread}
-use Rattle.sk_nodes.specs.Shapes.{Shape, ended, leaf, span, pair, odd, any, tested, Sides, no_sides, side}
+use Rattle.sk_nodes.specs.Shapes.{Shape, ended, leaf, pair, any, Sides, no_sides, side}
 use Rattle.sk_nodes.specs.Decayed.{changed_pair, decayed}
 use Rattle.sk_nodes.specs.Flat.{IsNest}
-use Rattle.sk_nodes.specs.Led.{IsLone, lead_head, lead_unread, owed, follow_room, follow_rooms, led_room, IsAtLead, MayFollow, IsLed, Advances, IsFollowing, Leads}
-use Rattle.sk_nodes.proofs.StopLaws.{decayed_leads, no_or}
+use Rattle.sk_nodes.specs.Led.{IsLone, lead_head, lead_unread, owed, follow_room, follow_rooms, led_room, IsAtLead, MayFollow, IsLed, Advances, IsFollowing}
+use Rattle.sk_nodes.specs.Accounts.{Keeps}
+use Rattle.sk_nodes.specs.Moved.{with_lead, lone_behind, nest_behind, account_of, Accounts}
+use Rattle.sk_nodes.proofs.AccountLaws.{keeps_other}
+use Rattle.sk_nodes.proofs.StopLaws.{decayed_leads}
 
 -- ---- what a list that follows is owed
 
@@ -47,20 +49,17 @@ min_le n a b le = omega (arith, le)
 
 mutual
   pub follow_on : (i : Indexed) (h u h2 u2 : ℕ) (s : Shape) → Advances h u h2 u2 → follow_room i h2 u2 s ≤ follow_room i h u s
-  follow_on i h u h2 u2 ended on = omega arith
   follow_on i h u h2 u2 (leaf l) on = min_le (leaf_unread i l) (owed h2 (head_of (entries_of i l)) + 128 * u2) (owed h (head_of (entries_of i l)) + 128 * u) (owed_on h u h2 u2 (head_of (entries_of i l)) on)
-  follow_on i h u h2 u2 (span r) on = omega arith
   follow_on i h u h2 u2 (pair form ta a tb b) on = let one = follow_on i h u h2 u2 a on in let two = follow_on i h u h2 u2 b on in omega (arith, one, two)
-  follow_on i h u h2 u2 (odd ss) on = omega arith
   follow_on i h u h2 u2 (any ss) on = follows_on i h u h2 u2 ss on
-  follow_on i h u h2 u2 (tested p t s) on = omega arith
+  follow_on i h u h2 u2 _ on = omega arith
 
   follows_on : (i : Indexed) (h u h2 u2 : ℕ) (ss : Sides) → Advances h u h2 u2 → follow_rooms i h2 u2 ss ≤ follow_rooms i h u ss
   follows_on i h u h2 u2 no_sides on = omega arith
   follows_on i h u h2 u2 (side t s ss) on = let one = follow_on i h u h2 u2 s on in let two = follows_on i h u h2 u2 ss on in omega (arith, one, two)
 
 -- a list that follows was sought from the head of the one that leads, or from the beginning
-sought_by : (target head u own own2 un un2 before after : ℕ) → IsFollowing target head → target < 2 ^ 32 → after + un2 ≤ before + un → after ≤ before + 128
+pub sought_by : (target head u own own2 un un2 before after : ℕ) → IsFollowing target head → target < 2 ^ 32 → after + un2 ≤ before + un → after ≤ before + 128
     → (target ≤ own → (after ≡ before) × (own2 ≡ own)) → target ≤ own2
     → after + min un2 (owed head own2 + 128 * u) ≤ before + min un (owed head own + 128 * u)
 sought_by target head u own own2 un un2 before after follows small paid few still reached =
@@ -201,130 +200,34 @@ change_in need form ta tb = change_of form ta.greatest tb.greatest (ta.head == 2
 pub decayed_led : (i : Indexed) (s : Shape) (need : ℕ) → IsLed i s → IsLed i (decayed need s)
 decayed_led i ended need led = tt
 decayed_led i (leaf l) need led = tt
-decayed_led i (span r) need led = led
 decayed_led i (pair form ta a tb b) need led = changed_led i _ form ta a tb b need (decayed_leads form ta.greatest tb.greatest (ta.head == 2 ^ 32) (tb.head == 2 ^ 32) need) led
-decayed_led i (odd ss) need led = led
-decayed_led i (any ss) need led = led
-decayed_led i (tested p t s) need led = led
+decayed_led i _ need led = led
 
-decayed_lead : (i : Indexed) (s : Shape) (need : ℕ) → IsLed i s
+pub decayed_lead : (i : Indexed) (s : Shape) (need : ℕ) → IsLed i s
     → (led_room i (decayed need s) ≤ led_room i s) × Advances (lead_head i s) (lead_unread i s) (lead_head i (decayed need s)) (lead_unread i (decayed need s))
 decayed_lead i ended need led = (omega arith, advances_same (2 ^ 32) 0)
 decayed_lead i (leaf l) need led = (omega arith, advances_same (lead_head i (leaf l)) (lead_unread i (leaf l)))
-decayed_lead i (span r) need led = absurd led
 decayed_lead i (pair form ta a tb b) need led = changed_lead i _ form ta a tb b need (decayed_leads form ta.greatest tb.greatest (ta.head == 2 ^ 32) (tb.head == 2 ^ 32) need) led
-decayed_lead i (odd ss) need led = absurd led
-decayed_lead i (any ss) need led = absurd led
-decayed_lead i (tested p t s) need led = absurd led
+decayed_lead i _ need led = absurd led
 
-decayed_lone : (s : Shape) (need : ℕ) → IsLone s → IsLone (decayed need s)
+pub decayed_lone : (s : Shape) (need : ℕ) → IsLone s → IsLone (decayed need s)
 decayed_lone ended need lone = tt
 decayed_lone (leaf l) need lone = tt
-decayed_lone (span r) need lone = lone
-decayed_lone (pair form ta a tb b) need lone = absurd lone
-decayed_lone (odd ss) need lone = lone
-decayed_lone (any ss) need lone = lone
-decayed_lone (tested p t s) need lone = lone
+decayed_lone _ need lone = absurd lone
 
-decayed_nest : (s : Shape) (need : ℕ) → need ≡ 0 → IsNest Form.Or s → IsNest Form.Or (decayed need s)
+pub decayed_nest : (s : Shape) (need : ℕ) → need ≡ 0 → IsNest Form.Or s → IsNest Form.Or (decayed need s)
 decayed_nest ended need none nest = tt
 decayed_nest (leaf l) need none nest = tt
-decayed_nest (span r) need none nest = nest
 decayed_nest (pair form ta a tb b) need none nest = changed_nest _ form ta a tb b need none (decayed_leads form ta.greatest tb.greatest (ta.head == 2 ^ 32) (tb.head == 2 ^ 32) need) nest
-decayed_nest (odd ss) need none nest = nest
-decayed_nest (any ss) need none nest = nest
-decayed_nest (tested p t s) need none nest = nest
+decayed_nest _ need none nest = nest
 
-decayed_follow : (i : Indexed) (h u : ℕ) (s : Shape) (need : ℕ) → follow_room i h u (decayed need s) ≤ follow_room i h u s
-decayed_follow i h u ended need = omega arith
+pub decayed_follow : (i : Indexed) (h u : ℕ) (s : Shape) (need : ℕ) → follow_room i h u (decayed need s) ≤ follow_room i h u s
 decayed_follow i h u (leaf l) need = le_refl (follow_room i h u (leaf l))
-decayed_follow i h u (span r) need = omega arith
 decayed_follow i h u (pair form ta a tb b) need = changed_follow i h u (change_of form ta.greatest tb.greatest (ta.head == 2 ^ 32) (tb.head == 2 ^ 32) need) form ta a tb b
-decayed_follow i h u (odd ss) need = omega arith
 decayed_follow i h u (any ss) need = le_refl (follow_rooms i h u ss)
-decayed_follow i h u (tested p t s) need = omega arith
-
--- ---- a node that was moved on
-
-pub leads_same : (i : Indexed) (target need spent : ℕ) (s : Shape) → Leads i target need spent spent s s
-leads_same i target need spent s = record {
-  led = λ h. h;
-  led_paid = λ h. le_refl (spent + led_room i s);
-  advances = λ h. advances_same (lead_head i s) (lead_unread i s);
-  lone = λ h. h;
-  lone_paid = λ head unread from h. le_refl (spent + follow_room i head unread s);
-  nest = λ none h. h;
-  nest_paid = λ head unread from none h. le_refl (spent + follow_room i head unread s);
-}
-
-pub leads_gone : (i : Indexed) (target need spent : ℕ) (s : Shape) → Leads i target need spent spent s ended
-leads_gone i target need spent s = record {
-  led = λ h. tt;
-  led_paid = λ h. omega arith;
-  advances = λ h. advances_gone (lead_head i s) (lead_unread i s);
-  lone = λ h. tt;
-  lone_paid = λ head unread from h. omega arith;
-  nest = λ none h. tt;
-  nest_paid = λ head unread from none h. omega arith;
-}
-
-pub leads_decayed : (i : Indexed) (target need before after : ℕ) (s new : Shape) → Leads i target need before after (decayed need s) new → Leads i target need before after s new
-leads_decayed i target need before after s new leads = record {
-  led = λ h. leads.led (decayed_led i s need h);
-  led_paid = λ h. let more = leads.led_paid (decayed_led i s need h) in let less = (decayed_lead i s need h).0 in omega (arith, more, less);
-  advances = λ h.
-      advances_then (lead_head i s) (lead_unread i s) (lead_head i (decayed need s)) (lead_unread i (decayed need s)) (lead_head i new) (lead_unread i new)
-      (decayed_lead i s need h).1 (leads.advances (decayed_led i s need h));
-  lone = λ h. leads.lone (decayed_lone s need h);
-  lone_paid = λ head unread from h. let more = leads.lone_paid head unread from (decayed_lone s need h) in let less = decayed_follow i head unread s need in omega (arith, more, less);
-  nest = λ none h. leads.nest none (decayed_nest s need none h);
-  nest_paid = λ head unread from none h. let more = leads.nest_paid head unread from none (decayed_nest s need none h) in let less = decayed_follow i head unread s need in omega (arith, more, less);
-}
-
-pub leads_other : (i : Indexed) (target need before after : ℕ) (old new : Shape) → (IsLed i old → ⊥) → (IsLone old → ⊥) → (IsNest Form.Or old → ⊥) → Leads i target need before after old new
-leads_other i target need before after old new led lone nest = record {
-  led = λ h. absurd (led h);
-  led_paid = λ h. absurd (led h);
-  advances = λ h. absurd (led h);
-  lone = λ h. absurd (lone h);
-  lone_paid = λ head unread from h. absurd (lone h);
-  nest = λ none h. absurd (nest h);
-  nest_paid = λ head unread from none h. absurd (nest h);
-}
-
-pub leads_leaf : (i : Indexed) (target need before after : ℕ) (old new : Leaf) → target < 2 ^ 32 → after + leaf_unread i new ≤ before + leaf_unread i old → after ≤ before + 128
-    → (target ≤ head_of (entries_of i old) → (after ≡ before) × (head_of (entries_of i new) ≡ head_of (entries_of i old))) → target ≤ head_of (entries_of i new)
-    → Advances (head_of (entries_of i old)) (leaf_unread i old) (head_of (entries_of i new)) (leaf_unread i new)
-    → Leads i target need before after (leaf old) (leaf new)
-leads_leaf i target need before after old new small paid few still reached on = record {
-  led = λ h. tt;
-  led_paid = λ h. paid;
-  advances = λ h. on;
-  lone = λ h. tt;
-  lone_paid = λ head unread from h. sought_by target head unread (head_of (entries_of i old)) (head_of (entries_of i new)) (leaf_unread i old) (leaf_unread i new) before after from small paid few still reached;
-  nest = λ none h. tt;
-  nest_paid = λ head unread from none h. sought_by target head unread (head_of (entries_of i old)) (head_of (entries_of i new)) (leaf_unread i old) (leaf_unread i new) before after from small paid few still reached;
-}
-
-pub leads_along : (i : Indexed) (target need before after : ℕ) (old new s t : Shape) → old ≡ s → new ≡ t → Leads i target need before after s t → Leads i target need before after old new
-leads_along i target need before after old new s t e f h =
-    subst (λ (o : Shape). Leads i target need before after o new) (sym e) (subst (λ (n : Shape). Leads i target need before after s n) (sym f) h)
+decayed_follow i h u _ need = omega arith
 
 -- ---- two sides
-
-pub record LeadsSoFar (i : Indexed) (form : Form) (target from before spent : ℕ) (ta0 : Top) (a0 : Shape) (tb0 : Top) (b0 : Shape) (ta : Top) (a : Shape) (tb : Top) (b : Shape) : Type 0 where
-  pub led : IsLed i (pair form ta0 a0 tb0 b0) → IsLed i (pair form ta a tb b)
-  pub led_paid : IsLed i (pair form ta0 a0 tb0 b0) → spent + led_room i (pair form ta a tb b) ≤ before + led_room i (pair form ta0 a0 tb0 b0)
-  pub advances : IsLed i (pair form ta0 a0 tb0 b0) → Advances (lead_head i a0) (lead_unread i a0) (lead_head i a) (lead_unread i a)
-  pub first : form ≡ Form.Or → (from ≡ target) × ((spent ≡ before) × ((a ≡ a0) × (b ≡ b0)))
-
-pub leads_begun : (i : Indexed) (form : Form) (target spent : ℕ) (ta : Top) (a : Shape) (tb : Top) (b : Shape) → LeadsSoFar i form target target spent spent ta a tb b ta a tb b
-leads_begun i form target spent ta a tb b = record {
-  led = λ h. h;
-  led_paid = λ h. le_refl (spent + led_room i (pair form ta a tb b));
-  advances = λ h. advances_same (lead_head i a) (lead_unread i a);
-  first = λ is. (refl, (refl, (refl, refl)));
-}
 
 -- a form under which a side follows is led
 follow_led : (form : Form) (b : Shape) → MayFollow form b → is_led form ≡ true
@@ -337,30 +240,30 @@ follow_led Form.Xor b h = absurd h
 follow_led Form.Max b h = absurd h
 
 -- the side that follows was sought from the head of the leading list
-followed : (i : Indexed) (form : Form) (next need greatest before after head unread : ℕ) (b d : Shape) → Leads i next (second_need form need greatest) before after b d → next ≡ head → MayFollow form b
+followed : (i : Indexed) (form : Form) (next need greatest before after head unread : ℕ) (b d : Shape) → Accounts i next (second_need form need greatest) before after b d → next ≡ head → MayFollow form b
     → MayFollow form d × (after + follow_room i head unread d ≤ before + follow_room i head unread b)
-followed i Form.And next need greatest before after head unread b d leads is h = (leads.lone h, leads.lone_paid head unread (inl is) h)
-followed i Form.AndMaybe next need greatest before after head unread b d leads is h = (leads.lone h, leads.lone_paid head unread (inl is) h)
-followed i Form.Filter next need greatest before after head unread b d leads is h = (leads.lone h, leads.lone_paid head unread (inl is) h)
-followed i Form.AndNot next need greatest before after head unread b d leads is h = (leads.nest refl h, leads.nest_paid head unread (inl is) refl h)
-followed i Form.Or next need greatest before after head unread b d leads is h = absurd h
-followed i Form.Xor next need greatest before after head unread b d leads is h = absurd h
-followed i Form.Max next need greatest before after head unread b d leads is h = absurd h
+followed i Form.And next need greatest before after head unread b d two is h = let keeps = two.keeps (lone_behind head unread) in (keeps.kind h, keeps.paid h (inl is))
+followed i Form.AndMaybe next need greatest before after head unread b d two is h = let keeps = two.keeps (lone_behind head unread) in (keeps.kind h, keeps.paid h (inl is))
+followed i Form.Filter next need greatest before after head unread b d two is h = let keeps = two.keeps (lone_behind head unread) in (keeps.kind h, keeps.paid h (inl is))
+followed i Form.AndNot next need greatest before after head unread b d two is h = let keeps = two.keeps (nest_behind head unread) in ((keeps.kind (refl, h)).1, keeps.paid (refl, h) (inl is))
+followed i Form.Or next need greatest before after head unread b d two is h = absurd h
+followed i Form.Xor next need greatest before after head unread b d two is h = absurd h
+followed i Form.Max next need greatest before after head unread b d two is h = absurd h
 
 led_target : (form : Form) (from head : ℕ) → is_led form ≡ true → second_target form from head ≡ head
 led_target form from head led = ap (λ (t : Bool). if t then head else from) led
 
 module _ (i : Indexed) (form : Form) (from need before between after : ℕ) (ta : Top) (a : Shape) (tb : Top) (b : Shape) (ua : Top) (c : Shape) (ub : Top) (d : Shape)
-    (leads : Leads i from (first_need form need tb.greatest) before between a c) (at : IsLed i a → IsAtLead i ta a → IsAtLead i ua c) where
+    (one : Accounts i from (first_need form need tb.greatest) before between a c) (at : IsLed i a → IsAtLead i ta a → IsAtLead i ua c) where
   -- the first alone
   leads_first : IsLed i (pair form ta a tb b) → IsLed i (pair form ua c tb b)
-  leads_first h = (h.0, (at h.1.1 h.1.0, leads.led h.1.1))
+  leads_first h = (h.0, (at h.1.1 h.1.0, (one.keeps with_lead).kind h.1.1))
 
   paid_lead : IsLed i (pair form ta a tb b) → between + (led_room i c + follow_room i (lead_head i c) (lead_unread i c) b) ≤ before + (led_room i a + follow_room i (lead_head i a) (lead_unread i a) b)
   paid_lead h =
-      let one = leads.led_paid h.1.1 in
-      let two = follow_on i (lead_head i a) (lead_unread i a) (lead_head i c) (lead_unread i c) b (leads.advances h.1.1) in
-      omega (arith, one, two)
+      let paid : between + led_room i c ≤ before + led_room i a = (one.keeps with_lead).paid h.1.1 tt in
+      let on = follow_on i (lead_head i a) (lead_unread i a) (lead_head i c) (lead_unread i c) b (one.advances h.1.1) in
+      omega (arith, paid, on)
 
   no_or_led : is_led form ≡ true → form ≡ Form.Or → ⊥
   no_or_led led is = other (ap is_led (sym is) ∙ led)
@@ -368,20 +271,15 @@ module _ (i : Indexed) (form : Form) (from need before between after : ℕ) (ta 
       other : is_led Form.Or ≡ true → ⊥
       other e = cc
 
-  pub led_round_ended : is_led form ≡ true → Leads i from need before between (pair form ta a tb b) (pair form ua c tb b)
-  led_round_ended led = record {
-    led = λ h. leads_first h;
-    led_paid = λ h. paid_lead h;
-    advances = λ h. leads.advances h.1.1;
-    lone = λ h. absurd h;
-    lone_paid = λ head unread follows h. absurd h;
-    nest = λ none h. absurd (no_or_led led h.0);
-    nest_paid = λ head unread follows none h. absurd (no_or_led led h.0);
-  }
+  pub led_ended : Keeps (account_of i need with_lead) from before between (pair form ta a tb b) (pair form ua c tb b)
+  led_ended = record { kind = λ h. leads_first h; paid = λ h may. paid_lead h }
 
-  module _ (next : ℕ) (is : next ≡ second_target form from ua.head) (small : next < 2 ^ 32) (leads_b : Leads i next (second_need form need ua.greatest) between after b d) where
-    at_lead : IsLed i (pair form ta a tb b) → next ≡ lead_head i c
-    at_lead h = by (at h.1.1 h.1.0)
+  pub nest_ended : (head unread : ℕ) → is_led form ≡ true → Keeps (account_of i need (nest_behind head unread)) from before between (pair form ta a tb b) (pair form ua c tb b)
+  nest_ended head unread led = keeps_other (account_of i need (nest_behind head unread)) from before between (pair form ta a tb b) (pair form ua c tb b) (λ h. no_or_led led h.1.0)
+
+  module _ (next : ℕ) (is : next ≡ second_target form from ua.head) (two : Accounts i next (second_need form need ua.greatest) between after b d) where
+    at_lead : next < 2 ^ 32 → IsLed i (pair form ta a tb b) → next ≡ lead_head i c
+    at_lead small h = by (at h.1.1 h.1.0)
       where
         there : next ≡ ua.head
         there = is ∙ led_target form from ua.head (follow_led form b h.0)
@@ -390,61 +288,29 @@ module _ (i : Indexed) (form : Form) (from need before between after : ℕ) (ta 
         by (inl e) = there ∙ e
         by (inr e) = absurd (omega (arith, small, there, e))
 
-    follower : IsLed i (pair form ta a tb b) → MayFollow form d × (after + follow_room i (lead_head i c) (lead_unread i c) d ≤ between + follow_room i (lead_head i c) (lead_unread i c) b)
-    follower h = followed i form next need ua.greatest between after (lead_head i c) (lead_unread i c) b d leads_b (at_lead h) h.0
+    follower : next < 2 ^ 32 → IsLed i (pair form ta a tb b) → MayFollow form d × (after + follow_room i (lead_head i c) (lead_unread i c) d ≤ between + follow_room i (lead_head i c) (lead_unread i c) b)
+    follower small h = followed i form next need ua.greatest between after (lead_head i c) (lead_unread i c) b d two (at_lead small h) h.0
 
-    or_nest : need ≡ 0 → (h : IsNest Form.Or (pair form ta a tb b)) → (first_need form need tb.greatest ≡ 0) × ((second_need form need ua.greatest ≡ 0) × (next ≡ from))
-    or_nest none h = (ap (λ f. first_need f need tb.greatest) h.0 ∙ omega (arith, none), (ap (λ f. second_need f need ua.greatest) h.0 ∙ omega (arith, none), is ∙ ap (λ f. second_target f from ua.head) h.0))
-
-    nest_both : (head unread : ℕ) → IsFollowing from head → need ≡ 0 → IsNest Form.Or (pair form ta a tb b) → after + (follow_room i head unread c + follow_room i head unread d) ≤ before + (follow_room i head unread a + follow_room i head unread b)
-    nest_both head unread follows none h =
-        let needs = or_nest none h in
-        let one = leads.nest_paid head unread follows needs.0 h.1.0 in
-        let two = leads_b.nest_paid head unread (subst (λ n. IsFollowing n head) (sym needs.1.1) follows) needs.1.0 h.1.1 in
-        omega (arith, one, two)
-
-    pub led_round : Leads i from need before after (pair form ta a tb b) (pair form ua c ub d)
-    led_round = record {
-      led = λ h. ((follower h).0, (at h.1.1 h.1.0, leads.led h.1.1));
-      led_paid = λ h. let one = paid_lead h in let two = (follower h).1 in omega (arith, one, two);
-      advances = λ h. leads.advances h.1.1;
-      lone = λ h. absurd h;
-      lone_paid = λ head unread follows h. absurd h;
-      nest = λ none h. let needs = or_nest none h in (h.0, (leads.nest needs.0 h.1.0, leads_b.nest needs.1.0 h.1.1));
-      nest_paid = λ head unread follows none h. nest_both head unread follows none h;
+    pub led_round : next < 2 ^ 32 → Keeps (account_of i need with_lead) from before after (pair form ta a tb b) (pair form ua c ub d)
+    led_round small = record {
+      kind = λ h. ((follower small h).0, (at h.1.1 h.1.0, (one.keeps with_lead).kind h.1.1));
+      paid = λ h may. let first = paid_lead h in let second = (follower small h).1 in omega (arith, first, second);
     }
 
--- one move after another
-pub leads_then : (i : Indexed) (form : Form) (target need from before spent after : ℕ) (ta0 : Top) (a0 : Shape) (tb0 : Top) (b0 : Shape) (ta : Top) (a : Shape) (tb : Top) (b : Shape) (ua : Top) (c : Shape) (ub : Top) (d : Shape)
-    → LeadsSoFar i form target from before spent ta0 a0 tb0 b0 ta a tb b → Leads i from need spent after (pair form ta a tb b) (pair form ua c ub d)
-    → Leads i target need before after (pair form ta0 a0 tb0 b0) (pair form ua c ub d)
-leads_then i form target need from before spent after ta0 a0 tb0 b0 ta a tb b ua c ub d far round = record {
-  led = λ h. round.led (far.led h);
-  led_paid = λ h. let one = far.led_paid h in let two = round.led_paid (far.led h) in omega (arith, one, two);
-  advances = λ h. advances_then (lead_head i a0) (lead_unread i a0) (lead_head i a) (lead_unread i a) (lead_head i c) (lead_unread i c) (far.advances h) (round.advances (far.led h));
-  lone = λ h. absurd h;
-  lone_paid = λ head unread follows h. absurd h;
-  nest = λ none h. round.nest none (nest_now h);
-  nest_paid = λ head unread follows none h.
-      let same = far.first h.0 in
-      let one = round.nest_paid head unread (subst (λ n. IsFollowing n head) (sym same.0) follows) none (nest_now h) in
-      let first_same : follow_room i head unread a ≡ follow_room i head unread a0 = ap (follow_room i head unread) same.1.1.0 in
-      let second_same : follow_room i head unread b ≡ follow_room i head unread b0 = ap (follow_room i head unread) same.1.1.1 in
-      omega (arith, one, same.1.0, first_same, second_same);
-}
-  where
-    nest_now : IsNest Form.Or (pair form ta0 a0 tb0 b0) → IsNest Form.Or (pair form ta a tb b)
-    nest_now h =
-        let same = far.first h.0 in
-        (h.0, (subst (λ (s : Shape). IsNest Form.Or s) (sym same.1.1.0) h.1.0, subst (λ (s : Shape). IsNest Form.Or s) (sym same.1.1.1) h.1.1))
+    or_nest : (h : (need ≡ 0) × IsNest Form.Or (pair form ta a tb b)) → (first_need form need tb.greatest ≡ 0) × ((second_need form need ua.greatest ≡ 0) × (next ≡ from))
+    or_nest h = (ap (λ f. first_need f need tb.greatest) h.1.0 ∙ omega (arith, h.0), (ap (λ f. second_need f need ua.greatest) h.1.0 ∙ omega (arith, h.0), is ∙ ap (λ f. second_target f from ua.head) h.1.0))
 
--- sides that go on
-pub leads_on : (i : Indexed) (form : Form) (target need from further before spent after : ℕ) (ta0 : Top) (a0 : Shape) (tb0 : Top) (b0 : Shape) (ta : Top) (a : Shape) (tb : Top) (b : Shape) (ua : Top) (c : Shape) (ub : Top) (d : Shape)
-    → LeadsSoFar i form target from before spent ta0 a0 tb0 b0 ta a tb b → Leads i from need spent after (pair form ta a tb b) (pair form ua c ub d) → GoesOnOnly form (Meeting.Behind further)
-    → LeadsSoFar i form target further before after ta0 a0 tb0 b0 ua c ub d
-leads_on i form target need from further before spent after ta0 a0 tb0 b0 ta a tb b ua c ub d far round on =
-    let whole = leads_then i form target need from before spent after ta0 a0 tb0 b0 ta a tb b ua c ub d far round in
-    record { led = whole.led; led_paid = whole.led_paid; advances = whole.advances; first = λ is. absurd (no_or form further on is) }
+    pub nest_round : (head unread : ℕ) → Keeps (account_of i need (nest_behind head unread)) from before after (pair form ta a tb b) (pair form ua c ub d)
+    nest_round head unread = record {
+      kind = λ h.
+          let needs = or_nest h in
+          (h.0, (h.1.0, (((one.keeps (nest_behind head unread)).kind (needs.0, h.1.1.0)).1, ((two.keeps (nest_behind head unread)).kind (needs.1.0, h.1.1.1)).1)));
+      paid = λ h follows.
+          let needs = or_nest h in
+          let first : between + follow_room i head unread c ≤ before + follow_room i head unread a = (one.keeps (nest_behind head unread)).paid (needs.0, h.1.1.0) follows in
+          let second : after + follow_room i head unread d ≤ between + follow_room i head unread b = (two.keeps (nest_behind head unread)).paid (needs.1.0, h.1.1.1) (subst (λ n. IsFollowing n head) (sym needs.1.1) follows) in
+          omega (arith, first, second);
+    }
 
 -- where two sides meet
 pub meets_lead : (i : Indexed) (form : Form) (ta0 : Top) (a0 : Shape) (tb0 : Top) (b0 : Shape) (top ua : Top) (c : Shape) (ub : Top) (d : Shape) (head weight : ℕ) → IsLed i (pair form ta0 a0 tb0 b0) → IsAtLead i ua c
@@ -455,10 +321,6 @@ meets_lead i form ta0 a0 tb0 b0 top ua c ub d head weight led at meets is = by (
     by (inl e) (inl f) = inl (is ∙ e ∙ f)
     by (inl e) (inr f) = inr (is ∙ e ∙ f)
     by (inr e) h = inr (is ∙ e)
-
--- the same by what the shapes are
-pub at_along : (i : Indexed) (top : Top) (old new s t : Shape) → old ≡ s → new ≡ t → (IsLed i s → IsAtLead i top t) → IsLed i old → IsAtLead i top new
-at_along i top old new s t e f h led = subst (λ (n : Shape). IsAtLead i top n) (sym f) (h (subst (λ (o : Shape). IsLed i o) e led))
 
 -- ---- a tree that has ended
 

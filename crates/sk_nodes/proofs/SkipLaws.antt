@@ -1,5 +1,5 @@
 -- Two sides that have come so far, and skip what is light.
-use Rattle.std.proofs.Common.{◌≡◌, ◌+◌, ◌⊎◌, ℕ, Bool, true, false, inl, inr, sym, subst, ◌∙◌}
+use Rattle.std.proofs.Common.{◌≡◌, ◌≤◌, ◌+◌, ◌⊎◌, ℕ, Bool, true, false, inl, inr, sym, subst, ◌∙◌}
 use Rattle.sk_query.specs.declared.form.Form.{Form}
 use Rattle.sk_index.specs.Indexed.{Indexed}
 use Rattle.sk_nodes.specs.declared.top.Top.{Top}
@@ -8,8 +8,11 @@ use Rattle.sk_nodes.specs.Fading.{fading_room, both_room}
 use Rattle.sk_nodes.specs.Skips.{Skips}
 use Rattle.sk_nodes.proofs.BlockLaws.{skip_covers, skip_goes}
 use Rattle.sk_nodes.proofs.NodeLaws.{SidesSoFar}
-use Rattle.sk_nodes.proofs.StopLaws.{StaysSoFar}
-use Rattle.sk_nodes.proofs.RareLaws.{LeadsSoFar}
+use Rattle.sk_nodes.specs.Led.{IsFollowing}
+use Rattle.sk_nodes.specs.Moved.{Kind, flat_to, plain_to, with_lead, lone_behind, nest_behind, account_of}
+use Rattle.sk_nodes.proofs.StopLaws.{plain_sides}
+use Rattle.sk_nodes.proofs.AccountLaws.{far_skipped}
+use Rattle.sk_nodes.proofs.MoveLaws.{AccountsSoFar}
 use Rattle.sk_nodes.proofs.FadeNumbers.{sought_further}
 use Rattle.sk_nodes.proofs.FadingLaws.{ReadyPair, FadesSoFar}
 
@@ -32,29 +35,26 @@ module _ (i : Indexed) (form : Form) (target need from to : ℕ) (ta0 : Top) (a0
     second_smaller = far.second_smaller;
   }
 
-  pub stays_skipped : (before spent : ℕ) → StaysSoFar i form target need from before spent ta0 a0 tb0 b0 ta a tb b → StaysSoFar i form target need to before spent ta0 a0 tb0 b0 ta a tb b
-  stays_skipped before spent far = record {
-    stays = far.stays;
-    goes = λ last point le flat may. skip_goes i form from need a b to skips point (far.goes last point le flat may);
-    level = λ is. same is skips.joint ∙ far.level is;
+  pub accounts_skipped : (before spent : ℕ) → AccountsSoFar i form target need from before spent ta0 a0 tb0 b0 ta a tb b → AccountsSoFar i form target need to before spent ta0 a0 tb0 b0 ta a tb b
+  accounts_skipped before spent so = record {
+    far = λ kind. far_skipped (account_of i need kind) target from to before spent (pair form ta0 a0 tb0 b0) (pair form ta a tb b) (so.far kind) (goes kind);
+    advances = so.advances;
   }
     where
-      same : (form ≡ Form.Or) ⊎ (form ≡ Form.Max) → (form ≡ Form.And) ⊎ (to ≡ from) → to ≡ from
-      same is (inr e) = e
-      same (inl o) (inl e) = absurd (and_or (sym e ∙ o))
-      same (inr o) (inl e) = absurd (and_max (sym e ∙ o))
+      same_or : form ≡ Form.Or → (form ≡ Form.And) ⊎ (to ≡ from) → to ≡ from
+      same_or is (inr e) = e
+      same_or is (inl e) = absurd (and_or (sym e ∙ is))
 
-  pub leads_skipped : (before spent : ℕ) → LeadsSoFar i form target from before spent ta0 a0 tb0 b0 ta a tb b → LeadsSoFar i form target to before spent ta0 a0 tb0 b0 ta a tb b
-  leads_skipped before spent far = record {
-    led = far.led;
-    led_paid = far.led_paid;
-    advances = far.advances;
-    first = λ is. (same is skips.joint ∙ (far.first is).0, (far.first is).1);
-  }
-    where
-      same : form ≡ Form.Or → (form ≡ Form.And) ⊎ (to ≡ from) → to ≡ from
-      same is (inr e) = e
-      same is (inl e) = absurd (and_or (sym e ∙ is))
+      same_max : form ≡ Form.Max → (form ≡ Form.And) ⊎ (to ≡ from) → to ≡ from
+      same_max is (inr e) = e
+      same_max is (inl e) = absurd (and_max (sym e ∙ is))
+
+      goes : (kind : Kind) → (account_of i need kind).holds (pair form ta a tb b) → (account_of i need kind).may from (pair form ta a tb b) → (account_of i need kind).may to (pair form ta a tb b)
+      goes (flat_to point) h may = skip_goes i form from need a b to skips point may
+      goes (plain_to point) h may = subst (λ n. n ≤ point + 1) (sym (same_max (plain_sides form ta a tb b h).0 skips.joint)) may
+      goes with_lead h may = tt
+      goes (lone_behind head unread) h may = absurd h
+      goes (nest_behind head unread) h may = subst (λ n. IsFollowing n head) (sym (same_or h.1.0 skips.joint)) may
 
   -- in an and both sides may go further
   both_ready : (point base spent : ℕ) (first : Bool) → ReadyPair i point Form.And first from base spent ta a tb b → ReadyPair i point Form.And first to base spent ta a tb b

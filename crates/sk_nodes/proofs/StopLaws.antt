@@ -7,19 +7,20 @@ use Rattle.sk_index.specs.Indexed.{Indexed}
 use Rattle.sk_decay.specs.declared.change.Change.{Change}
 use Rattle.sk_decay.specs.declared.meeting.Meeting.{Meeting}
 use Rattle.sk_decay.specs.Changes.{change_of, LeadsByNeed}
-use Rattle.sk_decay.specs.Heads.{NoneBelow, GoesOnOnly}
+use Rattle.sk_decay.specs.Heads.{GoesOnOnly}
 use Rattle.sk_decay.specs.Sides.{paired, is_led, second_target}
-use Rattle.sk_lists.specs.Seeks.{count_to}
 use Rattle.sk_nodes.specs.declared.top.Top.{Top}
-use Rattle.sk_nodes.specs.declared.leaf.Leaf.{Leaf}
-use Rattle.sk_nodes.specs.Leaves.{entries_of, AtMost}
-use Rattle.sk_nodes.specs.Shapes.{Shape, ended, leaf, span, pair, odd, any, tested}
+use Rattle.sk_nodes.specs.Leaves.{AtMost}
+use Rattle.sk_nodes.specs.Shapes.{Shape, ended, leaf, pair, any}
 use Rattle.sk_nodes.specs.Left.{rest, from_on}
 use Rattle.sk_nodes.specs.Sound.{IsTop}
 use Rattle.sk_nodes.specs.Decayed.{changed_pair, decayed}
 use Rattle.sk_nodes.proofs.LeafLaws.{from_on-at}
 use Rattle.sk_nodes.specs.Stops.{MayMove}
-use Rattle.sk_nodes.specs.Flat.{room_to, rooms_to, IsFlatForm, IsFlat, IsPlain, IsAtLeast, MayGo, Stays}
+use Rattle.sk_nodes.specs.Flat.{room_to, rooms_to, IsFlatForm, IsFlat, IsPlain, IsAtLeast, MayGo}
+use Rattle.sk_nodes.specs.Accounts.{Keeps}
+use Rattle.sk_nodes.specs.Moved.{flat_to, plain_to, account_of, Accounts}
+use Rattle.sk_nodes.proofs.AccountLaws.{keeps_other}
 
 -- ---- at one id
 
@@ -200,7 +201,6 @@ second_need-mono Form.Filter m n g h le less = omega arith
 pub flat-mono : (s : Shape) (m n : ℕ) → m ≤ n → IsFlat m s → IsFlat n s
 flat-mono ended m n le flat = tt
 flat-mono (leaf l) m n le flat = tt
-flat-mono (span r) m n le flat = flat
 flat-mono (pair form ta a tb b) m n le flat = (
   form_mono form m n le flat.0,
   (
@@ -208,9 +208,7 @@ flat-mono (pair form ta a tb b) m n le flat = (
     flat-mono b (second_need form m ta.greatest) (second_need form n ta.greatest) (second_need-mono form m n ta.greatest ta.greatest le (le_refl ta.greatest)) flat.1.1,
   ),
 )
-flat-mono (odd ss) m n le flat = flat
-flat-mono (any ss) m n le flat = flat
-flat-mono (tested p t s) m n le flat = flat
+flat-mono _ m n le flat = flat
 
 -- ---- what is put in a node's place
 
@@ -335,112 +333,28 @@ decayed_leads Form.Max a b a_ended b_ended need =
     if_so P (nat_lt a need && nat_lt b need) _ _ (λ e. tt) (λ e. if_so P (nat_lt a need) _ _ (λ e. refl) (λ e. if_so P (nat_lt b need) _ _ (λ e. tt) (λ e. tt))))))
 
 -- what stands for a node
-pub decayed_flat : (s : Shape) (last need : ℕ) → last ≤ need → IsFlat last s → IsFlat need (decayed need s)
-decayed_flat s last need le flat = by s (flat-mono s last need le flat)
-  where
-    by : (s : Shape) → IsFlat need s → IsFlat need (decayed need s)
-    by ended flat = tt
-    by (leaf l) flat = tt
-    by (span r) flat = flat
-    by (pair form ta a tb b) flat = changed_flat (change_of form ta.greatest tb.greatest (ta.head == 2 ^ 32) (tb.head == 2 ^ 32) need) form ta a tb b need (decayed_leads form ta.greatest tb.greatest (ta.head == 2 ^ 32) (tb.head == 2 ^ 32) need) flat
-    by (odd ss) flat = flat
-    by (any ss) flat = flat
-    by (tested p t s) flat = flat
+pub decayed_flat : (s : Shape) (need : ℕ) → IsFlat need s → IsFlat need (decayed need s)
+decayed_flat ended need flat = tt
+decayed_flat (leaf l) need flat = tt
+decayed_flat (pair form ta a tb b) need flat = changed_flat (change_of form ta.greatest tb.greatest (ta.head == 2 ^ 32) (tb.head == 2 ^ 32) need) form ta a tb b need (decayed_leads form ta.greatest tb.greatest (ta.head == 2 ^ 32) (tb.head == 2 ^ 32) need) flat
+decayed_flat _ need flat = flat
 
 pub decayed_plain : (s : Shape) (need : ℕ) → IsPlain s → IsPlain (decayed need s)
 decayed_plain ended need plain = tt
 decayed_plain (leaf l) need plain = tt
-decayed_plain (span r) need plain = plain
 decayed_plain (pair form ta a tb b) need plain = changed_plain (change_of form ta.greatest tb.greatest (ta.head == 2 ^ 32) (tb.head == 2 ^ 32) need) form ta a tb b need (decayed_leads form ta.greatest tb.greatest (ta.head == 2 ^ 32) (tb.head == 2 ^ 32) need) plain
-decayed_plain (odd ss) need plain = plain
-decayed_plain (any ss) need plain = plain
-decayed_plain (tested p t s) need plain = plain
+decayed_plain _ need plain = plain
 
 pub decayed_room : (i : Indexed) (point : ℕ) (s : Shape) (need : ℕ) → room_to i point (decayed need s) ≤ room_to i point s
-decayed_room i point ended need = omega arith
 decayed_room i point (leaf l) need = le_refl (room_to i point (leaf l))
-decayed_room i point (span r) need = omega arith
 decayed_room i point (pair form ta a tb b) need = changed_room i point (change_of form ta.greatest tb.greatest (ta.head == 2 ^ 32) (tb.head == 2 ^ 32) need) form ta a tb b
-decayed_room i point (odd ss) need = omega arith
 decayed_room i point (any ss) need = le_refl (rooms_to i point ss)
-decayed_room i point (tested p t s) need = omega arith
+decayed_room i point _ need = omega arith
 
--- ---- a node that was moved on
-
--- it was not moved
-pub stays_same : (i : Indexed) (target need spent : ℕ) (s : Shape) → Stays i target need spent spent s s
-stays_same i target need spent s = record {
-  flat = λ last le flat. flat-mono s last need le flat;
-  flat_paid = λ last point le flat may. le_refl (spent + room_to i point s);
-  plain = λ plain. plain;
-  plain_paid = λ point plain le. le_refl (spent + room_to i point s);
-}
-
--- it has ended
-pub stays_gone : (i : Indexed) (target need spent : ℕ) (s : Shape) → Stays i target need spent spent s ended
-stays_gone i target need spent s = record {
-  flat = λ last le flat. tt;
-  flat_paid = λ last point le flat may. omega arith;
-  plain = λ plain. tt;
-  plain_paid = λ point plain le. omega arith;
-}
-
--- another was put in its place before
-pub stays_decayed : (i : Indexed) (target need before after : ℕ) (s new : Shape) → Covers (rest i s) (rest i (decayed need s)) need → Stays i target need before after (decayed need s) new → Stays i target need before after s new
-stays_decayed i target need before after s new covers stays = record {
-  flat = λ last le flat. stays.flat need (le_refl need) (decayed_flat s last need le flat);
-  flat_paid = λ last point le flat may.
-      let more = stays.flat_paid need point (le_refl need) (decayed_flat s last need le flat) (still_goes point target need (rest i s point) (rest i (decayed need s) point) (covers point) may) in
-      let less = decayed_room i point s need in
-      omega (arith, more, less);
-  plain = λ plain. stays.plain (decayed_plain s need plain);
-  plain_paid = λ point plain le.
-      let more = stays.plain_paid point (decayed_plain s need plain) le in
-      let less = decayed_room i point s need in
-      omega (arith, more, less);
-}
-
--- nodes that are not of terms alone
-pub stays_other : (i : Indexed) (target need before after : ℕ) (old new : Shape) → ((last : ℕ) → IsFlat last old → ⊥) → (IsPlain old → ⊥) → Stays i target need before after old new
-stays_other i target need before after old new flat plain = record {
-  flat = λ last le h. absurd (flat last h);
-  flat_paid = λ last point le h may. absurd (flat last h);
-  plain = λ h. absurd (plain h);
-  plain_paid = λ point h le. absurd (plain h);
-}
-
--- a leaf
-pub stays_leaf : (i : Indexed) (target need before after : ℕ) (old new : Leaf) → target < 2 ^ 32
-    → ((point : ℕ) → target ≤ point + 1 → after + count_to point (entries_of i new) ≤ before + count_to point (entries_of i old))
-    → Stays i target need before after (leaf old) (leaf new)
-stays_leaf i target need before after old new lt moves = record {
-  flat = λ last le h. tt;
-  flat_paid = λ last point le h may. moves point (may_target point target need (rest i (leaf old) point) lt may);
-  plain = λ h. tt;
-  plain_paid = λ point h le. moves point le;
-}
-
--- the same by what the shapes are
-pub stays_along : (i : Indexed) (target need before after : ℕ) (old new s t : Shape) → old ≡ s → new ≡ t → Stays i target need before after s t → Stays i target need before after old new
-stays_along i target need before after old new s t e f h =
-    subst (λ (o : Shape). Stays i target need before after o new) (sym e) (subst (λ (n : Shape). Stays i target need before after s n) (sym f) h)
-
--- ---- two sides, how far they have come
-
-pub record StaysSoFar (i : Indexed) (form : Form) (target need from before spent : ℕ) (ta0 : Top) (a0 : Shape) (tb0 : Top) (b0 : Shape) (ta : Top) (a : Shape) (tb : Top) (b : Shape) : Type 0 where
-  pub stays : Stays i target need before spent (pair form ta0 a0 tb0 b0) (pair form ta a tb b)
-  pub goes : (last point : ℕ) → last ≤ need → IsFlat last (pair form ta0 a0 tb0 b0) → MayGo point target need (paired form (rest i a0 point) (rest i b0 point)) → MayGo point from need (paired form (rest i a point) (rest i b point))
-  pub level : (form ≡ Form.Or) ⊎ (form ≡ Form.Max) → from ≡ target
-
-pub stays_begun : (i : Indexed) (form : Form) (target need spent : ℕ) (ta : Top) (a : Shape) (tb : Top) (b : Shape) → StaysSoFar i form target need target spent spent ta a tb b ta a tb b
-stays_begun i form target need spent ta a tb b = record {
-  stays = stays_same i target need spent (pair form ta a tb b);
-  goes = λ last point le flat may. may;
-  level = λ is. refl;
-}
+-- ---- two sides
 
 -- the sides of a max
-plain_sides : (form : Form) (ta : Top) (a : Shape) (tb : Top) (b : Shape) → IsPlain (pair form ta a tb b) → (form ≡ Form.Max) × (IsPlain a × IsPlain b)
+pub plain_sides : (form : Form) (ta : Top) (a : Shape) (tb : Top) (b : Shape) → IsPlain (pair form ta a tb b) → (form ≡ Form.Max) × (IsPlain a × IsPlain b)
 plain_sides Form.Max ta a tb b plain = (refl, plain)
 plain_sides _ ta a tb b plain = absurd plain
 
@@ -451,30 +365,31 @@ plain_pair form ta a tb b is first second = subst (λ (f : Form). IsPlain (pair 
 module _ (i : Indexed) (form : Form) (from need before between after : ℕ) (ta : Top) (a : Shape) (tb : Top) (b : Shape) (ua : Top) (c : Shape) (ub : Top) (d : Shape)
     (bound : AtMost tb.greatest (rest i b)) (moved : IsTop i ua c) (first_falls : ua.greatest ≤ ta.greatest)
     (covers : Covers (from_on from (rest i a)) (rest i c) (first_need form need tb.greatest))
-    (stays : Stays i from (first_need form need tb.greatest) before between a c) where
+    (one : Accounts i from (first_need form need tb.greatest) before between a c) where
   goes_first : (point : ℕ) → IsFlat need (pair form ta a tb b) → MayGo point from need (paired form (rest i a point) (rest i b point)) → MayGo point from (first_need form need tb.greatest) (rest i a point)
   goes_first point flat may = first_goes form (rest i a point) (rest i b point) tb.greatest point from need flat.0 (bound point) may
 
   paid_first : (point : ℕ) → IsFlat need (pair form ta a tb b) → MayGo point from need (paired form (rest i a point) (rest i b point)) → between + room_to i point c ≤ before + room_to i point a
-  paid_first point flat may = stays.flat_paid (first_need form need tb.greatest) point (le_refl (first_need form need tb.greatest)) flat.1.0 (goes_first point flat may)
+  paid_first point flat may = (one.keeps (flat_to point)).paid flat.1.0 (goes_first point flat may)
 
   flat_first : IsFlat need (pair form ta a tb b) → IsFlat need (pair form ua c tb b)
   flat_first flat = (
     flat.0,
     (
-      stays.flat (first_need form need tb.greatest) (le_refl (first_need form need tb.greatest)) flat.1.0,
+      (one.keeps (flat_to 0)).kind flat.1.0,
       flat-mono b (second_need form need ta.greatest) (second_need form need ua.greatest) (second_need-mono form need need ta.greatest ua.greatest (le_refl need) first_falls) flat.1.1,
     ),
   )
 
   -- the first alone, where the form is led and it has ended
-  pub round_ended : is_led form ≡ true → Stays i from need before between (pair form ta a tb b) (pair form ua c tb b)
-  round_ended led = record {
-    flat = λ last le flat. flat_first (flat-mono (pair form ta a tb b) last need le flat);
-    flat_paid = λ last point le flat may. let paid = paid_first point (flat-mono (pair form ta a tb b) last need le flat) may in omega (arith, paid);
-    plain = λ h. absurd (other (plain_sides form ta a tb b h).0);
-    plain_paid = λ point h le. absurd (other (plain_sides form ta a tb b h).0);
+  pub flat_ended : (point : ℕ) → Keeps (account_of i need (flat_to point)) from before between (pair form ta a tb b) (pair form ua c tb b)
+  flat_ended point = record {
+    kind = λ flat. flat_first flat;
+    paid = λ flat may. let paid = paid_first point flat may in omega (arith, paid);
   }
+
+  pub plain_ended : (point : ℕ) → is_led form ≡ true → Keeps (account_of i need (plain_to point)) from before between (pair form ta a tb b) (pair form ua c tb b)
+  plain_ended point led = keeps_other (account_of i need (plain_to point)) from before between (pair form ta a tb b) (pair form ua c tb b) (λ h. other (plain_sides form ta a tb b h).0)
     where
       led_max : is_led Form.Max ≡ true → ⊥
       led_max e = cc
@@ -483,100 +398,65 @@ module _ (i : Indexed) (form : Form) (from need before between after : ℕ) (ta 
       other is = led_max (ap is_led (sym is) ∙ led)
 
   module _ (next : ℕ) (is : next ≡ second_target form from ua.head) (second_falls : ub.greatest ≤ tb.greatest)
-      (stays_b : Stays i next (second_need form need ua.greatest) between after b d) where
+      (two : Accounts i next (second_need form need ua.greatest) between after b d) where
     goes_second : (point : ℕ) → IsFlat need (pair form ta a tb b) → MayGo point from need (paired form (rest i a point) (rest i b point)) → MayGo point next (second_need form need ua.greatest) (rest i b point)
     goes_second point flat may =
         subst (λ n. MayGo point n (second_need form need ua.greatest) (rest i b point)) (sym is)
         (second_goes form (rest i a point) (rest i b point) (rest i c point) tb.greatest ua.greatest point from ua.head need flat.0 (bound point) (moved.bound point)
         (λ le. subst (λ o. CoversAt o (rest i c point) (first_need form need tb.greatest)) (from_on-at from (rest i a) point le) (covers point)) (λ lt. moved.head.below point lt) may)
 
-    paid_both : (point : ℕ) → IsFlat need (pair form ta a tb b) → MayGo point from need (paired form (rest i a point) (rest i b point)) → after + (room_to i point c + room_to i point d) ≤ before + (room_to i point a + room_to i point b)
-    paid_both point flat may =
-        let one = paid_first point flat may in
-        let two = stays_b.flat_paid (second_need form need ua.greatest) point (le_refl (second_need form need ua.greatest)) (flat_first flat).1.1 (goes_second point flat may) in
-        omega (arith, one, two)
-
     flat_both : IsFlat need (pair form ta a tb b) → IsFlat need (pair form ua c ub d)
     flat_both flat = (
       flat.0,
       (
         flat-mono c (first_need form need tb.greatest) (first_need form need ub.greatest) (first_need-mono form need need tb.greatest ub.greatest (le_refl need) second_falls) (flat_first flat).1.0,
-        stays_b.flat (second_need form need ua.greatest) (le_refl (second_need form need ua.greatest)) (flat_first flat).1.1,
+        (two.keeps (flat_to 0)).kind (flat_first flat).1.1,
       ),
     )
 
-    plain_both : (point : ℕ) → IsPlain (pair form ta a tb b) → from ≤ point + 1 → after + (room_to i point c + room_to i point d) ≤ before + (room_to i point a + room_to i point b)
-    plain_both point plain le =
-        let sides = plain_sides form ta a tb b plain in
-        let level : next ≡ from = is ∙ ap (λ f. second_target f from ua.head) sides.0 in
-        let one = stays.plain_paid point sides.1.0 le in
-        let two = stays_b.plain_paid point sides.1.1 (omega (arith, level, le)) in
-        omega (arith, one, two)
-
-    pub round_stays : Stays i from need before after (pair form ta a tb b) (pair form ua c ub d)
-    round_stays = record {
-      flat = λ last le flat. flat_both (flat-mono (pair form ta a tb b) last need le flat);
-      flat_paid = λ last point le flat may. paid_both point (flat-mono (pair form ta a tb b) last need le flat) may;
-      plain = λ h. let sides = plain_sides form ta a tb b h in plain_pair form ua c ub d sides.0 (stays.plain sides.1.0) (stays_b.plain sides.1.1);
-      plain_paid = λ point h le. plain_both point h le;
+    pub flat_round : (point : ℕ) → Keeps (account_of i need (flat_to point)) from before after (pair form ta a tb b) (pair form ua c ub d)
+    flat_round point = record {
+      kind = λ flat. flat_both flat;
+      paid = λ flat may.
+          let first = paid_first point flat may in
+          let second : after + room_to i point d ≤ between + room_to i point b = (two.keeps (flat_to point)).paid (flat_first flat).1.1 (goes_second point flat may) in
+          omega (arith, first, second);
     }
 
--- one move after another
-pub stays_then : (i : Indexed) (form : Form) (target need from before spent after : ℕ) (ta0 : Top) (a0 : Shape) (tb0 : Top) (b0 : Shape) (ta : Top) (a : Shape) (tb : Top) (b : Shape) (ua : Top) (c : Shape) (ub : Top) (d : Shape)
-    → StaysSoFar i form target need from before spent ta0 a0 tb0 b0 ta a tb b → Stays i from need spent after (pair form ta a tb b) (pair form ua c ub d)
-    → Stays i target need before after (pair form ta0 a0 tb0 b0) (pair form ua c ub d)
-stays_then i form target need from before spent after ta0 a0 tb0 b0 ta a tb b ua c ub d far round = record {
-  flat = λ last le flat. round.flat need (le_refl need) (far.stays.flat last le flat);
-  flat_paid = λ last point le flat may.
-      let one = far.stays.flat_paid last point le flat may in
-      let two = round.flat_paid need point (le_refl need) (far.stays.flat last le flat) (far.goes last point le flat may) in
-      omega (arith, one, two);
-  plain = λ h. round.plain (far.stays.plain h);
-  plain_paid = λ point h le.
-      let one = far.stays.plain_paid point h le in
-      let level = far.level (inr (plain_sides form ta0 a0 tb0 b0 h).0) in
-      let two = round.plain_paid point (far.stays.plain h) (omega (arith, level, le)) in
-      omega (arith, one, two);
-}
+    pub plain_round : (point : ℕ) → Keeps (account_of i need (plain_to point)) from before after (pair form ta a tb b) (pair form ua c ub d)
+    plain_round point = record {
+      kind = λ h. let sides = plain_sides form ta a tb b h in plain_pair form ua c ub d sides.0 ((one.keeps (plain_to point)).kind sides.1.0) ((two.keeps (plain_to point)).kind sides.1.1);
+      paid = λ h le.
+          let sides = plain_sides form ta a tb b h in
+          let level : next ≡ from = is ∙ ap (λ f. second_target f from ua.head) sides.0 in
+          let first : between + room_to i point c ≤ before + room_to i point a = (one.keeps (plain_to point)).paid sides.1.0 le in
+          let second : after + room_to i point d ≤ between + room_to i point b = (two.keeps (plain_to point)).paid sides.1.1 (omega (arith, level, le)) in
+          omega (arith, first, second);
+    }
 
 -- an or and a max do not go on
 pub no_or : (form : Form) (next : ℕ) → GoesOnOnly form (Meeting.Behind next) → form ≡ Form.Or → ⊥
 no_or form next on is = subst (λ (f : Form). GoesOnOnly f (Meeting.Behind next)) is on
 
-no_max : (form : Form) (next : ℕ) → GoesOnOnly form (Meeting.Behind next) → form ≡ Form.Max → ⊥
+pub no_max : (form : Form) (next : ℕ) → GoesOnOnly form (Meeting.Behind next) → form ≡ Form.Max → ⊥
 no_max form next on is = subst (λ (f : Form). GoesOnOnly f (Meeting.Behind next)) is on
-
--- sides that go on
-pub stays_on : (i : Indexed) (form : Form) (target need from further before spent after : ℕ) (ta0 : Top) (a0 : Shape) (tb0 : Top) (b0 : Shape) (ta : Top) (a : Shape) (tb : Top) (b : Shape) (ua : Top) (c : Shape) (ub : Top) (d : Shape)
-    → StaysSoFar i form target need from before spent ta0 a0 tb0 b0 ta a tb b → Stays i from need spent after (pair form ta a tb b) (pair form ua c ub d)
-    → Covers (from_on from (λ id. paired form (rest i a id) (rest i b id))) (λ id. paired form (rest i c id) (rest i d id)) need
-    → GoesOnOnly form (Meeting.Behind further) → NoneBelow further (λ id. paired form (rest i c id) (rest i d id))
-    → StaysSoFar i form target need further before after ta0 a0 tb0 b0 ua c ub d
-stays_on i form target need from further before spent after ta0 a0 tb0 b0 ta a tb b ua c ub d far round covers on below = record {
-  stays = stays_then i form target need from before spent after ta0 a0 tb0 b0 ta a tb b ua c ub d far round;
-  goes = λ last point le flat may.
-      goes_on form (paired form (rest i a point) (rest i b point)) (paired form (rest i c point) (rest i d point)) point from further need
-      (far.stays.flat last le flat).0 (no_or form further on)
-      (λ near. subst (λ o. CoversAt o (paired form (rest i c point) (rest i d point)) need) (from_on-at from (λ id. paired form (rest i a id) (rest i b id)) point near) (covers point))
-      (λ lt. below point lt) (far.goes last point le flat may);
-  level = λ is. absurd (unled is);
-}
-  where
-    unled : (form ≡ Form.Or) ⊎ (form ≡ Form.Max) → ⊥
-    unled (inl e) = no_or form further on e
-    unled (inr e) = no_max form further on e
 
 -- ---- a tree
 
 -- one that was sought
-pub stops_sought : (i : Indexed) (old new : Shape) (last need target point most before after ceiling : ℕ) → last ≤ need → need ≤ ceiling → target < 2 ^ 32 → Stays i target need before after old new
+pub stops_sought : (i : Indexed) (old new : Shape) (last need target point most before after ceiling : ℕ) → last ≤ need → need ≤ ceiling → target < 2 ^ 32 → Accounts i target need before after old new
     → IsFlat last old ⊎ IsPlain old → before + room_to i point old ≤ most → MayMove point target need ceiling (rest i old point)
     → (IsFlat need new ⊎ IsPlain new) × (after + room_to i point new ≤ most)
-stops_sought i old new last need target point most before after ceiling rising enough lt stays shape account (inl high) = absurd (omega (arith, enough, high))
-stops_sought i old new last need target point most before after ceiling rising enough lt stays (inl flat) account (inr may) =
-    let paid = stays.flat_paid last point rising flat may in (inl (stays.flat last rising flat), omega (arith, paid, account))
-stops_sought i old new last need target point most before after ceiling rising enough lt stays (inr plain) account (inr may) =
-    let paid = stays.plain_paid point plain (may_target point target need (rest i old point) lt may) in (inr (stays.plain plain), omega (arith, paid, account))
+stops_sought i old new last need target point most before after ceiling rising enough lt accounts shape account (inl high) = absurd (omega (arith, enough, high))
+stops_sought i old new last need target point most before after ceiling rising enough lt accounts (inl flat) account (inr may) =
+    let keeps = accounts.keeps (flat_to point) in
+    let now = flat-mono old last need rising flat in
+    let paid : after + room_to i point new ≤ before + room_to i point old = keeps.paid now may in
+    (inl (keeps.kind now), omega (arith, paid, account))
+stops_sought i old new last need target point most before after ceiling rising enough lt accounts (inr plain) account (inr may) =
+    let keeps = accounts.keeps (plain_to point) in
+    let paid : after + room_to i point new ≤ before + room_to i point old = keeps.paid plain (may_target point target need (rest i old point) lt may) in
+    (inr (keeps.kind plain), omega (arith, paid, account))
 
 -- one that has ended
 pub stops_closed : (i : Indexed) (old new : Shape) (need point most spent : ℕ) → new ≡ ended → spent + room_to i point old ≤ most → (IsFlat need new ⊎ IsPlain new) × (spent + room_to i point new ≤ most)

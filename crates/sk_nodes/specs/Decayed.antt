@@ -4,7 +4,7 @@ use Rattle.sk_query.specs.declared.form.Form.{Form}
 use Rattle.sk_decay.specs.declared.change.Change.{Change}
 use Rattle.sk_decay.specs.Changes.{change_of}
 use Rattle.sk_nodes.specs.declared.top.Top.{Top}
-use Rattle.sk_nodes.specs.Shapes.{Shape, ended, leaf, span, pair, odd, any, tested}
+use Rattle.sk_nodes.specs.Shapes.{Shape, ended, pair}
 
 -- What a change makes of two sides under a form.
 abbrev pub changed_pair : Change → Form → Top → Shape → Top → Shape → Shape
@@ -20,10 +20,5 @@ changed_pair Change.NotSwap form ta a tb b = pair Form.AndNot tb b ta a
 
 -- What stands for a node under a need: of two sides what the table of the form says, and any other node itself.
 abbrev pub decayed : ℕ → Shape → Shape
-decayed need ended = ended
-decayed need (leaf l) = leaf l
-decayed need (span r) = span r
 decayed need (pair form ta a tb b) = changed_pair (change_of form ta.greatest tb.greatest (ta.head == 2 ^ 32) (tb.head == 2 ^ 32) need) form ta a tb b
-decayed need (odd ss) = odd ss
-decayed need (any ss) = any ss
-decayed need (tested p t s) = tested p t s
+decayed need s = s

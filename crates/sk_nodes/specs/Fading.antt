@@ -5,20 +5,15 @@ use Rattle.sk_index.specs.Indexed.{Indexed}
 use Rattle.sk_lists.specs.Seeks.{count_to}
 use Rattle.sk_nodes.specs.declared.top.Top.{Top}
 use Rattle.sk_nodes.specs.Leaves.{entries_of, leaf_unread}
-use Rattle.sk_nodes.specs.Shapes.{Shape, ended, leaf, span, pair, odd, any, tested}
+use Rattle.sk_nodes.specs.Shapes.{Shape, ended, leaf, pair}
 use Rattle.sk_nodes.specs.Left.{greatest_in}
 use Rattle.sk_nodes.specs.Flat.{room_to}
 use Rattle.sk_nodes.specs.Led.{count_behind, IsLone, lead_head, lead_unread}
 
 -- How many entries a leaf has left behind a point.
 abbrev pub room_behind : Indexed → ℕ → Shape → ℕ
-room_behind i point ended = 0
 room_behind i point (leaf l) = count_behind point (entries_of i l)
-room_behind i point (span r) = 0
-room_behind i point (pair form ta a tb b) = 0
-room_behind i point (odd ss) = 0
-room_behind i point (any ss) = 0
-room_behind i point (tested p t s) = 0
+room_behind i point _ = 0
 
 -- A side is a leaf or nothing, and its head is kept beside it.
 pub record StandsOn (i : Indexed) (t : Top) (s : Shape) : Type 0 where
@@ -53,12 +48,9 @@ abbrev pub fading_room : Indexed → ℕ → Bool → Shape → ℕ
 fading_room i point first ended = 0
 fading_room i point true (leaf l) = leaf_unread i l
 fading_room i point false (leaf l) = count_to point (entries_of i l)
-fading_room i point first (span r) = 0
 fading_room i point true (pair form ta a tb b) = lead_unread i a + pair_room form true point ta.head tb.head (both_room i point a b)
 fading_room i point false (pair form ta a tb b) = lead_unread i b + pair_room form false point tb.head ta.head (both_room i point b a)
-fading_room i point first (odd ss) = 0
-fading_room i point first (any ss) = 0
-fading_room i point first (tested p t s) = 0
+fading_room i point first _ = 0
 
 -- The forms of such a node: an or, and the and_maybe and the and that it becomes.
 abbrev pub IsFadingForm : Form → Type 0
@@ -72,12 +64,9 @@ abbrev pub IsFading : Indexed → ℕ → Bool → Shape → Type 0
 IsFading i greatest first ended = Unit {0}
 IsFading i greatest true (leaf l) = Unit {0}
 IsFading i greatest false (leaf l) = l.greatest ≤ greatest
-IsFading i greatest first (span r) = ⊥
 IsFading i greatest true (pair form ta a tb b) = IsFadingForm form × (StandsOn i ta a × (StandsOn i tb b × (greatest_in b ≤ greatest)))
 IsFading i greatest false (pair form ta a tb b) = IsFadingForm form × (StandsOn i ta a × (StandsOn i tb b × (greatest_in a ≤ greatest)))
-IsFading i greatest first (odd ss) = ⊥
-IsFading i greatest first (any ss) = ⊥
-IsFading i greatest first (tested p t s) = ⊥
+IsFading i greatest first _ = ⊥
 
 -- Two sides with these heads may be sought from a target: neither has ended, where nothing is given without the other list; and no further than from the id behind the point otherwise.
 abbrev pub PairMayFade : Form → Bool → ℕ → ℕ → ℕ → ℕ → Type 0
@@ -88,13 +77,9 @@ PairMayFade _ first point target a b = target ≤ point + 1
 -- A node may be sought from a target.
 abbrev pub MayFade : ℕ → ℕ → Bool → Shape → Type 0
 MayFade point target first ended = Unit {0}
-MayFade point target true (leaf l) = Unit {0}
 MayFade point target false (leaf l) = target ≤ point + 1
-MayFade point target first (span r) = Unit {0}
 MayFade point target first (pair form ta a tb b) = PairMayFade form first point target ta.head tb.head
-MayFade point target first (odd ss) = Unit {0}
-MayFade point target first (any ss) = Unit {0}
-MayFade point target first (tested p t s) = Unit {0}
+MayFade point target first _ = Unit {0}
 
 -- A leaf was moved on from the target, with this spent before and after, and its top is this.
 pub record Moves (i : Indexed) (target before after : ℕ) (old : Shape) (top : Top) (new : Shape) : Type 0 where
@@ -108,11 +93,6 @@ pub record Moves (i : Indexed) (target before after : ℕ) (old : Shape) (top : 
   pub still : target ≤ lead_head i old → (after ≡ before) × (lead_head i new ≡ lead_head i old)
   pub reached : target ≤ lead_head i new
   pub greatest : greatest_in new ≤ greatest_in old
-
--- A node was moved on from the target, with this spent before and after: what is spent and what may still be read together have not grown.
-pub record Fades (i : Indexed) (target before after : ℕ) (old new : Shape) : Type 0 where
-  pub fading : (greatest : ℕ) (first : Bool) → IsFading i greatest first old → IsFading i greatest first new
-  pub paid : (point greatest : ℕ) (first : Bool) → IsFading i greatest first old → MayFade point target first old → after + fading_room i point first new ≤ before + fading_room i point first old
 
 -- A node may be moved on from the target under the need: the target is at most the id behind the point, or nothing of the fading list is enough.
 abbrev pub MayLeave : ℕ → ℕ → ℕ → ℕ → Type 0

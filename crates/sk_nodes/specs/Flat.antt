@@ -7,19 +7,15 @@ use Rattle.sk_model.specs.Covers.{first_need, second_need}
 use Rattle.sk_model.specs.Sharp.{up, ups}
 use Rattle.sk_index.specs.Indexed.{Indexed}
 use Rattle.sk_nodes.specs.Leaves.{entries_of}
-use Rattle.sk_nodes.specs.Shapes.{Shape, ended, leaf, span, pair, odd, any, tested, Sides, no_sides, side}
-use Rattle.sk_nodes.specs.Left.{rest}
+use Rattle.sk_nodes.specs.Shapes.{Shape, ended, leaf, pair, any, Sides, no_sides, side}
 
 abbrev mutual
   -- How many entries a node of terms has left with ids up to a point.
   pub room_to : Indexed → ℕ → Shape → ℕ
-  room_to i point ended = 0
   room_to i point (leaf l) = count_to point (entries_of i l)
-  room_to i point (span r) = 0
   room_to i point (pair form ta a tb b) = room_to i point a + room_to i point b
-  room_to i point (odd ss) = 0
   room_to i point (any ss) = rooms_to i point ss
-  room_to i point (tested p t s) = 0
+  room_to i point _ = 0
 
   -- How many all sides have left.
   pub rooms_to : Indexed → ℕ → Sides → ℕ
@@ -38,11 +34,9 @@ abbrev mutual
   pub IsFlat : ℕ → Shape → Type 0
   IsFlat need ended = Unit {0}
   IsFlat need (leaf l) = Unit {0}
-  IsFlat need (span r) = ⊥
   IsFlat need (pair form ta a tb b) = IsFlatForm form need × (IsFlat (first_need form need tb.greatest) a × IsFlat (second_need form need ta.greatest) b)
-  IsFlat need (odd ss) = ⊥
   IsFlat need (any ss) = AreFlat ss
-  IsFlat need (tested p t s) = ⊥
+  IsFlat need _ = ⊥
 
   -- The sides of an or of many sides, which are moved under no need.
   pub AreFlat : Sides → Type 0
@@ -53,12 +47,8 @@ abbrev mutual
 abbrev pub IsPlain : Shape → Type 0
 IsPlain ended = Unit {0}
 IsPlain (leaf l) = Unit {0}
-IsPlain (span r) = ⊥
 IsPlain (pair Form.Max ta a tb b) = IsPlain a × IsPlain b
-IsPlain (pair _ ta a tb b) = ⊥
-IsPlain (odd ss) = ⊥
-IsPlain (any ss) = ⊥
-IsPlain (tested p t s) = ⊥
+IsPlain _ = ⊥
 
 -- There is a weight, and it is at least the need.
 abbrev pub IsAtLeast : ℕ → Option ℕ → Type 0
@@ -71,24 +61,14 @@ IsAtLeast need (Some w) = need ≤ w
 abbrev pub MayGo : ℕ → ℕ → ℕ → Option ℕ → Type 0
 MayGo point target need weight = (2 ^ 32 - 1 ≤ point) ⊎ (((need ≡ 0) × (target ≤ point + 1)) ⊎ ((target ≤ point) × IsAtLeast need weight))
 
--- A node was moved on from the target under the need, with this spent before and after: what is spent and what is left up to a
--- point together have not grown.
-pub record Stays (i : Indexed) (target need : ℕ) (before after : ℕ) (old new : Shape) : Type 0 where
-  pub flat : (last : ℕ) → last ≤ need → IsFlat last old → IsFlat need new
-  pub flat_paid : (last point : ℕ) → last ≤ need → IsFlat last old → MayGo point target need (rest i old point) → after + room_to i point new ≤ before + room_to i point old
-  pub plain : IsPlain old → IsPlain new
-  pub plain_paid : (point : ℕ) → IsPlain old → target ≤ point + 1 → after + room_to i point new ≤ before + room_to i point old
-
 abbrev mutual
   -- Leaves, and nodes of two sides under this form alone, or of many sides under an or, nested to any depth.
   pub IsNest : Form → Shape → Type 0
   IsNest form ended = Unit {0}
   IsNest form (leaf l) = Unit {0}
-  IsNest form (span r) = ⊥
   IsNest form (pair other ta a tb b) = (other ≡ form) × (IsNest form a × IsNest form b)
-  IsNest form (odd ss) = ⊥
   IsNest form (any ss) = (form ≡ Form.Or) × AreNests form ss
-  IsNest form (tested p t s) = ⊥
+  IsNest form _ = ⊥
 
   -- Sides of which each is one.
   pub AreNests : Form → Sides → Type 0

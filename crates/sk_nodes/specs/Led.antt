@@ -7,7 +7,7 @@ use Rattle.sk_index.specs.Indexed.{Indexed}
 use Rattle.sk_nodes.specs.declared.top.Top.{Top}
 use Rattle.sk_nodes.specs.declared.leaf.Leaf.{Leaf}
 use Rattle.sk_nodes.specs.Leaves.{entries_of, head_of, leaf_unread}
-use Rattle.sk_nodes.specs.Shapes.{Shape, ended, leaf, span, pair, odd, any, tested, Sides, no_sides, side}
+use Rattle.sk_nodes.specs.Shapes.{Shape, ended, leaf, pair, any, Sides, no_sides, side}
 use Rattle.sk_nodes.specs.Flat.{IsNest}
 
 -- How many entries have ids behind a point.
@@ -19,31 +19,19 @@ count_behind point (p ∷ ps) = (if nat_lt point p.0 then 1 else 0) + count_behi
 abbrev pub IsLone : Shape → Type 0
 IsLone ended = Unit {0}
 IsLone (leaf l) = Unit {0}
-IsLone (span r) = ⊥
-IsLone (pair form ta a tb b) = ⊥
-IsLone (odd ss) = ⊥
-IsLone (any ss) = ⊥
-IsLone (tested p t s) = ⊥
+IsLone _ = ⊥
 
 -- The head of the leaf that leads; 2 ^ 32 where there is none.
 abbrev pub lead_head : Indexed → Shape → ℕ
-lead_head i ended = 2 ^ 32
 lead_head i (leaf l) = head_of (entries_of i l)
-lead_head i (span r) = 2 ^ 32
 lead_head i (pair form ta a tb b) = lead_head i a
-lead_head i (odd ss) = 2 ^ 32
-lead_head i (any ss) = 2 ^ 32
-lead_head i (tested p t s) = 2 ^ 32
+lead_head i _ = 2 ^ 32
 
 -- How many entries of its list the leaf that leads has not read.
 abbrev pub lead_unread : Indexed → Shape → ℕ
-lead_unread i ended = 0
 lead_unread i (leaf l) = leaf_unread i l
-lead_unread i (span r) = 0
 lead_unread i (pair form ta a tb b) = lead_unread i a
-lead_unread i (odd ss) = 0
-lead_unread i (any ss) = 0
-lead_unread i (tested p t s) = 0
+lead_unread i _ = 0
 
 -- A list whose head stands before that of the leading one may be sought once, and read 128 entries.
 abbrev pub owed : ℕ → ℕ → ℕ
@@ -53,13 +41,10 @@ abbrev mutual
   -- How much a side may still read that follows a leading list with this head and so many entries unread: of each leaf what it
   -- has not read, or 128 entries for each that the leading list has not read, and those that it is owed now, where that is less.
   pub follow_room : Indexed → ℕ → ℕ → Shape → ℕ
-  follow_room i head unread ended = 0
   follow_room i head unread (leaf l) = min (leaf_unread i l) (owed head (head_of (entries_of i l)) + 128 * unread)
-  follow_room i head unread (span r) = 0
   follow_room i head unread (pair form ta a tb b) = follow_room i head unread a + follow_room i head unread b
-  follow_room i head unread (odd ss) = 0
   follow_room i head unread (any ss) = follow_rooms i head unread ss
-  follow_room i head unread (tested p t s) = 0
+  follow_room i head unread _ = 0
 
   -- How much all sides may.
   pub follow_rooms : Indexed → ℕ → ℕ → Sides → ℕ
@@ -68,13 +53,9 @@ abbrev mutual
 
 -- How much a node in which a list leads may still read.
 abbrev pub led_room : Indexed → Shape → ℕ
-led_room i ended = 0
 led_room i (leaf l) = leaf_unread i l
-led_room i (span r) = 0
 led_room i (pair form ta a tb b) = led_room i a + follow_room i (lead_head i a) (lead_unread i a) b
-led_room i (odd ss) = 0
-led_room i (any ss) = 0
-led_room i (tested p t s) = 0
+led_room i _ = 0
 
 -- A node stands where its leading leaf does, or has ended.
 abbrev pub IsAtLead : Indexed → Top → Shape → Type 0
@@ -94,11 +75,8 @@ MayFollow Form.Max s = ⊥
 abbrev pub IsLed : Indexed → Shape → Type 0
 IsLed i ended = Unit {0}
 IsLed i (leaf l) = Unit {0}
-IsLed i (span r) = ⊥
 IsLed i (pair form ta a tb b) = MayFollow form b × (IsAtLead i ta a × IsLed i a)
-IsLed i (odd ss) = ⊥
-IsLed i (any ss) = ⊥
-IsLed i (tested p t s) = ⊥
+IsLed i _ = ⊥
 
 -- A leading list went on: it read or passed over an entry, or stands where it did, or has ended.
 abbrev pub Advances : ℕ → ℕ → ℕ → ℕ → Type 0
@@ -107,17 +85,6 @@ Advances head unread head2 unread2 = (unread2 < unread) ⊎ ((unread2 ≡ unread
 -- A side that follows is sought from the head of the list that leads, or from the beginning.
 abbrev pub IsFollowing : ℕ → ℕ → Type 0
 IsFollowing target head = (target ≡ head) ⊎ (target ≡ 0)
-
--- A node was moved on from the target under the need, with this spent before and after: what is spent and what may still be
--- read have not grown, whether a list leads in it or it follows one.
-pub record Leads (i : Indexed) (target need : ℕ) (before after : ℕ) (old new : Shape) : Type 0 where
-  pub led : IsLed i old → IsLed i new
-  pub led_paid : IsLed i old → after + led_room i new ≤ before + led_room i old
-  pub advances : IsLed i old → Advances (lead_head i old) (lead_unread i old) (lead_head i new) (lead_unread i new)
-  pub lone : IsLone old → IsLone new
-  pub lone_paid : (head unread : ℕ) → IsFollowing target head → IsLone old → after + follow_room i head unread new ≤ before + follow_room i head unread old
-  pub nest : need ≡ 0 → IsNest Form.Or old → IsNest Form.Or new
-  pub nest_paid : (head unread : ℕ) → IsFollowing target head → need ≡ 0 → IsNest Form.Or old → after + follow_room i head unread new ≤ before + follow_room i head unread old
 
 -- A leaf was moved on from the target, with this spent before and after: it read 128 entries at most, and none where it stood
 -- at the target or behind it.

@@ -51,13 +51,11 @@ sides_on ts ns = sides_of ts (map shape_of ns)
 abbrev mutual
   -- How many nodes there are.
   pub size_of : Shape → ℕ
-  size_of ended = 1
-  size_of (leaf l) = 1
-  size_of (span r) = 1
   size_of (pair form ta a tb b) = 1 + (size_of a + size_of b)
   size_of (odd ss) = 1 + sizes_in ss
   size_of (any ss) = 1 + sizes_in ss
   size_of (tested p t s) = 1 + size_of s
+  size_of _ = 1
 
   -- How many there are in all sides, each side itself counted.
   pub sizes_in : Sides → ℕ

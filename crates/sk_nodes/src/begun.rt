@@ -8,9 +8,8 @@ ghost use Rattle.sk_nodes.specs.Shapes.{pair, odd, any, no_sides, side, shape_of
 ghost use Rattle.sk_nodes.specs.Left.{rest, unread_of, unread_in, greatest_sum};
 ghost use Rattle.sk_nodes.specs.Sound.{IsTop, IsTested, Sound, AreSound};
 ghost use Rattle.sk_nodes.specs.Opened.{Gathers};
-ghost use Rattle.sk_nodes.specs.Flat.{IsNest, IsJoint, Stays, PairsNest};
-ghost use Rattle.sk_nodes.specs.Led.{IsLed, IsAtLead, Leads};
-ghost use Rattle.sk_nodes.specs.Fading.{Fades};
+ghost use Rattle.sk_nodes.specs.Flat.{IsNest, IsJoint, PairsNest};
+ghost use Rattle.sk_nodes.specs.Moved.{Accounts, SeekAccounts};
 ghost use Rattle.sk_nodes.specs.Odd.{followed_by};
 ghost use Rattle.sk_nodes.specs.Proximity.{holds, entries_from};
 
@@ -52,8 +51,7 @@ pub(crate) fn pair_of<L: Ledger>(
     ensures counted { steps.new + spent.old ≡ steps.old + spent.new }
     ensures later { spent.old ≤ spent.new }
     ensures nest { IfOk result (λ p. IsJoint form → IsNest form (shape_of a) → IsNest form (shape_of b) → PairsNest index.now form (shape_of a) (shape_of b) (shape_of p.1) spent.old spent.new) }
-    ensures leads { IfOk result (λ p. Leads index.now 0 0 spent.old spent.new (pair form ta (shape_of a) tb (shape_of b)) (shape_of p.1) × (IsLed index.now (pair form ta (shape_of a) tb (shape_of b)) → IsAtLead index.now p.0 (shape_of p.1))) }
-    ensures fades { IfOk result (λ p. Fades index.now 0 spent.old spent.new (pair form ta (shape_of a) tb (shape_of b)) (shape_of p.1)) }
+    ensures accounts { IfOk result (λ p. SeekAccounts index.now 0 0 spent.old spent.new (pair form ta (shape_of a) tb (shape_of b)) (shape_of p.1) p.0) }
 {
     let mut top = Top::ended();
     seek_pair(
@@ -131,7 +129,7 @@ fn begin_odd<L: Ledger>(
     ensures gathers { Gathers index.now Form.Xor (sides_on tops.old nodes.old) top.new (odd (sides_on tops.new nodes.new)) }
     ensures spends { Spends (unread_in index.now (sides_on tops.old nodes.old)) (unread_in index.now (sides_on tops.new nodes.new)) spent.old spent.new steps.old steps.new }
 {
-    seek_odd(top, tops, nodes, index, 0, 0, spent, steps);
+    seek_odd(top, tops, nodes, index, 0, spent, steps);
 }
 
 /// A node of the sides of an or, moved on to its first match, and its top.
@@ -147,8 +145,7 @@ pub(crate) fn any_of<L: Ledger>(
     requires room { spent.old + unread_in index.now (sides_on tops.items nodes.items) < 2 ^ 128 }
     ensures gathers { Gathers index.now Form.Or (sides_on tops.items nodes.items) result.0 (shape_of result.1) }
     ensures spends { Spends (unread_in index.now (sides_on tops.items nodes.items)) (unread_of index.now (shape_of result.1)) spent.old spent.new steps.old steps.new }
-    ensures stays { Stays index.now 0 0 spent.old spent.new (any (sides_on tops.items nodes.items)) (shape_of result.1) }
-    ensures leads { Leads index.now 0 0 spent.old spent.new (any (sides_on tops.items nodes.items)) (shape_of result.1) }
+    ensures accounts { Accounts index.now 0 0 spent.old spent.new (any (sides_on tops.items nodes.items)) (shape_of result.1) }
 {
     let mut top = Top::ended();
     begin_any(&mut top, &mut tops, &mut nodes, index, spent, steps);
@@ -169,8 +166,7 @@ fn begin_any<L: Ledger>(
     requires room { spent.old + unread_in index.now (sides_on tops.old nodes.old) < 2 ^ 128 }
     ensures gathers { Gathers index.now Form.Or (sides_on tops.old nodes.old) top.new (any (sides_on tops.new nodes.new)) }
     ensures spends { Spends (unread_in index.now (sides_on tops.old nodes.old)) (unread_in index.now (sides_on tops.new nodes.new)) spent.old spent.new steps.old steps.new }
-    ensures stays { Stays index.now 0 0 spent.old spent.new (any (sides_on tops.old nodes.old)) (any (sides_on tops.new nodes.new)) }
-    ensures leads { Leads index.now 0 0 spent.old spent.new (any (sides_on tops.old nodes.old)) (any (sides_on tops.new nodes.new)) }
+    ensures accounts { Accounts index.now 0 0 spent.old spent.new (any (sides_on tops.old nodes.old)) (any (sides_on tops.new nodes.new)) }
 {
     put_in_order(tops, nodes);
     seek_any(top, tops, nodes, index, 0, 0, spent, steps);

@@ -1,13 +1,11 @@
 //! How nodes move on.
-ghost use Rattle.std.specs.Prelude.{◌≡◌, ◌≤◌, ◌<◌, ◌+◌, ◌^◌};
+ghost use Rattle.std.specs.Prelude.{◌≡◌, ◌≤◌, ◌<◌, ◌+◌, ◌^◌, ℕ};
 ghost use Rattle.sk_decay.specs.Sides.{greatest_under};
 ghost use Rattle.sk_nodes.specs.Accounts.{Spends};
-ghost use Rattle.sk_nodes.specs.Shapes.{pair, odd, any, tested, shape_of, size_of, sides_on, sizes_in};
-ghost use Rattle.sk_nodes.specs.Left.{unread_of, unread_in, greatest_sum};
-ghost use Rattle.sk_nodes.specs.Sound.{Lands, IsTop, IsPair, IsOdd, IsTested, Sound, AreSound};
-ghost use Rattle.sk_nodes.specs.Flat.{Stays};
-ghost use Rattle.sk_nodes.specs.Led.{IsLone, IsLed, IsAtLead, Leads};
-ghost use Rattle.sk_nodes.specs.Fading.{StandsOn, Moves, Fades, FadesUnder};
+ghost use Rattle.sk_nodes.specs.Shapes.{pair, odd, any, tested, shape_of, sides_on, sizes_in};
+ghost use Rattle.sk_nodes.specs.Left.{unread_of, unread_in, greatest_sum, greatest_in};
+ghost use Rattle.sk_nodes.specs.Sound.{IsTop, IsPair, IsOdd, IsTested, Sound, AreSound};
+ghost use Rattle.sk_nodes.specs.Moved.{Sought, Accounts, SeekAccounts, ReachAccounts};
 ghost use Rattle.sk_nodes.specs.Odd.{AreSought, AreFrom};
 ghost use Rattle.sk_nodes.specs.Any.{AreMoved, HaveLed, AreWeighed, AreEnded};
 ghost use Rattle.sk_nodes.specs.Proximity.{entries_from};
@@ -40,15 +38,8 @@ pub(crate) fn reach<L: Ledger>(
     requires sound { Sound index.now (shape_of node.old) }
     requires target { target < 2 ^ 32 }
     requires room { spent.old + unread_of index.now (shape_of node.old) < 2 ^ 128 }
-    ensures lands { Lands index.now target need (shape_of node.old) (shape_of node.new) top.new }
-    ensures falls { top.new.greatest ≤ top.old.greatest }
-    ensures smaller { size_of (shape_of node.new) ≤ size_of (shape_of node.old) }
-    ensures spends { Spends (unread_of index.now (shape_of node.old)) (unread_of index.now (shape_of node.new)) spent.old spent.new steps.old steps.new }
-    ensures stays { Stays index.now target need spent.old spent.new (shape_of node.old) (shape_of node.new) }
-    ensures leads { Leads index.now target need spent.old spent.new (shape_of node.old) (shape_of node.new) }
-    ensures at { IsLed index.now (shape_of node.old) → IsAtLead index.now top.old (shape_of node.old) → IsAtLead index.now top.new (shape_of node.new) }
-    ensures moves { StandsOn index.now top.old (shape_of node.old) → Moves index.now target spent.old spent.new (shape_of node.old) top.new (shape_of node.new) }
-    ensures fades { FadesUnder index.now target need spent.old spent.new (shape_of node.old) (shape_of node.new) }
+    ensures sought { Sought index.now target need top.old.greatest spent.old spent.new steps.old steps.new (shape_of node.old) (shape_of node.new) top.new }
+    ensures accounts { ReachAccounts index.now target need spent.old spent.new (shape_of node.old) (shape_of node.new) top.old top.new }
 {
     if target <= top.head {
         return;
@@ -91,15 +82,8 @@ fn reach_inner<L: Ledger>(
     requires sound { Sound index.now (shape_of node.old) }
     requires target { target < 2 ^ 32 }
     requires room { spent.old + unread_of index.now (shape_of node.old) < 2 ^ 128 }
-    ensures lands { Lands index.now target need (shape_of node.old) (shape_of node.new) top.new }
-    ensures falls { top.new.greatest ≤ top.old.greatest }
-    ensures smaller { size_of (shape_of node.new) ≤ size_of (shape_of node.old) }
-    ensures spends { Spends (unread_of index.now (shape_of node.old)) (unread_of index.now (shape_of node.new)) spent.old spent.new steps.old steps.new }
-    ensures stays { Stays index.now target need spent.old spent.new (shape_of node.old) (shape_of node.new) }
-    ensures leads { Leads index.now target need spent.old spent.new (shape_of node.old) (shape_of node.new) }
-    ensures at { IsLed index.now (shape_of node.old) → IsAtLead index.now top.old (shape_of node.old) → IsAtLead index.now top.new (shape_of node.new) }
-    ensures moves { StandsOn index.now top.old (shape_of node.old) → Moves index.now target spent.old spent.new (shape_of node.old) top.new (shape_of node.new) }
-    ensures fades { FadesUnder index.now target need spent.old spent.new (shape_of node.old) (shape_of node.new) }
+    ensures sought { Sought index.now target need top.old.greatest spent.old spent.new steps.old steps.new (shape_of node.old) (shape_of node.new) top.new }
+    ensures accounts { ReachAccounts index.now target need spent.old spent.new (shape_of node.old) (shape_of node.new) top.old top.new }
 {
     let before = top.greatest;
     settle(node, index, need);
@@ -122,14 +106,8 @@ fn seek<L: Ledger>(
     requires sound { Sound index.now (shape_of node.old) }
     requires target { target < 2 ^ 32 }
     requires room { spent.old + unread_of index.now (shape_of node.old) < 2 ^ 128 }
-    ensures lands { Lands index.now target need (shape_of node.old) (shape_of node.new) top.new }
-    ensures smaller { size_of (shape_of node.new) ≤ size_of (shape_of node.old) }
-    ensures spends { Spends (unread_of index.now (shape_of node.old)) (unread_of index.now (shape_of node.new)) spent.old spent.new steps.old steps.new }
-    ensures stays { Stays index.now target need spent.old spent.new (shape_of node.old) (shape_of node.new) }
-    ensures leads { Leads index.now target need spent.old spent.new (shape_of node.old) (shape_of node.new) }
-    ensures at { IsLed index.now (shape_of node.old) → IsAtLead index.now top.new (shape_of node.new) }
-    ensures moves { IsLone (shape_of node.old) → Moves index.now target spent.old spent.new (shape_of node.old) top.new (shape_of node.new) }
-    ensures fades { Fades index.now target spent.old spent.new (shape_of node.old) (shape_of node.new) }
+    ensures sought { Sought index.now target need (greatest_in (shape_of node.old)) spent.old spent.new steps.old steps.new (shape_of node.old) (shape_of node.new) top.new }
+    ensures accounts { SeekAccounts index.now target need spent.old spent.new (shape_of node.old) (shape_of node.new) top.new }
 {
     match node {
         Node::Nothing => *top = Top::ended(),
@@ -138,7 +116,7 @@ fn seek<L: Ledger>(
         Node::Pair(form, ta, a, tb, b) => seek_sides(
             top, *form, ta, a, tb, b, index, target, need, spent, steps,
         ),
-        Node::Odd(tops, nodes) => seek_odd(top, tops, nodes, index, target, need, spent, steps),
+        Node::Odd(tops, nodes) => seek_odd(top, tops, nodes, index, target, spent, steps),
         Node::Any(tops, nodes) => seek_any(top, tops, nodes, index, target, need, spent, steps),
         Node::Tested(test, below, node) => seek_tested(
             top, test, below, node, index, target, need, spent, steps,
@@ -165,14 +143,8 @@ pub(crate) fn seek_pair<L: Ledger>(
     requires pair { IsPair index.now ta.old (shape_of a.old) tb.old (shape_of b.old) (Sound index.now (shape_of a.old)) (Sound index.now (shape_of b.old)) }
     requires target { target < 2 ^ 32 }
     requires room { spent.old + (unread_of index.now (shape_of a.old) + unread_of index.now (shape_of b.old)) < 2 ^ 128 }
-    ensures lands { Lands index.now target need (pair form ta.old (shape_of a.old) tb.old (shape_of b.old)) (pair form ta.new (shape_of a.new) tb.new (shape_of b.new)) top.new }
-    ensures falls { top.new.greatest ≤ greatest_under form ta.old.greatest tb.old.greatest }
-    ensures smaller { size_of (shape_of a.new) + size_of (shape_of b.new) ≤ size_of (shape_of a.old) + size_of (shape_of b.old) }
-    ensures spends { Spends (unread_of index.now (shape_of a.old) + unread_of index.now (shape_of b.old)) (unread_of index.now (shape_of a.new) + unread_of index.now (shape_of b.new)) spent.old spent.new steps.old steps.new }
-    ensures stays { Stays index.now target need spent.old spent.new (pair form ta.old (shape_of a.old) tb.old (shape_of b.old)) (pair form ta.new (shape_of a.new) tb.new (shape_of b.new)) }
-    ensures leads { Leads index.now target need spent.old spent.new (pair form ta.old (shape_of a.old) tb.old (shape_of b.old)) (pair form ta.new (shape_of a.new) tb.new (shape_of b.new)) }
-    ensures at { IsLed index.now (pair form ta.old (shape_of a.old) tb.old (shape_of b.old)) → IsAtLead index.now top.new (pair form ta.new (shape_of a.new) tb.new (shape_of b.new)) }
-    ensures fades { Fades index.now target spent.old spent.new (pair form ta.old (shape_of a.old) tb.old (shape_of b.old)) (pair form ta.new (shape_of a.new) tb.new (shape_of b.new)) }
+    ensures sought { Sought index.now target need (greatest_under form ta.old.greatest tb.old.greatest) spent.old spent.new steps.old steps.new (pair form ta.old (shape_of a.old) tb.old (shape_of b.old)) (pair form ta.new (shape_of a.new) tb.new (shape_of b.new)) top.new }
+    ensures accounts { SeekAccounts index.now target need spent.old spent.new (pair form ta.old (shape_of a.old) tb.old (shape_of b.old)) (pair form ta.new (shape_of a.new) tb.new (shape_of b.new)) top.new }
 {
     let mut from = skip(form, a, b, index, target, need);
     'sides: loop {
@@ -230,14 +202,8 @@ fn seek_sides<L: Ledger>(
     requires pair { IsPair index.now ta.old (shape_of a.old) tb.old (shape_of b.old) (Sound index.now (shape_of a.old)) (Sound index.now (shape_of b.old)) }
     requires target { target < 2 ^ 32 }
     requires room { spent.old + (unread_of index.now (shape_of a.old) + unread_of index.now (shape_of b.old)) < 2 ^ 128 }
-    ensures lands { Lands index.now target need (pair form ta.old (shape_of a.old) tb.old (shape_of b.old)) (pair form ta.new (shape_of a.new) tb.new (shape_of b.new)) top.new }
-    ensures falls { top.new.greatest ≤ greatest_under form ta.old.greatest tb.old.greatest }
-    ensures smaller { size_of (shape_of a.new) + size_of (shape_of b.new) ≤ size_of (shape_of a.old) + size_of (shape_of b.old) }
-    ensures spends { Spends (unread_of index.now (shape_of a.old) + unread_of index.now (shape_of b.old)) (unread_of index.now (shape_of a.new) + unread_of index.now (shape_of b.new)) spent.old spent.new steps.old steps.new }
-    ensures stays { Stays index.now target need spent.old spent.new (pair form ta.old (shape_of a.old) tb.old (shape_of b.old)) (pair form ta.new (shape_of a.new) tb.new (shape_of b.new)) }
-    ensures leads { Leads index.now target need spent.old spent.new (pair form ta.old (shape_of a.old) tb.old (shape_of b.old)) (pair form ta.new (shape_of a.new) tb.new (shape_of b.new)) }
-    ensures at { IsLed index.now (pair form ta.old (shape_of a.old) tb.old (shape_of b.old)) → IsAtLead index.now top.new (pair form ta.new (shape_of a.new) tb.new (shape_of b.new)) }
-    ensures fades { Fades index.now target spent.old spent.new (pair form ta.old (shape_of a.old) tb.old (shape_of b.old)) (pair form ta.new (shape_of a.new) tb.new (shape_of b.new)) }
+    ensures sought { Sought index.now target need (greatest_under form ta.old.greatest tb.old.greatest) spent.old spent.new steps.old steps.new (pair form ta.old (shape_of a.old) tb.old (shape_of b.old)) (pair form ta.new (shape_of a.new) tb.new (shape_of b.new)) top.new }
+    ensures accounts { SeekAccounts index.now target need spent.old spent.new (pair form ta.old (shape_of a.old) tb.old (shape_of b.old)) (pair form ta.new (shape_of a.new) tb.new (shape_of b.new)) top.new }
 {
     match form {
         Form::Or => seek_pair(
@@ -291,17 +257,13 @@ pub(crate) fn seek_odd<L: Ledger>(
     nodes: &mut [Node],
     index: &Index,
     target: u64,
-    _need: u64,
     spent: &mut u128,
     steps: &mut Steps<L>,
 )
     requires sides { IsOdd (sides_on tops.old nodes.old) (AreSound index.now (sides_on tops.old nodes.old)) }
     requires target { target < 2 ^ 32 }
     requires room { spent.old + unread_in index.now (sides_on tops.old nodes.old) < 2 ^ 128 }
-    ensures lands { Lands index.now target _need (odd (sides_on tops.old nodes.old)) (odd (sides_on tops.new nodes.new)) top.new }
-    ensures falls { top.new.greatest ≤ greatest_sum (sides_on tops.old nodes.old) }
-    ensures smaller { sizes_in (sides_on tops.new nodes.new) ≤ sizes_in (sides_on tops.old nodes.old) }
-    ensures spends { Spends (unread_in index.now (sides_on tops.old nodes.old)) (unread_in index.now (sides_on tops.new nodes.new)) spent.old spent.new steps.old steps.new }
+    ensures { (need : ℕ) → Sought index.now target need (greatest_sum (sides_on tops.old nodes.old)) spent.old spent.new steps.old steps.new (odd (sides_on tops.old nodes.old)) (odd (sides_on tops.new nodes.new)) top.new }
 {
     let mut from = target;
     'all: loop {
@@ -333,15 +295,11 @@ pub(crate) fn seek_any<L: Ledger>(
     requires sides { IsOdd (sides_on tops.old nodes.old) (AreSound index.now (sides_on tops.old nodes.old)) }
     requires target { target < 2 ^ 32 }
     requires room { spent.old + unread_in index.now (sides_on tops.old nodes.old) < 2 ^ 128 }
-    ensures lands { Lands index.now target need (any (sides_on tops.old nodes.old)) (any (sides_on tops.new nodes.new)) top.new }
-    ensures falls { top.new.greatest ≤ greatest_sum (sides_on tops.old nodes.old) }
-    ensures smaller { sizes_in (sides_on tops.new nodes.new) ≤ sizes_in (sides_on tops.old nodes.old) }
-    ensures spends { Spends (unread_in index.now (sides_on tops.old nodes.old)) (unread_in index.now (sides_on tops.new nodes.new)) spent.old spent.new steps.old steps.new }
-    ensures stays { Stays index.now target need spent.old spent.new (any (sides_on tops.old nodes.old)) (any (sides_on tops.new nodes.new)) }
-    ensures leads { Leads index.now target need spent.old spent.new (any (sides_on tops.old nodes.old)) (any (sides_on tops.new nodes.new)) }
+    ensures sought { Sought index.now target need (greatest_sum (sides_on tops.old nodes.old)) spent.old spent.new steps.old steps.new (any (sides_on tops.old nodes.old)) (any (sides_on tops.new nodes.new)) top.new }
+    ensures accounts { Accounts index.now target need spent.old spent.new (any (sides_on tops.old nodes.old)) (any (sides_on tops.new nodes.new)) }
 {
     if need == 0 {
-        seek_all(top, tops, nodes, index, target, need, spent, steps);
+        seek_all(top, tops, nodes, index, target, spent, steps);
         return;
     }
     seek_some(top, tops, nodes, index, target, need, spent, steps);
@@ -355,19 +313,14 @@ fn seek_all<L: Ledger>(
     nodes: &mut [Node],
     index: &Index,
     target: u64,
-    _need: u64,
     spent: &mut u128,
     steps: &mut Steps<L>,
 )
     requires sides { IsOdd (sides_on tops.old nodes.old) (AreSound index.now (sides_on tops.old nodes.old)) }
     requires target { target < 2 ^ 32 }
     requires room { spent.old + unread_in index.now (sides_on tops.old nodes.old) < 2 ^ 128 }
-    ensures lands { Lands index.now target _need (any (sides_on tops.old nodes.old)) (any (sides_on tops.new nodes.new)) top.new }
-    ensures falls { top.new.greatest ≤ greatest_sum (sides_on tops.old nodes.old) }
-    ensures smaller { sizes_in (sides_on tops.new nodes.new) ≤ sizes_in (sides_on tops.old nodes.old) }
-    ensures spends { Spends (unread_in index.now (sides_on tops.old nodes.old)) (unread_in index.now (sides_on tops.new nodes.new)) spent.old spent.new steps.old steps.new }
-    ensures stays { Stays index.now target _need spent.old spent.new (any (sides_on tops.old nodes.old)) (any (sides_on tops.new nodes.new)) }
-    ensures leads { Leads index.now target _need spent.old spent.new (any (sides_on tops.old nodes.old)) (any (sides_on tops.new nodes.new)) }
+    ensures sought { (need : ℕ) → Sought index.now target need (greatest_sum (sides_on tops.old nodes.old)) spent.old spent.new steps.old steps.new (any (sides_on tops.old nodes.old)) (any (sides_on tops.new nodes.new)) top.new }
+    ensures accounts { (need : ℕ) → Accounts index.now target need spent.old spent.new (any (sides_on tops.old nodes.old)) (any (sides_on tops.new nodes.new)) }
 {
     reach_all(tops, nodes, index, target, spent, steps);
     let first = first_of(tops, nodes, END, 0);
@@ -393,12 +346,8 @@ fn seek_some<L: Ledger>(
     requires sides { IsOdd (sides_on tops.old nodes.old) (AreSound index.now (sides_on tops.old nodes.old)) }
     requires target { target < 2 ^ 32 }
     requires room { spent.old + unread_in index.now (sides_on tops.old nodes.old) < 2 ^ 128 }
-    ensures lands { Lands index.now target need (any (sides_on tops.old nodes.old)) (any (sides_on tops.new nodes.new)) top.new }
-    ensures falls { top.new.greatest ≤ greatest_sum (sides_on tops.old nodes.old) }
-    ensures smaller { sizes_in (sides_on tops.new nodes.new) ≤ sizes_in (sides_on tops.old nodes.old) }
-    ensures spends { Spends (unread_in index.now (sides_on tops.old nodes.old)) (unread_in index.now (sides_on tops.new nodes.new)) spent.old spent.new steps.old steps.new }
-    ensures stays { Stays index.now target need spent.old spent.new (any (sides_on tops.old nodes.old)) (any (sides_on tops.new nodes.new)) }
-    ensures leads { Leads index.now target need spent.old spent.new (any (sides_on tops.old nodes.old)) (any (sides_on tops.new nodes.new)) }
+    ensures sought { Sought index.now target need (greatest_sum (sides_on tops.old nodes.old)) spent.old spent.new steps.old steps.new (any (sides_on tops.old nodes.old)) (any (sides_on tops.new nodes.new)) top.new }
+    ensures accounts { Accounts index.now target need spent.old spent.new (any (sides_on tops.old nodes.old)) (any (sides_on tops.new nodes.new)) }
 {
     let most = sum_of(tops, nodes);
     let mut from = target;
@@ -608,10 +557,7 @@ pub(crate) fn seek_tested<L: Ledger>(
     requires tested { IsTested index.now test.old below.old (shape_of node.old) (Sound index.now (shape_of node.old)) }
     requires target { target < 2 ^ 32 }
     requires room { spent.old + (unread_of index.now (shape_of node.old) + entries_from index.now test.old.next test.old.numbers.items) < 2 ^ 128 }
-    ensures lands { Lands index.now target need (tested test.old below.old (shape_of node.old)) (tested test.new below.new (shape_of node.new)) top.new }
-    ensures falls { top.new.greatest ≤ below.old.greatest }
-    ensures smaller { size_of (shape_of node.new) ≤ size_of (shape_of node.old) }
-    ensures spends { Spends (unread_of index.now (shape_of node.old) + entries_from index.now test.old.next test.old.numbers.items) (unread_of index.now (shape_of node.new) + entries_from index.now test.new.next test.new.numbers.items) spent.old spent.new steps.old steps.new }
+    ensures { Sought index.now target need below.old.greatest spent.old spent.new steps.old steps.new (tested test.old below.old (shape_of node.old)) (tested test.new below.new (shape_of node.new)) top.new }
 {
     let mut from = target;
     'tests: loop {

@@ -2,7 +2,7 @@
 use Rattle.std.proofs.Common.{◌∙◌, arith}
 use Rattle.sk_nodes.specs.Shapes.{sides_on}
 use Rattle.sk_nodes.proofs.AnyLaws.{any_gives}
-use Rattle.sk_nodes.proofs.OrderLaws.{order_stays, order_leads}
+use Rattle.sk_nodes.proofs.OrderLaws.{order_accounts}
 use Rattle.sk_nodes.proofs.begun.begin_any.Goals as goal
 
 pub seek_any-requires : goal.seek_any-requires
@@ -19,23 +19,18 @@ returns-clause-gathers g c =
     let i = c.args.index.now in
     let order = c.put_in_order.ensures.same i in
     record {
-      top = c.seek_any.ensures.lands.top;
-      sound = c.seek_any.ensures.lands.sound;
-      gives = λ id. any_gives i id (sides_on c.put_in_order.new.tops c.put_in_order.new.nodes) (sides_on c.seek_any.new.tops c.seek_any.new.nodes) c.seek_any.ensures.lands.covers ∙ order.same id;
-      ceiling = omega (arith, order.greatest, c.seek_any.ensures.falls);
+      top = c.seek_any.ensures.sought.lands.top;
+      sound = c.seek_any.ensures.sought.lands.sound;
+      gives = λ id. any_gives i id (sides_on c.put_in_order.new.tops c.put_in_order.new.nodes) (sides_on c.seek_any.new.tops c.seek_any.new.nodes) c.seek_any.ensures.sought.lands.covers ∙ order.same id;
+      ceiling = omega (arith, order.greatest, c.seek_any.ensures.sought.falls);
     }
 
 pub returns-clause-spends : goal.returns-clause-spends
 returns-clause-spends g c =
     let order = c.put_in_order.ensures.same c.args.index.now in
-    record { paid = omega (arith, order.unread, c.seek_any.ensures.spends.paid); counted = omega arith; later = omega arith }
+    record { paid = omega (arith, order.unread, c.seek_any.ensures.sought.spends.paid); counted = omega arith; later = omega arith }
 
-pub returns-clause-stays : goal.returns-clause-stays
-returns-clause-stays g c =
-    order_stays c.args.index.now 0 0 c.args.spent.now c.seek_any.new.spent (sides_on c.args.tops.now c.args.nodes.now) (sides_on c.put_in_order.new.tops c.put_in_order.new.nodes) (sides_on c.seek_any.new.tops c.seek_any.new.nodes)
-    (c.put_in_order.ensures.same c.args.index.now) c.seek_any.ensures.stays
-
-pub returns-clause-leads : goal.returns-clause-leads
-returns-clause-leads g c =
-    order_leads c.args.index.now 0 0 c.args.spent.now c.seek_any.new.spent (sides_on c.args.tops.now c.args.nodes.now) (sides_on c.put_in_order.new.tops c.put_in_order.new.nodes) (sides_on c.seek_any.new.tops c.seek_any.new.nodes)
-    (c.put_in_order.ensures.same c.args.index.now) c.seek_any.ensures.leads
+pub returns-clause-accounts : goal.returns-clause-accounts
+returns-clause-accounts g c =
+    order_accounts c.args.index.now 0 0 c.args.spent.now c.seek_any.new.spent (sides_on c.args.tops.now c.args.nodes.now) (sides_on c.put_in_order.new.tops c.put_in_order.new.nodes) (sides_on c.seek_any.new.tops c.seek_any.new.nodes)
+    (c.put_in_order.ensures.same c.args.index.now) c.seek_any.ensures.accounts

@@ -6,9 +6,13 @@ use Rattle.sk_nodes.proofs.begun.begin_odd.Goals as goal
 pub returns-clause-gathers : goal.returns-clause-gathers
 returns-clause-gathers g c =
     let i = c.args.index.now in
+    let sought = c.seek_odd.ensures 0 in
     record {
-      top = c.seek_odd.ensures.lands.top;
-      sound = c.seek_odd.ensures.lands.sound;
-      gives = λ id. odd_gives i id (sides_on c.args.tops.now c.args.nodes.now) (sides_on c.seek_odd.new.tops c.seek_odd.new.nodes) c.seek_odd.ensures.lands.covers;
-      ceiling = c.seek_odd.ensures.falls;
+      top = sought.lands.top;
+      sound = sought.lands.sound;
+      gives = λ id. odd_gives i id (sides_on c.args.tops.now c.args.nodes.now) (sides_on c.seek_odd.new.tops c.seek_odd.new.nodes) sought.lands.covers;
+      ceiling = sought.falls;
     }
+
+pub returns-clause-spends : goal.returns-clause-spends
+returns-clause-spends g c = (c.seek_odd.ensures 0).spends

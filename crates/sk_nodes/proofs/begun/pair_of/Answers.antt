@@ -6,10 +6,8 @@ use Rattle.sk_nodes.specs.Shapes.{pair, shape_of}
 use Rattle.sk_nodes.specs.Left.{rest, from_on}
 use Rattle.sk_nodes.proofs.LeafLaws.{from_on-at}
 use Rattle.sk_nodes.proofs.NodeLaws.{pair_shape}
-use Rattle.sk_nodes.proofs.StopLaws.{stays_along}
 use Rattle.sk_nodes.proofs.NestLaws.{paired_nest}
-use Rattle.sk_nodes.proofs.RareLaws.{leads_along, at_along}
-use Rattle.sk_nodes.proofs.FadingLaws.{fades_along}
+use Rattle.sk_nodes.proofs.MoveLaws.{seek_along}
 use Rattle.sk_nodes.proofs.begun.pair_of.Goals as goal
 
 pub returns-clause-gives : goal.returns-clause-gives
@@ -17,23 +15,14 @@ returns-clause-gives g c id =
     let i = c.args.index.now in
     let both : ℕ → Option ℕ = λ id. paired c.args.form (rest i (shape_of c.args.a) id) (rest i (shape_of c.args.b) id) in
     ap (λ s. rest i s id) (pair_shape _ c.args.form c.seek_pair.new.ta c.seek_pair.new.tb c.in_ok-a.a c.in_ok-b.b c.seek_pair.new.a c.seek_pair.new.b refl (sym c.in_ok-a.ensures.ok) (sym c.in_ok-b.ensures.ok))
-    ∙ covers_exactly (from_on 0 both id) (paired c.args.form (rest i (shape_of c.seek_pair.new.a) id) (rest i (shape_of c.seek_pair.new.b) id)) (c.seek_pair.ensures.lands.covers id)
+    ∙ covers_exactly (from_on 0 both id) (paired c.args.form (rest i (shape_of c.seek_pair.new.a) id) (rest i (shape_of c.seek_pair.new.b) id)) (c.seek_pair.ensures.sought.lands.covers id)
     ∙ from_on-at 0 both id (omega arith)
 
+pub returns-clause-accounts : goal.returns-clause-accounts
+returns-clause-accounts g c =
+    let i = c.args.index.now in
+    let shape = pair_shape _ c.args.form c.seek_pair.new.ta c.seek_pair.new.tb c.in_ok-a.a c.in_ok-b.b c.seek_pair.new.a c.seek_pair.new.b refl (sym c.in_ok-a.ensures.ok) (sym c.in_ok-b.ensures.ok) in
+    seek_along i 0 0 _ _ _ _ _ _ _ refl shape c.seek_pair.ensures.accounts
+
 pub returns-clause-nest : goal.returns-clause-nest
-returns-clause-nest g c joint first second =
-    let i = c.args.index.now in
-    let shape = pair_shape _ c.args.form c.seek_pair.new.ta c.seek_pair.new.tb c.in_ok-a.a c.in_ok-b.b c.seek_pair.new.a c.seek_pair.new.b refl (sym c.in_ok-a.ensures.ok) (sym c.in_ok-b.ensures.ok) in
-    paired_nest i c.args.form _ _ c.args.ta (shape_of c.args.a) c.args.tb (shape_of c.args.b) _ (stays_along i 0 0 _ _ _ _ _ _ refl shape c.seek_pair.ensures.stays) (leads_along i 0 0 _ _ _ _ _ _ refl shape c.seek_pair.ensures.leads) first second joint
-
-pub returns-clause-leads : goal.returns-clause-leads
-returns-clause-leads g c =
-    let i = c.args.index.now in
-    let shape = pair_shape _ c.args.form c.seek_pair.new.ta c.seek_pair.new.tb c.in_ok-a.a c.in_ok-b.b c.seek_pair.new.a c.seek_pair.new.b refl (sym c.in_ok-a.ensures.ok) (sym c.in_ok-b.ensures.ok) in
-    (leads_along i 0 0 _ _ _ _ _ _ refl shape c.seek_pair.ensures.leads, at_along i c.seek_pair.new.top (pair c.args.form c.args.ta (shape_of c.args.a) c.args.tb (shape_of c.args.b)) _ (pair c.args.form c.args.ta (shape_of c.args.a) c.args.tb (shape_of c.args.b)) (pair c.args.form c.seek_pair.new.ta (shape_of c.seek_pair.new.a) c.seek_pair.new.tb (shape_of c.seek_pair.new.b)) refl shape c.seek_pair.ensures.at)
-
-pub returns-clause-fades : goal.returns-clause-fades
-returns-clause-fades g c =
-    let i = c.args.index.now in
-    let shape = pair_shape _ c.args.form c.seek_pair.new.ta c.seek_pair.new.tb c.in_ok-a.a c.in_ok-b.b c.seek_pair.new.a c.seek_pair.new.b refl (sym c.in_ok-a.ensures.ok) (sym c.in_ok-b.ensures.ok) in
-    fades_along i 0 _ _ _ _ _ _ refl shape c.seek_pair.ensures.fades
+returns-clause-nest g c joint first second = paired_nest c.args.index.now c.args.form _ _ c.args.ta (shape_of c.args.a) c.args.tb (shape_of c.args.b) _ (returns-clause-accounts g c).all first second joint

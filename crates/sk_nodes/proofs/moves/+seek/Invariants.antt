@@ -4,8 +4,7 @@ use Rattle.sk_nodes.specs.Accounts.{Spends}
 use Rattle.sk_nodes.specs.Shapes.{shape_of, size_of, sides_on, sizes_in}
 use Rattle.sk_nodes.specs.Left.{unread_of, unread_in}
 use Rattle.sk_nodes.proofs.NodeLaws.{SidesSoFar}
-use Rattle.sk_nodes.proofs.StopLaws.{StaysSoFar}
-use Rattle.sk_nodes.proofs.RareLaws.{LeadsSoFar}
+use Rattle.sk_nodes.proofs.MoveLaws.{AccountsSoFar}
 use Rattle.sk_nodes.proofs.FadingLaws.{FadesSoFar}
 use Rattle.sk_nodes.specs.Proximity.{entries_from}
 use Rattle.sk_nodes.proofs.OddLaws.{OddSoFar}
@@ -31,8 +30,7 @@ decreases-seek_pair g l = 5 * (size_of (shape_of l.a.now) + size_of (shape_of l.
 abbrev pub invariant-seek_pair-sides : goal.invariant-seek_pair-sides
 invariant-seek_pair-sides g l = record {
   far : SidesSoFar l.index l.form l.target l.need l.from l.fn.ta (shape_of l.fn.a) l.fn.tb (shape_of l.fn.b) l.ta (shape_of l.a) l.tb (shape_of l.b);
-  stays : StaysSoFar l.index l.form l.target l.need l.from l.fn.spent l.spent l.fn.ta (shape_of l.fn.a) l.fn.tb (shape_of l.fn.b) l.ta (shape_of l.a) l.tb (shape_of l.b);
-  leads : LeadsSoFar l.index l.form l.target l.from l.fn.spent l.spent l.fn.ta (shape_of l.fn.a) l.fn.tb (shape_of l.fn.b) l.ta (shape_of l.a) l.tb (shape_of l.b);
+  accounts : AccountsSoFar l.index l.form l.target l.need l.from l.fn.spent l.spent l.fn.ta (shape_of l.fn.a) l.fn.tb (shape_of l.fn.b) l.ta (shape_of l.a) l.tb (shape_of l.b);
   fades : FadesSoFar l.index l.form l.target l.from l.fn.spent l.spent l.fn.ta (shape_of l.fn.a) l.fn.tb (shape_of l.fn.b) l.ta (shape_of l.a) l.tb (shape_of l.b);
   spends : Spends (unread_of l.index (shape_of l.fn.a) + unread_of l.index (shape_of l.fn.b)) (unread_of l.index (shape_of l.a) + unread_of l.index (shape_of l.b)) l.fn.spent l.spent l.fn.steps l.steps;
 }
@@ -76,7 +74,7 @@ decreases-reach_few g l = 5 * sizes_in (sides_on l.tops.now l.nodes.now) + 2
 
 abbrev pub invariant-seek_odd-all : goal.invariant-seek_odd-all
 invariant-seek_odd-all g l = record {
-  far : OddSoFar l.index l.target l._need l.from (sides_on l.fn.tops l.fn.nodes) (sides_on l.tops l.nodes);
+  far : OddSoFar l.index l.target l.from (sides_on l.fn.tops l.fn.nodes) (sides_on l.tops l.nodes);
   spends : Spends (unread_in l.index (sides_on l.fn.tops l.fn.nodes)) (unread_in l.index (sides_on l.tops l.nodes)) l.fn.spent l.spent l.fn.steps l.steps;
 }
 

@@ -160,7 +160,7 @@ open_parts-returns-clause-led g t c =
     IfOk-weaker c.pair_of.result _ _
     (λ p h lists can e.
     split_leads i c.args.form c.others_of.result c.in_ok-ta.ta (shape_of c.in_ok-ta.a) c.in_ok-tb.tb (shape_of c.in_ok-tb.b) p.0 (shape_of p.1) lists (terms_in (queries_view c.split_parts.result.0.now)) (terms_in (queries_view c.split_parts.result.1.now)) _ _ _ _
-    can c.others_of.ensures c.in_ok-ta.ensures.led c.in_ok-tb.ensures.follows h.0 h.1 (c.split_parts.ensures.led lists can e)) c.pair_of.ensures.leads
+    can c.others_of.ensures c.in_ok-ta.ensures.led c.in_ok-tb.ensures.follows h.all h.at (c.split_parts.ensures.led lists can e)) c.pair_of.ensures.accounts
 
 pub open_parts-returns-clause-follows : goal.open_parts-returns-clause-follows
 open_parts-returns-clause-follows g t c =
@@ -168,7 +168,7 @@ open_parts-returns-clause-follows g t c =
     IfOk-weaker c.pair_of.result _ _
     (λ p h lists so e.
     split_follows i c.args.form c.others_of.result c.in_ok-ta.ta (shape_of c.in_ok-ta.a) c.in_ok-tb.tb (shape_of c.in_ok-tb.b) (shape_of p.1) (queries_view c.split_parts.result.0.now) (queries_view c.split_parts.result.1.now) lists _ _ _ _
-    so c.others_of.ensures c.split_parts.ensures.splits.front.some c.split_parts.ensures.splits.back.some c.in_ok-ta.ensures.follows c.in_ok-tb.ensures.follows h.0 (c.split_parts.ensures.splits.terms lists e)) c.pair_of.ensures.leads
+    so c.others_of.ensures c.split_parts.ensures.splits.front.some c.split_parts.ensures.splits.back.some c.in_ok-ta.ensures.follows c.in_ok-tb.ensures.follows h.all (c.split_parts.ensures.splits.terms lists e)) c.pair_of.ensures.accounts
 
 pub open_parts-returns-in-Some-odd_parts-clause-follows : goal.open_parts-returns-in-Some-odd_parts-clause-follows
 open_parts-returns-in-Some-odd_parts-clause-follows g t c lists so e = absurd (odd_follows c.args.form (queries_view c.args.parts.now) lists c.in-Some-odd_parts.ensures.odd so e)
@@ -205,7 +205,7 @@ open_parts-returns-clause-fading g t c =
     IfOk-weaker c.pair_of.result _ _
     (λ p h x y is e.
     split_decays i c.args.scheme c.args.factor c.args.form c.others_of.result c.in_ok-ta.ta (shape_of c.in_ok-ta.a) c.in_ok-tb.tb (shape_of c.in_ok-tb.b) (shape_of p.1) (queries_view c.split_parts.result.0.now) (queries_view c.split_parts.result.1.now) x y _ _ _ _
-    is c.split_parts.ensures.splits.front.some c.split_parts.ensures.splits.back.some c.in_ok-ta.ensures.begun c.in_ok-tb.ensures.begun h (c.split_parts.ensures.splits.terms (x ∷ y ∷ []) e)) c.pair_of.ensures.fades
+    is c.split_parts.ensures.splits.front.some c.split_parts.ensures.splits.back.some c.in_ok-ta.ensures.begun c.in_ok-tb.ensures.begun h.fades (c.split_parts.ensures.splits.terms (x ∷ y ∷ []) e)) c.pair_of.ensures.accounts
 
 pub open_parts-returns-in-Some-odd_parts-clause-begun : goal.open_parts-returns-in-Some-odd_parts-clause-begun
 open_parts-returns-in-Some-odd_parts-clause-begun g t c term e = absurd (many_not_one (queries_view c.args.parts.now) term (omega (arith, counted c.args.parts.now, c.in_default.ensures.many)) e)
@@ -231,14 +231,14 @@ open_sides-returns-clause-terms g t c lists e =
 
 pub open_parts-returns-in-Some-any_parts-clause-nest : goal.open_parts-returns-in-Some-any_parts-clause-nest
 open_parts-returns-in-Some-any_parts-clause-nest g t c lists joint e =
-    terms_nest c.args.index.now c.args.form (sides_on c.in_ok-all_tops.all_tops.items c.in_ok-all_tops.all_nodes.items) (shape_of c.any_of-node.result.1) lists _ _ _ c.in-Some-any_parts.ensures.form (c.in_ok-all_tops.ensures.terms lists (sym c.in-Some-any_parts.ensures.terms ∙ e)) c.any_of-node.ensures.stays c.any_of-node.ensures.leads
+    terms_nest c.args.index.now c.args.form (sides_on c.in_ok-all_tops.all_tops.items c.in_ok-all_tops.all_nodes.items) (shape_of c.any_of-node.result.1) lists _ _ _ c.in-Some-any_parts.ensures.form (c.in_ok-all_tops.ensures.terms lists (sym c.in-Some-any_parts.ensures.terms ∙ e)) c.any_of-node.ensures.accounts
 
 pub open_parts-returns-in-Some-any_parts-clause-led : goal.open_parts-returns-in-Some-any_parts-clause-led
 open_parts-returns-in-Some-any_parts-clause-led g t c lists can e = absurd (or_leads_not c.args.form lists c.in-Some-any_parts.ensures.form can)
 
 pub open_parts-returns-in-Some-any_parts-clause-follows : goal.open_parts-returns-in-Some-any_parts-clause-follows
 open_parts-returns-in-Some-any_parts-clause-follows g t c lists so e =
-    terms_follow c.args.index.now (queries_view c.args.parts.now) (sides_on c.in_ok-all_tops.all_tops.items c.in_ok-all_tops.all_nodes.items) (shape_of c.any_of-node.result.1) lists _ _ _ c.in-Some-any_parts.ensures.many e (c.in_ok-all_tops.ensures.terms lists (sym c.in-Some-any_parts.ensures.terms ∙ e)) c.any_of-node.ensures.leads
+    terms_follow c.args.index.now (queries_view c.args.parts.now) (sides_on c.in_ok-all_tops.all_tops.items c.in_ok-all_tops.all_nodes.items) (shape_of c.any_of-node.result.1) lists _ _ _ c.in-Some-any_parts.ensures.many e (c.in_ok-all_tops.ensures.terms lists (sym c.in-Some-any_parts.ensures.terms ∙ e)) c.any_of-node.ensures.accounts
 
 pub open_parts-returns-in-Some-any_parts-clause-begun : goal.open_parts-returns-in-Some-any_parts-clause-begun
 open_parts-returns-in-Some-any_parts-clause-begun g t c term e = let many = c.in-Some-any_parts.ensures.many in absurd (many_not_one (queries_view c.args.parts.now) term (omega (arith, many)) e)

@@ -5,12 +5,11 @@ use Rattle.sk_nodes.specs.Shapes.{Shape, shape_of}
 use Rattle.sk_nodes.specs.Left.{rest, from_on}
 use Rattle.sk_nodes.proofs.NodeLaws.{shape_of-Nothing, covers_gone}
 use Rattle.sk_nodes.proofs.TreeLaws.{weighed_ids-none, left_exact}
-use Rattle.sk_nodes.specs.Flat.{Stays}
 use Rattle.sk_nodes.proofs.StopLaws.{stops_closed, stops_sought}
 use Rattle.std.proofs.Common.{arith, inl, inr}
 use Rattle.sk_nodes.specs.declared.top.Top.{Top}
 use Rattle.sk_nodes.proofs.RareLaws.{rare_closed}
-use Rattle.sk_nodes.specs.Fading.{FadesUnder}
+use Rattle.sk_nodes.specs.Moved.{ReachAccounts, with_lead}
 use Rattle.sk_nodes.proofs.FadingLaws.{fades_closed}
 use Rattle.sk_nodes.proofs.tree.Tree.seek.Goals as goal
 
@@ -28,7 +27,7 @@ returns-clause-exact g c none =
     let i = c.args.index.now in
     left_exact i c.args.target (shape_of c.args.self.now.node) (shape_of c.reach.new.node) c.requires.tree.documents
     (subst (λ n. Covers (from_on c.args.target (rest i (shape_of c.args.self.now.node))) (rest i (shape_of c.reach.new.node)) n) none
-    (subst (λ n. Covers (from_on n (rest i (shape_of c.args.self.now.node))) (rest i (shape_of c.reach.new.node)) c.args.need) c.from.ensures c.reach.ensures.lands.covers))
+    (subst (λ n. Covers (from_on n (rest i (shape_of c.args.self.now.node))) (rest i (shape_of c.reach.new.node)) c.args.need) c.from.ensures c.reach.ensures.sought.lands.covers))
 
 pub returns-then-self-need-clause-stops : goal.returns-then-self-need-clause-stops
 returns-then-self-need-clause-stops g c point most stops may =
@@ -40,7 +39,7 @@ returns-clause-stops g c point most stops may =
     let i = c.args.index.now in
     let done = stops_sought i (shape_of c.args.self.now.node) (shape_of c.reach.new.node) c.args.self.now.need c.args.need c.args.target point most c.args.self.now.spent c.reach.new.spent c.args.self.now.top.greatest
     c.requires.rising c.if-self-need.false c.ranges.target.fits
-    (subst (λ n. Stays i n c.args.need c.args.self.now.spent c.reach.new.spent (shape_of c.args.self.now.node) (shape_of c.reach.new.node)) c.from.ensures c.reach.ensures.stays) stops.shape stops.account may in
+    (subst (λ n. ReachAccounts i n c.args.need c.args.self.now.spent c.reach.new.spent (shape_of c.args.self.now.node) (shape_of c.reach.new.node) c.args.self.now.top c.reach.new.top) c.from.ensures c.reach.ensures.accounts).all stops.shape stops.account may in
     record { shape = done.0; account = done.1 }
 
 pub returns-then-self-need-clause-rare : goal.returns-then-self-need-clause-rare
@@ -50,8 +49,9 @@ returns-then-self-need-clause-rare g c most rare =
 
 pub returns-clause-rare : goal.returns-clause-rare
 returns-clause-rare g c most rare =
-    let paid = c.reach.ensures.leads.led_paid rare.led in
-    record { led = c.reach.ensures.leads.led rare.led; at = c.reach.ensures.at rare.led rare.at; account = omega (arith, paid, rare.account) }
+    let keeps = c.reach.ensures.accounts.all.keeps with_lead in
+    let paid = keeps.paid rare.led tt in
+    record { led = keeps.kind rare.led; at = c.reach.ensures.accounts.at rare.led rare.at; account = omega (arith, paid, rare.account) }
 
 pub returns-then-self-need-clause-decays : goal.returns-then-self-need-clause-decays
 returns-then-self-need-clause-decays g c point greatest most decays may =
@@ -62,5 +62,5 @@ pub returns-clause-decays : goal.returns-clause-decays
 returns-clause-decays g c point greatest most decays (inl high) = absurd (omega (arith, c.if-self-need.false, high))
 returns-clause-decays g c point greatest most decays (inr may) =
     let i = c.args.index.now in
-    let to = (subst (λ n. FadesUnder i n c.args.need c.args.self.now.spent c.reach.new.spent (shape_of c.args.self.now.node) (shape_of c.reach.new.node)) c.from.ensures c.reach.ensures.fades) point greatest decays.first decays.fading may in
+    let to = (subst (λ n. ReachAccounts i n c.args.need c.args.self.now.spent c.reach.new.spent (shape_of c.args.self.now.node) (shape_of c.reach.new.node) c.args.self.now.top c.reach.new.top) c.from.ensures c.reach.ensures.accounts).fades point greatest decays.first decays.fading may in
     record { first = to.0; fading = to.1.0; account = omega (arith, to.1.1, decays.account) }
