@@ -1,4 +1,4 @@
--- Documents of records, computed. (A text's words come from tables of characters, so rows with texts are in sk_rows and in stored runs.)
+-- Documents of records, computed. (A text's words come from tables of characters, so rows with texts are in try_rows and in stored runs.)
 use Rattle.std.proofs.Common.{◌≡◌, ℕ, List, [], ◌∷◌, codes, map, refl}
 use Rattle.sk_base.specs.declared.doc_entry.DocTerm.{DocTerm}
 use Rattle.sk_base.specs.declared.doc_entry.SlotValue.{SlotValue}
