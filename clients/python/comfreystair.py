@@ -29,7 +29,6 @@ import select
 import signal
 import subprocess
 import threading
-import time
 import unicodedata
 import weakref
 from collections import deque
@@ -62,7 +61,6 @@ __all__ = [
     "RefusedLines",
     "Reply",
 ]
-__version__ = "0.1.0"
 
 Values = Mapping[str, Any]
 Tree = Mapping[str, Any]
@@ -324,13 +322,12 @@ class Reply:
 class _Pipes:
     """A process whose input and output are moved together, so that neither side ever waits for the other.
 
-    Lines are put into `out`; `pump` moves bytes both ways and gives each whole line of output to `answer`.
+    Lines are put into `out`; `pump` moves bytes both ways, and gives each whole line of the output on.
     """
 
-    def __init__(self, path: str, timeout: Optional[float], answer: Callable[[bytes], None]) -> None:
+    def __init__(self, path: str, timeout: Optional[float]) -> None:
         self.path = path
         self.timeout = timeout
-        self.answer = answer
         self.out = bytearray()
         self.rest = bytearray()  # Of the output: what is no whole line yet.
         self.said = b""  # Of standard error: the last bytes.
@@ -359,7 +356,7 @@ class _Pipes:
         self.is_writing = False
         self.is_saying = True
 
-    def pump(self, is_done: Callable[[], bool]) -> None:
+    def pump(self, is_done: Callable[[], bool], answer: Callable[[bytes], None]) -> None:
         """Moves bytes until this is so. Raises _Stopped where it can never be."""
         while not is_done():
             if self.has_ended:
@@ -373,7 +370,7 @@ class _Pipes:
                 if stream == self.input:
                     self._write()
                 elif stream == self.output:
-                    self._read()
+                    self._read(answer)
                 else:
                     self._listen()
 
@@ -406,7 +403,7 @@ class _Pipes:
         if self.process.stdin is not None:
             self.process.stdin.close()
 
-    def _read(self) -> None:
+    def _read(self, answer: Callable[[bytes], None]) -> None:
         try:
             piece = os.read(self.output, _PIECE)
         except BlockingIOError:
@@ -426,7 +423,7 @@ class _Pipes:
         lines[0] = bytes(self.rest) + lines[0]
         self.rest = bytearray(lines.pop())
         for line in lines:
-            self.answer(line)
+            answer(line)
 
     def _listen(self) -> None:
         try:
@@ -442,11 +439,10 @@ class _Pipes:
 
     def end(self, seconds: float) -> int:
         """The status with which it ends, or is ended once so many seconds have gone."""
-        until = time.monotonic() + seconds
         if self.process.stdin is not None and not self.process.stdin.closed:
             self._close_input()
         try:
-            status = self.process.wait(max(0.0, until - time.monotonic()))
+            status = self.process.wait(seconds)
         except subprocess.TimeoutExpired:
             self.process.kill()
             status = self.process.wait()
@@ -518,7 +514,7 @@ class Index:
         self._page: Optional[Found] = None  # A find's answer whose hits still come.
         self._hits = 0
         self._fault: Optional[Fault] = None
-        self._pipes = _Pipes(self.path, timeout, self._take)
+        self._pipes = _Pipes(self.path, timeout)
         self._end = weakref.finalize(self, _kill, self._pipes.process)
         try:
             self._send(line, Reply(self, "ok schema"))._wait()
@@ -730,7 +726,7 @@ class Index:
 
     def _pump(self, is_done: Callable[[], bool]) -> None:
         try:
-            self._pipes.pump(is_done)
+            self._pipes.pump(is_done, self._take)
         except _Stopped as stopped:
             raise self._fail(str(stopped)) from None
 
@@ -896,7 +892,8 @@ class Index:
 
         boosts: by the names of text fields what their words weigh, 1 where it is not said; fields of one prefix weigh
             what the first of them does.
-        near: 0 looks at no places, which is quicker for texts of many common words.
+        near: 0 looks at no places, which is quicker where words are common. Of more than ten words none are looked at,
+            and in a text of hundreds the fields under a prefix are left out.
         """
         tree = self.show(text, op=op)
         boosted: Dict[str, float] = {}
@@ -905,7 +902,7 @@ class Index:
                 boost = 1.0 if boosts is None else float(boosts.get(field["name"], 1.0))
                 boosted.setdefault(field.get("prefix", ""), boost)
         leaves = list(_wanted(tree))
-        if len(leaves) * len(boosted) > _MOST_LEAVES // 2:
+        if sum(map(_size, leaves)) * len(boosted) > _MOST_LEAVES - _MOST_NEAR * _MOST_NEAR:
             boosted = {"": boosted.get("", 1.0)}
         words = list(dict.fromkeys(leaf["term"] for leaf in leaves if "term" in leaf and not _is_prefixed(leaf)))
         places = "" if "" in boosted or not boosted else next(iter(boosted))
@@ -962,6 +959,12 @@ def _is_prefixed(leaf: Tree) -> bool:
     (value,) = leaf.values()
     first: str = value if isinstance(value, str) else value[1]
     return "A" <= first[0] <= "Z"
+
+
+def _size(leaf: Tree) -> int:
+    """How many leaves of a query a leaf counts for: each word of near and phrase is one."""
+    (value,) = leaf.values()
+    return 1 if isinstance(value, str) else len(value) - 1
 
 
 def _wanted(tree: Tree) -> Iterator[Tree]:
