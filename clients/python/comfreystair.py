@@ -309,9 +309,11 @@ class Reply:
 
     def _wait(self) -> Any:
         index = self._index
-        if not self.is_answered and index is not None:
+        if index is not None and not self.is_answered:
             index._wait_for(self)
         if self._error is not None:
+            if index is not None:
+                index._forget(self._error)
             raise self._error
         return self._value
 
@@ -769,6 +771,13 @@ class Index:
         elif count:
             raise RefusedLines(count, refusals)
 
+    def _forget(self, error: Error) -> None:
+        """A refusal that its reply tells need not be told again."""
+        with self._lock:
+            kept = [refused for refused in self._refusals if refused is not error]
+            self._refused -= len(self._refusals) - len(kept)
+            self._refusals = kept
+
     # Answers.
 
     def _take(self, line: bytes) -> None:
@@ -820,13 +829,14 @@ class Index:
         """The answer of the first line that waits is whole."""
         reply = self._waiting.popleft()
         reply._value, reply._error = value, error
-        reply._index = None
-        self._answered += 1
-        if reply._kept and error is not None:
-            self._refused += 1
-            if self._on_refused is not None or len(self._refusals) < _MOST_KEPT:
-                self._refusals.append(error)
         reply._document = None
+        self._answered += 1
+        if error is None or not reply._kept:
+            reply._index = None
+            return
+        self._refused += 1
+        if self._on_refused is not None or len(self._refusals) < _MOST_KEPT:
+            self._refusals.append(error)
 
     def _refusal(self, text: str, reply: Reply) -> Refused:
         words = text.split(" ")
@@ -856,7 +866,8 @@ class Index:
             if kind == "number":
                 is_whole = isinstance(value, int) and not isinstance(value, bool)
                 if not is_whole or not 0 <= value < 1 << 64:
-                    return f"{name} is a number field and takes a whole number from 0 to 2^64 - 1, not {_short(value, 60)}"
+                    wanted = "a whole number from 0 to 2^64 - 1"
+                    return f"{name} is a number field and takes {wanted}, not {_short(value, 60)}"
         return ""
 
     # Ranking by how rare words are.
@@ -991,7 +1002,7 @@ def _variants(leaf: Tree, prefixes: Iterable[str]) -> List[Tuple[Tuple[str, str]
 
 
 def _rebuilt(tree: Tree, wanted: Callable[[Tree], Tree], other: Callable[[Tree], Tree]) -> Dict[str, Any]:
-    """The query of a text with its leaves changed: those that are wanted, and those that take away. What filters stays."""
+    """The query of a text with its leaves changed: those wanted, and those that take away. What filters stays."""
     ((form, value),) = tree.items()
     if form in _LEAVES:
         return dict(wanted(tree))
