@@ -13,7 +13,8 @@ import time
 
 MOST_LINE = 1_048_576
 SCHEMA = [
-    {"name": "title", "kind": "text", "step": 256},
+    {"name": "title", "kind": "text", "prefix": "S", "step": 256},
+    {"name": "any_title", "kind": "text", "step": 256},
     {"name": "body", "kind": "text"},
     {"name": "path", "kind": "filter", "prefix": "P"},
     {"name": "suffix", "kind": "filter", "prefix": "E"},
@@ -54,8 +55,10 @@ def document(folder, path):
     # A name that is no UTF-8 is written with question marks.
     name = os.path.relpath(path, folder).encode("utf-8", "replace").decode()
     title = next((row.strip("#=*- \t\r") for row in text.split("\n") if row.strip("#=*- \t\r")), name)[:200]
+    words = f"{title} {os.path.splitext(os.path.basename(name))[0]}"
     values = {
-        "title": f"{title} {os.path.splitext(os.path.basename(name))[0]}",
+        "title": words,
+        "any_title": words,
         "body": text,
         "path": name,
         "suffix": os.path.splitext(name)[1].lstrip("."),

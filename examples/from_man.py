@@ -15,15 +15,16 @@ import zlib
 
 MOST_LINE = 1_048_576
 SCHEMA = [
-    {"name": "title", "kind": "text", "step": 256},
+    {"name": "title", "kind": "text", "prefix": "S", "step": 256},
+    {"name": "any_title", "kind": "text", "step": 256},
     {"name": "body", "kind": "text"},
     {"name": "name", "kind": "filter", "prefix": "N"},
-    {"name": "section", "kind": "filter", "prefix": "S"},
+    {"name": "section", "kind": "filter", "prefix": "C"},
 ]
 # Requests whose words are no text, and names that mdoc has inside a row.
 SILENT = re.compile(
-    r"[.'][ \t]*(\\\"|(ad|als|am|bp|br|ce|de|ds|el|fam|fi|ft|hw|hy|ie|if|in|ig|it|ll|mso|na|ne|nf|nh|nr|ns|pl|ps|rm|rr|so"
-    r"|sp|ta|ti|tr|warn|TH|PP|LP|P|RS|RE|PD|UE|Dd|Os|Dt|Pp|Bl|El|Bd|Ed|TS|TE)\b)"
+    r"[.'][ \t]*(\\\"|(ad|als|am|bp|br|ce|de|ds|el|fam|fi|ft|hw|hy|ie|if|in|ig|it|ll|mso|na|ne|nf|nh|nr|ns|pl|ps|rm|rr"
+    r"|so|sp|ta|ti|tr|warn|TH|PP|LP|P|RS|RE|PD|UE|Dd|Os|Dt|Pp|Bl|El|Bd|Ed|TS|TE)\b)"
 )
 INSIDE = re.compile(
     r"\b(Ac|Ao|Ar|Bc|Bo|Bq|Brq|Cm|Dq|Em|Ev|Fa|Fl|Fn|Ft|Ic|Li|Nm|No|Ns|Oc|Oo|Op|Pa|Pc|Po|Pq|Ql|Qq|Sq|Sy|Ta|Va|Vt|Xr)\b ?"
@@ -33,8 +34,8 @@ ESCAPE = re.compile(
     r"|[hvwoLlZXD]'[^']*'|(.))"
 )
 NAMED = {
-    "aq": "'", "dq": '"', "cq": "'", "oq": "'", "lq": '"', "rq": '"', "em": "-", "en": "-", "hy": "-", "mi": "-", "rs": "\\",
-    "ti": "~", "ha": "^", "ga": "`", "co": "(C)", "rg": "(R)", "tm": "(TM)",
+    "aq": "'", "dq": '"', "cq": "'", "oq": "'", "lq": '"', "rq": '"', "em": "-", "en": "-", "hy": "-", "mi": "-",
+    "rs": "\\", "ti": "~", "ha": "^", "ga": "`", "co": "(C)", "rg": "(R)", "tm": "(TM)",
 }
 SIGNS = {"-": "-", "e": "\\", "\\": "\\", "'": "'", "`": "`", " ": " ", "~": " ", "0": " ", "t": "\t"}
 
@@ -85,7 +86,7 @@ def document(path):
     heading = title(text, name)
     about = re.sub(r"^.*?\s-+\s", "", heading)
     data = f"{name}({section})\n{about}"
-    values = {"title": heading, "body": plain(text), "name": name, "section": section}
+    values = {"title": heading, "any_title": heading, "body": plain(text), "name": name, "section": section}
     while True:
         told = json.dumps({"add": values, "data": data}, ensure_ascii=False, separators=(",", ":"))
         told = told.encode("utf-8", "replace")

@@ -84,13 +84,10 @@ class Corpus:
 
     def find(self, asked):
         """What is found, and in how many seconds."""
-        query = {"all": []} if asked.everything else asked.text
         options = {"first": asked.first, "size": SIZE}
-        if not asked.everything:
-            options["op"] = asked.op
         if asked.exact:
             options["check"] = comfreystair.EVERY
-        if asked.order:
+        if asked.order[:1] in ("+", "-"):
             options |= {"by": asked.order[1:], "reverse": asked.order[0] == "-"}
         if asked.one:
             options["collapse"] = asked.one
@@ -99,7 +96,13 @@ class Corpus:
                 self.index = self.load()
             begin = time.monotonic()
             try:
-                return self.index.find(query, **options), time.monotonic() - begin
+                if asked.everything:
+                    found = self.index.find({"all": []}, **options)
+                elif asked.order:
+                    found = self.index.find(asked.text, op=asked.op, **options)
+                else:
+                    found = self.index.find_by_idf(asked.text, op=asked.op, **options)
+                return found, time.monotonic() - begin
             except comfreystair.Fault:
                 self.index = None
                 raise
@@ -131,7 +134,7 @@ class Asked:
             text=told.get("q", ""),
             everything=told.get("all") == "1" and not told.get("q"),
             op="or" if told.get("op") == "or" else "and",
-            order=order if order[:1] in ("+", "-") and order[1:] in valued else "",
+            order=order if order == "counted" or order[:1] in ("+", "-") and order[1:] in valued else "",
             one=one if one in valued else "",
             page=min(max(int(page), 1), LAST_PAGE) if re.fullmatch("[0-9]{1,9}", page, re.ASCII) else 1,
             exact=told.get("exact") == "1",
@@ -160,7 +163,7 @@ def choice(name, label, rows, chosen):
 
 def box(asked, fields):
     """The form: a text, and how it is asked."""
-    orders, ones = [("", "best first")], [("", "all hits")]
+    orders, ones = [("", "best first"), ("counted", "best first, words counted")], [("", "all hits")]
     for field in fields:
         name = field["name"]
         if field["kind"] == "number":
@@ -170,8 +173,8 @@ def box(asked, fields):
         if field["kind"] in ("number", "word"):
             ones.append((name, f"one hit per {name}"))
     choices = choice("op", "Match", [("and", "all words"), ("or", "any word")], asked.op)
-    if len(ones) > 1:
-        choices += choice("order", "Order", orders, asked.order) + choice("one", "Show", ones, asked.one)
+    choices += choice("order", "Order", orders, asked.order)
+    choices += choice("one", "Show", ones, asked.one) if len(ones) > 1 else ""
     hidden = '<input type="hidden" name="all" value="1">' if asked.everything else ""
     start = "" if asked.text or asked.everything else " autofocus"
     return f"""<form role="search" action="/" method="get">
@@ -244,10 +247,11 @@ def refusal(text, refused):
     at = refused.byte if refused.byte is not None else 0
     before, behind = raw[:at].decode(errors="replace"), raw[at:].decode(errors="replace")
     token = re.match(r"[()]|[^\s()]+|", behind)[0]
+    told = f"refused {refused.number} {refused.name} {refused.kind or ''} at byte {at}"
     return f"""<section class="refused" role="alert"><h2>This is no query</h2>
 <p class="asked"><code>{shown(before)}<mark>{shown(token) or "&nbsp;"}</mark>{shown(behind[len(token):])}</code></p>
 <p>{shown(REASONS.get(refused.kind, "The program refuses it."))}</p>
-<p class="facts">refused {refused.number} {shown(refused.name)} {shown(refused.kind or "")} at byte {at}</p></section>"""
+<p class="facts">{shown(told)}</p></section>"""
 
 
 def help_of(fields):
@@ -375,7 +379,7 @@ def main():
     parser.add_argument("corpus", help="a file of lines that a recipe of examples/ wrote")
     parser.add_argument("--port", type=int, default=8000, help="8000 where it is not said, 0 for a free one")
     tool = os.environ.get("SK_TOOL") or os.path.join(TOP, "crates", "sk_tool", "out", "sk_tool")
-    parser.add_argument("--tool", default=tool, help="the program, else the one that $SK_TOOL names, else the repository's")
+    parser.add_argument("--tool", default=tool, help="the program; else $SK_TOOL, else the repository's own")
     words = parser.parse_args()
     try:
         Handler.corpus = Corpus(words.tool, words.corpus)

@@ -124,10 +124,10 @@ def try_finds(driver, page):
     assert driver.title == "budget 2024 - letters", driver.title
 
     Select(driver.find_element(By.NAME, "op")).select_by_value("or")
-    ask(driver, "budget the owl")
+    ask(driver, "budget the owl salad")
     assert text(driver, ".counts").startswith("Hits 1 to 10 of "), text(driver, ".counts")
     click(driver, "a[rel=next]")
-    assert text(driver, ".counts").startswith("Hit 11 of exactly 11"), text(driver, ".counts")
+    assert text(driver, ".counts").startswith("Hits 11 to 12 of exactly 12"), text(driver, ".counts")
     assert driver.find_element(By.CSS_SELECTOR, ".hits li").get_attribute("value") == "11"
     click(driver, "a[rel=prev]")
     assert text(driver, ".counts").startswith("Hits 1 to 10 of "), text(driver, ".counts")
