@@ -60,11 +60,14 @@ class Served:
         return told
 
 
-def browser(width=1100, height=1000, dark=False):
+def browser(width=1100, height=1000, dark=False, phone=False):
     options = webdriver.ChromeOptions()
     for word in ("--headless=new", "--no-sandbox", "--disable-gpu", "--disable-dev-shm-usage", "--hide-scrollbars",
                  f"--window-size={width},{height}"):
         options.add_argument(word)
+    if phone:
+        sizes = {"width": 360, "height": 740, "pixelRatio": 1.5, "touch": False}
+        options.add_experimental_option("mobileEmulation", {"deviceMetrics": sizes})
     if dark:
         options.add_argument("--blink-settings=preferredColorScheme=0")
     options.add_experimental_option("prefs", {"profile.managed_default_content_settings.javascript": 2})
@@ -198,14 +201,14 @@ def try_bytes(page):
 
 def try_narrow(page):
     """On a narrow screen nothing is cut off at the side."""
-    driver = browser(width=500, height=900)
+    driver = browser(phone=True)
     try:
-        driver.set_window_size(500, 900)
-        driver.get(page.address(q="a" * 300))
-        body = driver.find_element(By.TAG_NAME, "body").rect
-        wide = [found.tag_name for found in driver.find_elements(By.CSS_SELECTOR, "body *")
-                if found.is_displayed() and found.rect["x"] + found.rect["width"] > body["x"] + body["width"] + 1]
-        assert not wide, wide
+        for asked in ({"q": "a" * 300}, {"q": "budget", "one": "thread"}, {"q": "(" + "a" * 300}, {"all": "1"}):
+            driver.get(page.address(**asked))
+            assert driver.find_element(By.TAG_NAME, "html").rect["width"] == 360
+            wide = [found.tag_name for found in driver.find_elements(By.CSS_SELECTOR, "body *")
+                    if found.is_displayed() and found.rect["x"] + found.rect["width"] > 361]
+            assert not wide, wide
     finally:
         driver.quit()
 
@@ -241,7 +244,7 @@ def main():
         print("try_bytes: ok")
         if words.pictures:
             budget = page.address(q="budget", order="-date", one="thread")
-            take(words.pictures, "narrow.png", budget, width=500, height=900, dark=True)
+            take(words.pictures, "narrow.png", budget, dark=True, phone=True)
             take(words.pictures, "refused.png", page.address(q="(owl OR pump) AND -date:2024..x"), height=620)
     if words.pictures and words.corpus:
         with Served(words.corpus, words.tool) as page:
