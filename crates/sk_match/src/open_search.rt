@@ -182,6 +182,8 @@ impl Search {
         // At all times it is within the bound on the steps of the find.
         ensures within { (i : Indexed) (find : Find) (query : QueryTree.Tree) (hits : ℕ) → Stands self.now i find query → result ≤ sharp query find i.live.documents hits }
     {
-        self.tree.spent().saturating_add(u128::from(self.page.read()))
+        self.tree
+            .spent()
+            .saturating_add(u128::from(self.page.read()))
     }
 }
