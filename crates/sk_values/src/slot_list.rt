@@ -15,7 +15,8 @@ use std::fmt::{Debug, Error, Formatter, Write};
 use std::marker::Model;
 use std::sync::ledger::Ledger;
 
-/// The documents that have a value in one slot, with their values, in pieces of up to 128. Only `get` and `entry` show a value.
+/// The documents that have a value in one slot, with their values, in pieces of up to 128. Only `get` and `entry` show
+/// a value.
 #[derive(Drop)]
 pub struct SlotList {
     entries: Pieces<Bytes>,
