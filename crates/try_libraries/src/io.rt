@@ -259,7 +259,11 @@ fn to_finish_flushes(rt: HostRuntime) -> Result<(), Fail> {
         }
         drop(sink);
         assert_eq!(rt; last, wanted, "{calls} calls, {refusals} refused");
-        assert_eq!(rt; place.as_slice(), moved.as_bytes(), "{calls} calls, {refusals} refused");
+        assert_eq!(rt;
+            place.as_slice(),
+            moved.as_bytes(),
+            "{calls} calls, {refusals} refused"
+        );
     }
     Ok(())
 }
