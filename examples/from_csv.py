@@ -108,8 +108,11 @@ def main():
     if len(told) < len(sys.argv) - 2 or any(kind not in KINDS for kind in told.values()):
         sys.exit(__doc__)
     csv.field_size_limit(2**31 - 1)
-    with open(sys.argv[1], "rb") as file:
-        text = decoded(file.read())
+    try:
+        with open(sys.argv[1], "rb") as file:
+            text = decoded(file.read())
+    except OSError as cause:
+        sys.exit(f"{sys.argv[1]}: {cause.strerror}")
     first = text.split("\n", 1)[0]
     rows = list(csv.reader(io.StringIO(text, newline=""), delimiter=max(",;\t|", key=first.count)))
     if not rows:

@@ -6,6 +6,7 @@ python3 examples/from_mbox.py FILE.mbox [FILE.mbox ..] > letters.jsonl
 The subject can be asked by its name (subject:budget) and by plain words, so it is given twice. The date is a number of
 fourteen digits in UTC (20241204154500), the thread the id of the message that began it. Texts are read by what the
 message says of them; one that says nothing, or what is not true, as UTF-8, and else as Latin-1."""
+import email
 import email.header
 import email.utils
 import json
@@ -115,8 +116,9 @@ def main():
     for path in sys.argv[1:]:
         if not os.path.isfile(path):
             sys.exit(f"{path}: no file")
-        for message in mailbox.mbox(path, create=False):
-            out.write(document(message, threads) + b"\n")
+        box = mailbox.mbox(path, create=False)
+        for key in box.keys():
+            out.write(document(email.message_from_bytes(box.get_bytes(key)), threads) + b"\n")
 
 
 if __name__ == "__main__":

@@ -1,5 +1,5 @@
 //! A chunk of a posting list: few entries in order of their ids, with the last id and the greatest wdf kept.
-ghost use Rattle.std.specs.Prelude.{◌≡◌, ◌≤◌, ◌<◌, ◌+◌, ◌⊎◌, [], ◌∷◌, ◌++◌, length, take, drop, true, unwrap_or, slice_index_or, IfOk, IsOk, OnOk, OnErr};
+ghost use Rattle.std.specs.Prelude.{◌≡◌, ◌≤◌, ◌<◌, ◌+◌, ◌⊎◌, [], ◌∷◌, ◌++◌, length, take, drop, true, false, unwrap_or, slice_index_or, IfOk, IsOk, OnOk, OnErr};
 ghost use Rattle.sk_sorted.specs.Entries.{AreSorted, RiseAbove, put, without, has, first_id, top_id, ids_of};
 ghost use Rattle.sk_chunks.specs.Postings.{greatest_wdf};
 
@@ -192,21 +192,60 @@ impl Chunk {
         Ok(rest)
     }
 
-    /// Takes the entries of the next chunk, which are behind its own.
-    pub fn join(&mut self, next: &mut Chunk) -> Result<(), AllocError>
+    /// Gives the document, which has no entry, this wdf, and gives away what then stands behind the first `at` entries.
+    pub fn insert_and_split(&mut self, id: u32, wdf: u32, at: u32) -> Result<Chunk, AllocError>
+        requires id { 1 ≤ id }
+        requires new { has id self.old ≡ false }
+        requires at { (1 ≤ at) × (at ≤ length self.old) }
+        ensures ok { OnOk result (self.new ≡ take at (put id wdf self.old)) }
+        ensures rest { IfOk result (λ rest. rest ≡ drop at (put id wdf self.old)) }
+        ensures err { OnErr result (self.new ≡ self.old) }
+    {
+        let place = match place_of(self.entries.as_slice(), self.last, id) {
+            Ok(_) => unreachable!(),
+            Err(place) => place,
+        };
+        let most = self.greatest.max(wdf);
+        self.entries.insert(place, Entry::new(id, wdf))?;
+        let entries = match self.entries.split_off(at as usize) {
+            Ok(entries) => entries,
+            Err(error) => {
+                self.entries.remove(place);
+                return Err(error);
+            }
+        };
+        let rest = Chunk {
+            last: last_of(entries.as_slice()),
+            greatest: greatest_of(entries.as_slice(), most),
+            entries,
+        };
+        self.last = last_of(self.entries.as_slice());
+        self.greatest = greatest_of(self.entries.as_slice(), most);
+        Ok(rest)
+    }
+
+    /// Takes the entries of the next chunk, which are behind its own, where it has room for them, and answers whether it
+    /// did. It takes no memory.
+    pub fn join(&mut self, next: &mut Chunk) -> bool
         requires rise { RiseAbove (top_id 0 self.old) next.old }
         requires few { length self.old + length next.old ≤ 128 }
-        ensures ok { OnOk result (self.new ≡ self.old ++ next.old) }
-        ensures emptied { OnOk result (next.new ≡ []) }
-        ensures err { OnErr result (self.new ≡ self.old) }
-        ensures rest { OnErr result (next.new ≡ next.old) }
+        ensures joined { result ≡ true → self.new ≡ self.old ++ next.old }
+        ensures emptied { result ≡ true → next.new ≡ [] }
+        ensures same { result ≡ false → self.new ≡ self.old }
+        ensures rest { result ≡ false → next.new ≡ next.old }
     {
-        self.entries.append(&mut next.entries)?;
+        if self.entries.capacity() - self.entries.len() < next.entries.len() {
+            return false;
+        }
+        match self.entries.append(&mut next.entries) {
+            Ok(()) => {}
+            Err(_) => unreachable!(),
+        }
         self.last = self.last.max(next.last);
         self.greatest = self.greatest.max(next.greatest);
         next.last = 0;
         next.greatest = 0;
-        Ok(())
+        true
     }
 
     /// Puts the ids of all entries behind those, for one who changes the list. It is no reading: a shared reference

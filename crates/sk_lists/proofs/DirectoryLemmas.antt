@@ -1,16 +1,17 @@
 -- What an edit of one chunk is to all of them.
-use Rattle.std.proofs.Common.{◌≡◌, ℕ, zero, suc, ◌+◌, ◌<◌, ◌≤◌, ◌^◌, max, List, [], ◌∷◌, ◌++◌, length, take, drop, get_or, set, true, false, is_some, Option, Some, None, refl, sym, ap, subst, ◌∙◌, arith}
+use Rattle.std.proofs.Common.{◌≡◌, ℕ, zero, suc, ◌+◌, ◌<◌, ◌≤◌, ◌^◌, max, List, [], ◌∷◌, ◌++◌, length, take, drop, get_or, set, false, is_some, Option, Some, None, refl, sym, ap, subst, ◌∙◌, arith}
 use mathlib.Core.Bool.{true≢false}
 use Rattle.std.specs.List.{insert, remove}
 use Rattle.std.proofs.lemmas.Bool.Decides.{nat_tests}
-use Rattle.std.proofs.lemmas.List.{length-append, length-take, length-drop, set-get_or, get_or_default, get_or-set_same, append_assoc, take_more, map-append}
+use Rattle.std.proofs.lemmas.List.{length-append, set-get_or, get_or-set_same, append_assoc, take_more, map-append}
 use Rattle.sk_sorted.specs.Entries.{RiseAbove, LieBelow, put, without, has, found, ids_of, top_id}
 use Rattle.sk_sorted.proofs.EntryLaws.{LieBelow-put, length_fits, put-last, without-absent}
-use Rattle.sk_sorted.specs.Runs.{flat, RunsRise, AreRuns, FitsAt}
-use Rattle.sk_sorted.proofs.RunLaws.{put_in_run, without_in_run, found_in_run, rise_cut, flat-cut, flat-join, fits-cut, fits-behind, cut-first, cut-second, cut-length, before-removed, put-back, next-rises, all_below, flat-drop, flat-remove, flat-last, rise_last, AreRuns-sorted}
-use Rattle.sk_sorted.proofs.RunEditLaws.{length_set, AreRuns-put, AreRuns-without, AreRuns-gone, AreRuns-cut, AreRuns-join}
+use Rattle.sk_sorted.specs.Runs.{flat, AreRuns, FitsAt}
+use Rattle.sk_sorted.proofs.RunLaws.{put_in_run, without_in_run, found_in_run, flat-join, before-removed, put-back, next-rises, all_below, flat-drop, flat-remove, flat-last, rise_last, AreRuns-sorted}
+use Rattle.sk_sorted.proofs.RunEditLaws.{length_set, length-put_new, run_read, AreRuns-put, AreRuns-without, AreRuns-gone, AreRuns-join, split_view, split_sound, split_length, split_fits}
+use Rattle.sk_sorted.proofs.RunEditLaws.{has_run as run_has}
 use Rattle.sk_chunks.specs.Postings.{Postings, greatest_wdf}
-use Rattle.sk_chunks.proofs.GreatestLaws.{greatest-append}
+use Rattle.sk_chunks.proofs.GreatestLaws.{greatest-append, greatest-put_new}
 use Rattle.sk_lists.specs.Lists.{Runs, IsDirectory}
 
 -- ---- the place
@@ -43,61 +44,48 @@ greatest_set (r ∷ rs) (suc i) s lt = let more : greatest_wdf (flat (set rs i s
 same_entries : (rs new : Runs) (count most : ℕ) → IsDirectory rs count most → flat new ≡ flat rs → AreRuns new → IsDirectory new count most
 same_entries rs new count most old same are = record { sound = are; count_is = ap length same ∙ old.count_is; most_is = ap greatest_wdf same ∙ old.most_is }
 
--- ---- a full run is halved
+-- ---- a new entry goes into a full run, which is cut in two
 
-pub record Halved (id : ℕ) (rs new : Runs) (i : ℕ) : Type 0 where
-  pub same : flat new ≡ flat rs
-  pub within : i + 1 < length new
-  pub first : id ≤ top_id 0 (get_or new i []) → FitsAt id new i
-  pub second : top_id 0 (get_or new i []) < id → FitsAt id new (i + 1)
-  pub room : length (get_or new i []) < 128
-  pub room_behind : length (get_or new (i + 1) []) < 128
+module _ (id at wdf : ℕ) (items now reserved : Runs) (count most : ℕ) (view : items ≡ now) (old : IsDirectory items count most) (there : at < length now) (fits : FitsAt id now at) (was : Postings)
+    (same : reserved ≡ items) (read : was ≡ get_or reserved at was) (full : 32 ≤ length (get_or now at [])) (none : has id (get_or now at []) ≡ false) where
+  split_was : was ≡ get_or items at was
+  split_was = read ∙ ap (λ (s : Runs). get_or s at was) same
 
-pub halved_sound : (rs rs2 : Runs) (i : ℕ) (was now rest : Postings) (new : Runs) (count most : ℕ) → rs2 ≡ rs → i < length rs → was ≡ get_or rs2 i was → 32 ≤ length (get_or rs i [])
-    → now ≡ take 16 was → rest ≡ drop 16 was → new ≡ insert (set rs2 i now) (i + 1) rest → IsDirectory rs count most → IsDirectory new count most
-halved_sound rs rs2 i was now rest new count most same lt is full first second made old =
-    let whole : 32 ≤ length (get_or rs i was) = omega (arith, ap length (get_or-same rs i was [] lt), full) in
-    let here : was ≡ get_or rs i was = is ∙ ap (λ (s : Runs). get_or s i was) same in
-    let all : new ≡ insert (set rs i (take 16 (get_or rs i was))) (i + 1) (drop 16 (get_or rs i was))
-    = made ∙ (λ k. insert (set (same k) i ((first ∙ ap (take 16) here) k)) (i + 1) ((second ∙ ap (drop 16) here) k)) in
-    same_entries rs new count most old (ap flat all ∙ flat-cut rs i 16 was lt) (subst (λ (s : Runs). AreRuns s) (sym all) (AreRuns-cut rs i 16 was lt (omega arith) (omega (arith, whole)) old.sound))
-  where
-    get_or-same : (rs : Runs) (i : ℕ) (d e : Postings) → i < length rs → get_or rs i d ≡ get_or rs i e
-    get_or-same [] i d e lt = absurd (omega arith)
-    get_or-same (r ∷ rs) zero d e lt = refl
-    get_or-same (r ∷ rs) (suc i) d e lt = get_or-same rs i d e (omega arith)
+  split_here : was ≡ get_or now at []
+  split_here = run_read items now at was view split_was there
 
-pub halved : (id : ℕ) (rs new : Runs) (i : ℕ) → i < length rs → RunsRise 0 rs → FitsAt id rs i → 32 ≤ length (get_or rs i []) → length (get_or rs i []) ≤ 128
-    → new ≡ insert (set rs i (take 16 (get_or rs i []))) (i + 1) (drop 16 (get_or rs i [])) → Halved id rs new i
-halved id rs new i lt up fits full few made =
-    let run : Postings = get_or rs i [] in
-    let at : get_or new i [] ≡ take 16 run = ap (λ (s : Runs). get_or s i []) made ∙ cut-first rs i (take 16 run) (drop 16 run) [] lt in
-    let behind : get_or new (i + 1) [] ≡ drop 16 run = ap (λ (s : Runs). get_or s (i + 1) []) made ∙ cut-second rs i (take 16 run) (drop 16 run) [] lt in
-    let up2 = rise_cut 0 rs i 16 [] lt (omega arith) (omega (arith, full)) up in
-    record {
-      same = ap flat made ∙ flat-cut rs i 16 [] lt;
-      within = omega (arith, ap length made, cut-length rs i (take 16 run) (drop 16 run) lt);
-      first = λ le. subst (λ (s : Runs). FitsAt id s i) (sym made) (fits-cut id rs i 16 [] up2 fits (subst (λ (s : Postings). id ≤ top_id 0 s) at le));
-      second = λ above. subst (λ (s : Runs). FitsAt id s (i + 1)) (sym made) (fits-behind id rs i 16 [] fits (subst (λ (s : Postings). top_id 0 s < id) at above));
-      room = omega (arith, ap length at, length-take 16 run);
-      room_behind = omega (arith, ap length behind, length-drop 16 run, few);
+  pub split_new : has id was ≡ false
+  split_new = ap (has id) split_here ∙ none
+
+  pub split_full : 32 ≤ length was
+  split_full = omega (arith, ap length split_here, full)
+
+  split_none : None ≡ found id (flat now)
+  split_none = absent (found id (flat now)) (sym (run_has id at items now view old.sound there fits was split_was) ∙ split_new)
+    where
+      absent : (o : Option ℕ) → is_some o ≡ false → None ≡ o
+      absent None e = refl
+      absent (Some x) e = absurd (true≢false e)
+
+  split_less : 16 < length (put id wdf was)
+  split_less = omega (arith, length-put_new id wdf was split_new, split_full)
+
+  module _ (front rest : Postings) (split : Runs) (first : front ≡ take 16 (put id wdf was)) (second : rest ≡ drop 16 (put id wdf was)) (divided : split ≡ insert (set reserved at front) (at + 1) rest) where
+    split_divided : split ≡ insert (set items at front) (at + 1) rest
+    split_divided = divided ∙ ap (λ (s : Runs). insert (set s at front) (at + 1) rest) same
+
+    pub split_flat : flat split ≡ put id wdf (flat now)
+    split_flat = split_view id at items now view old.sound there fits was split_was wdf (put id wdf was) refl 16 front rest split (omega arith) split_less first second split_divided
+
+    pub split_count : 1 ≤ id → id < 2 ^ 32 → count + 1 < 2 ^ 32
+    split_count begun small = omega (arith, old.count_is, split_fits id at items now view old.sound there fits was split_was wdf (put id wdf was) refl 16 front rest split (omega arith) split_less first second split_divided split_new begun small)
+
+    pub split_directory : 1 ≤ id → id < 2 ^ 32 → (most2 : ℕ) → most2 ≡ max most wdf → IsDirectory split (count + 1) most2
+    split_directory begun small most2 greatest = record {
+      sound = split_sound id at items now view old.sound there fits was split_was wdf (put id wdf was) refl 16 front rest split (omega arith) split_less first second split_divided begun small;
+      count_is = omega (arith, old.count_is, split_length id at items now view old.sound there fits was split_was wdf (put id wdf was) refl 16 front rest split (omega arith) split_less first second split_divided split_new);
+      most_is = ap greatest_wdf split_flat ∙ greatest-put_new id wdf (flat now) split_none ∙ ap (λ n. max n wdf) (ap (λ (s : Runs). greatest_wdf (flat s)) (sym view) ∙ old.most_is) ∙ sym greatest;
     }
-
--- the same, of a run that was read and found full
-pub halved_full : (id at : ℕ) (items now mid new : Runs) (run : Postings) (count : ℕ) → items ≡ now → mid ≡ now → run ≡ get_or items at run → count ≡ length run → 32 ≤ count → length run ≤ 128
-    → at < length now → FitsAt id now at → RunsRise 0 items → new ≡ insert (set mid at (take 16 (get_or mid at []))) (at + 1) (drop 16 (get_or mid at [])) → Halved id now new at
-halved_full id at items now mid new run count view same is counted full few lt fits up made =
-    let here : length (get_or items at []) ≡ length run = ap length (sym (get_or_default items at run [] (subst (λ (s : Runs). at < length s) (sym view) lt)) ∙ sym is) in
-    let whole : mid ≡ now = same in
-    halved id now new at lt (subst (λ (s : Runs). RunsRise 0 s) view up) fits
-    (subst (λ (s : Runs). 32 ≤ length (get_or s at [])) view (omega (arith, here, counted, full)))
-    (subst (λ (s : Runs). length (get_or s at []) ≤ 128) view (omega (arith, here, few)))
-    (subst (λ (s : Runs). new ≡ insert (set s at (take 16 (get_or s at []))) (at + 1) (drop 16 (get_or s at []))) whole made)
-
--- the last id of a run that was read
-pub last_read : (items now : Runs) (at : ℕ) (run : Postings) (last : ℕ) → items ≡ now → run ≡ get_or items at run → last ≡ top_id 0 run → at < length now → last ≡ top_id 0 (get_or now at [])
-last_read items now at run last view is top lt =
-    top ∙ ap (top_id 0) (is ∙ get_or_default items at run [] (subst (λ (s : Runs). at < length s) (sym view) lt) ∙ ap (λ (s : Runs). get_or s at []) view)
 
 -- ---- thin runs are joined
 

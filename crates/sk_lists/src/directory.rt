@@ -17,8 +17,9 @@ use std::mem;
 pub(crate) const FULL: u32 = 32;
 
 const HALF: u32 = 16;
-/// Neighbours that have no more entries together become one behind a removal or a halving, so that a list of n entries
-/// has about n / 12 chunks at most.
+/// Neighbours that have no more entries together become one behind a removal or a halving, where the first has room for
+/// all: it has room for as many as it ever had, and each but the last for 16 at least, so a list of n entries has about
+/// n / 9 chunks at most.
 const THIN: u32 = 24;
 
 /// Chunks in order of their ids, none of them empty.
@@ -87,20 +88,19 @@ impl Directory {
     pub fn insert(&mut self, id: u32, wdf: u32) -> Result<(), AllocError>
         requires { 1 ≤ id }
         ensures ok { OnOk result (flat self.new ≡ put id wdf (flat self.old)) }
-        ensures err { OnErr result (flat self.new ≡ flat self.old) }
+        ensures err { OnErr result (self.new ≡ self.old) }
         ensures succeeds { has id (flat self.old) ≡ true → IsOk result }
     {
         let at = self.place(id);
         if at == self.chunks.len() {
             return self.append(id, wdf);
         }
-        let count = self.chunks.len();
-        let room = self.make_room(at, id)?;
-        self.put_in(room, id, wdf)?;
-        if self.chunks.len() > count {
-            self.join(at + 1);
-            self.join(at.saturating_sub(1));
+        if self.chunks[at].count() < FULL || self.has_in(at, id) {
+            return self.put_in(at, id, wdf);
         }
+        self.put_in_half(at, id, wdf)?;
+        self.join(at + 1);
+        self.join(at.saturating_sub(1));
         Ok(())
     }
 
@@ -173,26 +173,6 @@ impl Directory {
         Ok(())
     }
 
-    /// Where the entry goes: a full chunk that does not have it is halved first.
-    fn make_room(&mut self, at: usize, id: u32) -> Result<usize, AllocError>
-        requires there { at < length self.old }
-        requires fits { FitsAt id self.old at }
-        ensures same { flat self.new ≡ flat self.old }
-        ensures there { IfOk result (λ at. at < length self.new) }
-        ensures fits { IfOk result (λ at. FitsAt id self.new at) }
-        ensures room { IfOk result (λ at. (has id (get_or self.new at []) ≡ true) ⊎ (length (get_or self.new at []) < 128)) }
-        ensures succeeds { has id (flat self.old) ≡ true → IsOk result }
-    {
-        if self.chunks[at].count() < FULL || self.has_in(at, id) {
-            return Ok(at);
-        }
-        self.halve(at)?;
-        if self.chunks[at].last() < id {
-            return Ok(at + 1);
-        }
-        Ok(at)
-    }
-
     fn has_in(&mut self, at: usize, id: u32) -> bool
         requires { at < length self.old }
         ensures value { result ≡ has id (get_or self.old at []) }
@@ -201,16 +181,21 @@ impl Directory {
         self.chunks[at].has(id)
     }
 
-    /// Makes two chunks of a full one.
-    fn halve(&mut self, at: usize) -> Result<(), AllocError>
+    /// Puts a new entry into the chunk at the place, and makes two chunks of that.
+    fn put_in_half(&mut self, at: usize, id: u32, wdf: u32) -> Result<(), AllocError>
+        requires id { 1 ≤ id }
         requires there { at < length self.old }
+        requires fits { FitsAt id self.old at }
         requires full { 32 ≤ length (get_or self.old at []) }
-        ensures ok { OnOk result (self.new ≡ insert (set self.old at (take 16 (get_or self.old at []))) (at + 1) (drop 16 (get_or self.old at []))) }
+        requires new { has id (get_or self.old at []) ≡ false }
+        ensures ok { OnOk result (flat self.new ≡ put id wdf (flat self.old)) }
         ensures err { OnErr result (self.new ≡ self.old) }
     {
         self.chunks.reserve(1)?;
-        let rest = self.chunks[at].split_off(HALF)?;
+        let rest = self.chunks[at].insert_and_split(id, wdf, HALF)?;
         insert_reserved(&mut self.chunks, at + 1, rest);
+        self.length += 1;
+        self.greatest = self.greatest.max(wdf);
         Ok(())
     }
 
@@ -251,7 +236,8 @@ impl Directory {
         true
     }
 
-    /// Makes one chunk of the one at the place and the next, where they have few entries. Without memory they stay two.
+    /// Makes one chunk of the one at the place and the next, where they have few entries and the first has room for all.
+    /// It takes no memory.
     fn join(&mut self, at: usize)
         ensures { flat self.new ≡ flat self.old }
     {
@@ -262,9 +248,8 @@ impl Directory {
             return;
         }
         let mut next = self.chunks.remove(at + 1);
-        match self.chunks[at].join(&mut next) {
-            Ok(()) => {}
-            Err(_) => insert_reserved(&mut self.chunks, at + 1, next),
+        if !self.chunks[at].join(&mut next) {
+            insert_reserved(&mut self.chunks, at + 1, next);
         }
     }
 }

@@ -51,7 +51,7 @@ impl List {
     pub fn insert(&mut self, id: u32, wdf: u32) -> Result<(), AllocError>
         requires { 1 ≤ id }
         ensures ok { OnOk result (flat self.new ≡ put id wdf (flat self.old)) }
-        ensures err { OnErr result (flat self.new ≡ flat self.old) }
+        ensures err { OnErr result (self.new ≡ self.old) }
         ensures succeeds { has id (flat self.old) ≡ true → IsOk result }
     {
         match &mut self.form {
@@ -72,8 +72,7 @@ impl List {
         }
     }
 
-    /// Takes the document's entry out, and answers whether there was one. Where there is no memory to join two chunks, they
-    /// stay two.
+    /// Takes the document's entry out, and answers whether there was one. It takes no memory.
     pub fn remove(&mut self, id: u32) -> bool
         ensures after { flat self.new ≡ without id (flat self.old) }
         ensures there { result ≡ has id (flat self.old) }

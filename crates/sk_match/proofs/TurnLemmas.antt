@@ -37,6 +37,8 @@ use Rattle.sk_seen.specs.declared.page.Page.{Page}
 use Rattle.sk_seen.proofs.WalkLaws as Walks
 use Rattle.sk_seen.proofs.WalkLaws.{weighed, scores}
 use Rattle.sk_seen.proofs.SeeLaws.{page_opened, may_see, at_last, Looked, passed_by, looked_at, gone_on, wanted_before, asked_behind, head_early}
+use Rattle.sk_seen.specs.Paces.{reached_by}
+use Rattle.sk_seen.proofs.PaceLaws.{no_cutoff, reached_on}
 use Rattle.sk_match.specs.Searches.{IsOn, Accounts, Stands, PassesOver, Passes, AsksBehind, left_to_stop}
 use Rattle.sk_match.specs.declared.open_search.Search.{Search}
 
@@ -94,6 +96,7 @@ opened i s find query fits built all none need opens bounds stops rare decays =
         stops = λ _ lists e. stops lists e (stop_point query find docs);
         rare = rare;
         decays = λ _ ts a b is terms. ((decays ts a b is terms (decay_point query (Query.term b) find docs)).0, (decays ts a b is terms (decay_point query (Query.term a) find docs)).1);
+        pace = λ lists e _ point _. stops lists e point;
       };
     }
 
@@ -123,7 +126,7 @@ module _ (i : Indexed) (old : Search) (find : Find) (query : Query.Tree) (stands
   abbrev stop : ℕ
   stop = stop_point query find docs
 
-  weight_there : w ≡ Walks.first_weight (weighed give docs)
+  pub weight_there : w ≡ Walks.first_weight (weighed give docs)
   weight_there = weight ∙ first_same (left i old.tree)
 
   -- it may see the document there
@@ -197,6 +200,21 @@ module _ (i : Indexed) (old : Search) (find : Find) (query : Query.Tree) (stands
         by_end false e = let far = ltb-false h last_id e in let small = at_end in inl (omega (arith, far, small))
         by_end true e = inr (by_point (ltb-true h last_id e) (nat_lt point h) refl)
 
+    -- while nothing is asked for, it reads no list behind what was seen by more than one entry
+    pace_on : (lists : List (List ℕ)) → flat_lists query docs ≡ Some lists → new.need ≡ 0 → (point : ℕ) → reached_by mid.seen (found_by query find docs) ≤ point → Stops i new.tree point (ups lists point docs)
+    pace_on lists flat none point far = by_asked asked
+      where
+        reach : (reached_by old.page.seen (found_by query find docs) ≤ point) × (find.options.cutoff ≤ w → h ≤ point)
+        reach = reached_on query find docs give old.need old.page stands.page sorted h w (sym head) weight_there mid saw2 looked old.tree.top.greatest new.need (gives i new.tree) asked passes.over (omega (arith, none)) point far
+
+        by_asked : ((new.need ≡ old.need) × (h ≡ last_id)) ⊎ (new.need ≡ max old.need (need_for mid.options mid.seen mid.heap old.tree.top.greatest)) → Stops i new.tree point (ups lists point docs)
+        by_asked (inl last) = let same = last.0 in passes.stops point (ups lists point docs) (stands.accounts.pace lists flat (omega (arith, same, none)) point reach.0) (inl last.1)
+        by_asked (inr e) =
+            let cut : mid.options.cutoff ≡ 0 = no_cutoff mid.options mid.seen old.tree.top.greatest mid.heap (omega (arith, none, e)) in
+            let same : mid.options.cutoff ≡ find.options.cutoff = ap (λ (o : Options). o.cutoff) looked.options in
+            let near = reach.1 (omega (arith, cut, same)) in
+            passes.stops point (ups lists point docs) (stands.accounts.pace lists flat (omega (arith, none, e)) point reach.0) (inr (inr (inr (inl (none, omega (arith, near))))))
+
     pub moved : Stands new i find query
     moved = record {
       built = passes.built query find.options.scheme stands.built;
@@ -216,6 +234,7 @@ module _ (i : Indexed) (old : Search) (find : Find) (query : Query.Tree) (stands
               passes.decays (decay_point query (Query.term a) find docs) (ceil (Query.term a) find.options.scheme 1 docs) (decay_readings b a (decay_point query (Query.term a) find docs) docs 0) both.1
                   (may_fall plain (ceil (Query.term a) find.options.scheme 1 docs)),
             );
+        pace = λ lists flat none point far. pace_on lists flat none point (subst (λ (p : Page). reached_by p.seen (found_by query find docs) ≤ point) passes.page far);
       };
     }
 

@@ -10,6 +10,7 @@ use Rattle.sk_query.specs.Fits.{is_sound}
 use Rattle.sk_model.specs.Bounds.{ceil, static_count}
 use Rattle.sk_model.specs.Covers.{CoversAt}
 use Rattle.sk_model.specs.Edits.{last_id}
+use Rattle.sk_model.specs.Matches.{found_by}
 use Rattle.sk_model.specs.Settled.{stop_point, decay_point}
 use Rattle.sk_model.specs.Sharp.{is_plain, flat_lists, ups, rare_lists, rare_readings, terms_in, decay_readings}
 use Rattle.sk_index.specs.Indexed.{Indexed}
@@ -19,6 +20,7 @@ use Rattle.sk_nodes.specs.Rare.{Rare}
 use Rattle.sk_nodes.specs.Decays.{Decays, MayFall}
 use Rattle.sk_nodes.specs.declared.tree.Tree.{Tree}
 use Rattle.sk_seen.specs.Needs.{is_settled, need_for}
+use Rattle.sk_seen.specs.Paces.{reached_by}
 use Rattle.sk_seen.specs.Views.{PageOf, Sees}
 use Rattle.sk_match.specs.declared.open_search.Search.{Search}
 
@@ -48,13 +50,15 @@ DecaysBehind index find query tree a b =
     Decays index tree (decay_point query (Query.term b) find index.live.documents) (ceil (Query.term b) find.options.scheme 1 index.live.documents)
     (decay_readings a b (decay_point query (Query.term b) find index.live.documents) index.live.documents 0)
 
--- What the tree of a search of this find and query may read: of terms alone it stops at the point at which a page by relevance is settled, where one of its lists leads it reads the others with it, and of an or of two terms either may fade.
-pub record Accounts (index : Indexed) (find : Find) (query : Query.Tree) (tree : Tree) : Type 0 where
+-- What the tree of a search of this find and query may read: of terms alone it stops at the point at which a page by relevance is settled, where one of its lists leads it reads the others with it, of an or of two terms either may fade, and while nothing is asked for no list of terms alone is read by more than one entry behind the last match that was seen.
+pub record Accounts (index : Indexed) (find : Find) (query : Query.Tree) (seen need : ℕ) (tree : Tree) : Type 0 where
   pub stops : is_plain find ≡ true → (lists : List (List ℕ)) → flat_lists query index.live.documents ≡ Some lists
       → Stops index tree (stop_point query find index.live.documents) (ups lists (stop_point query find index.live.documents) index.live.documents)
   pub rare : (lists : List (List ℕ)) (m : ℕ) → rare_lists query index.live.documents ≡ Some (lists, m) → Rare index tree (rare_readings lists m index.live.documents)
   pub decays : is_plain find ≡ true → (ts : Query.Trees) (a b : List ℕ) → query ≡ Query.parts Form.Or ts → terms_in ts ≡ Some (a ∷ b ∷ [])
       → DecaysBehind index find query tree a b × DecaysBehind index find query tree b a
+  pub pace : (lists : List (List ℕ)) → flat_lists query index.live.documents ≡ Some lists → need ≡ 0
+      → (point : ℕ) → reached_by seen (found_by query find index.live.documents) ≤ point → Stops index tree point (ups lists point index.live.documents)
 
 -- A search is one of this find and query on this index: its tree is the query's, its bounds are the query's, and its page is that of a search that is given what the tree gives.
 pub record Stands (search : Search) (index : Indexed) (find : Find) (query : Query.Tree) : Type 0 where
@@ -64,7 +68,7 @@ pub record Stands (search : Search) (index : Indexed) (find : Find) (query : Que
   pub need : search.need ≡ search.tree.need
   pub low : ceil query find.options.scheme 1 index.live.documents < find.options.cutoff → search.need ≤ find.options.cutoff
   pub page : PageOf search.page query find index.live.documents (gives index search.tree) search.need
-  pub accounts : Accounts index find query search.tree
+  pub accounts : Accounts index find query search.page.seen search.need search.tree
 
 -- ---- a step of a search
 

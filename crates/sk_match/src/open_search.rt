@@ -11,9 +11,10 @@ ghost use Rattle.sk_report.specs.Reports.{ReportsFor};
 ghost use Rattle.sk_index.specs.Indexed.{Indexed};
 ghost use Rattle.sk_model.specs.Counts.{wanted};
 ghost use Rattle.sk_model.specs.Matches.{found_by};
-ghost use Rattle.sk_model.specs.Sharp.{is_plain, flat_lists, sharp};
+ghost use Rattle.sk_model.specs.Sharp.{is_plain, flat_lists, ups, sharp};
 ghost use Rattle.sk_nodes.specs.Built.{scored, IsTree};
 ghost use Rattle.sk_seen.specs.Needs.{is_whole};
+ghost use Rattle.sk_seen.specs.Paces.{IsEarly, reached_by};
 ghost use Rattle.sk_match.specs.Searches.{IsOn, Stands, Asks, Passes, MovesPast, ahead, left_to_stop, is_done, spent_by};
 ghost use Rattle.sk_match.specs.declared.open_search.Turn.TheVariants as Turn;
 
@@ -69,6 +70,8 @@ impl Search {
         ensures later { steps.old ≤ steps.new }
     {
         let scheme = find.options.scheme;
+        let _highest = index.highest();
+        let _many = index.all().length();
         let bounds = Bounds {
             greatest: ceil(index, query, scheme, 1),
             most: static_count(index, query),
@@ -164,7 +167,11 @@ impl Search {
         let ceiling = self.tree.ceiling();
         let is_whole = self.is_whole(ceiling);
         let spent = self.tree.spent();
-        self.page.report(&IndexReader { index }, self.bounds, is_whole, spent, steps)
+        let reader = IndexReader { index };
+        let report = self
+            .page
+            .report(&reader, self.bounds, is_whole, spent, steps)?;
+        Ok(report)
     }
 
     /// Whether a search that is done saw all that matches, where nothing that is left weighs more than this.
@@ -181,7 +188,14 @@ impl Search {
 
         // At all times it is within the bound on the steps of the find.
         ensures within { (i : Indexed) (find : Find) (query : QueryTree.Tree) (hits : ℕ) → Stands self.now i find query → result ≤ sharp query find i.live.documents hits }
+
+        // While a find of terms alone by relevance wants to see more, it read each list up to the last match that it saw, and
+        // one entry more.
+        ensures paced { (i : Indexed) (find : Find) (query : QueryTree.Tree) (lists : List (List ℕ)) → Stands self.now i find query → IsEarly find self.now.page.seen
+            → flat_lists query i.live.documents ≡ Some lists → result ≤ ups lists (reached_by self.now.page.seen (found_by query find i.live.documents)) i.live.documents }
     {
-        self.tree.spent().saturating_add(u128::from(self.page.read()))
+        self.tree
+            .spent()
+            .saturating_add(u128::from(self.page.read()))
     }
 }

@@ -55,7 +55,7 @@ next_reply live = if nat_lt live.highest last_id then Reply.Id (live.highest + 1
 abbrev pub with_document : Live → ℕ → Document → Live
 with_document live id document = record { documents = put_document id document live.documents; highest = max live.highest id }
 
--- The document under the id of the first that has the term, all those that have it being removed; where no id is given, as none has it, the document under the next id, where one is left.
+-- The document under the id that is given, where all with the term are removed; where none has it, under the next id.
 abbrev pub with_first : Live → Document → List ℕ → Option ℕ → Live
 with_first live document t None = with_next live document
 with_first live document t (Some id) = record { documents = put_document id document (without_term t live.documents); highest = live.highest }

@@ -1,5 +1,5 @@
 //! A piece of a list: few entries in order of their ids.
-ghost use Rattle.std.specs.Prelude.{◌≡◌, ◌≤◌, ◌<◌, ◌+◌, ◌⊎◌, [], ◌∷◌, ◌++◌, length, take, drop, true, IfOk, IsOk, OnOk, OnErr};
+ghost use Rattle.std.specs.Prelude.{◌≡◌, ◌≤◌, ◌<◌, ◌+◌, ◌⊎◌, [], ◌∷◌, ◌++◌, length, take, drop, true, false, IfOk, IsOk, OnOk, OnErr};
 ghost use Rattle.std.specs.Option.{option_map};
 ghost use Rattle.sk_sorted.specs.Entries.{AreSorted, RiseAbove, put, without, found, has, from, top_id};
 
@@ -118,28 +118,37 @@ impl<T: Drop> Piece<T> {
         self.entries.remove(id)
     }
 
-    /// Gives the second half away. The memory for it is taken first.
-    pub(crate) fn halve(&mut self) -> Result<Piece<T>, AllocError>
-        requires { length self.old ≡ 128 }
-        ensures ok { OnOk result (self.new ≡ take 64 self.old) }
-        ensures rest { IfOk result (λ rest. rest ≡ drop 64 self.old) }
+    /// Puts this with the id, which has no entry, and gives away what then stands behind the first 64 entries.
+    pub(crate) fn put_and_halve(&mut self, id: u32, x: T) -> Result<Piece<T>, AllocError>
+        requires id { 1 ≤ id }
+        requires new { has id self.old ≡ false }
+        requires full { length self.old ≡ 128 }
+        ensures ok { OnOk result (self.new ≡ take 64 (put id x self.old)) }
+        ensures rest { IfOk result (λ rest. rest ≡ drop 64 (put id x self.old)) }
         ensures err { OnErr result (self.new ≡ self.old) }
     {
-        let entries = self.entries.split_off(HALF)?;
+        let _ = self.entries.put(id, x)?;
+        let entries = match self.entries.split_off(HALF) {
+            Ok(entries) => entries,
+            Err(error) => {
+                let _ = self.entries.remove(id);
+                return Err(error);
+            }
+        };
         Ok(Piece { entries })
     }
 
-    /// Takes the entries of the next piece, which are behind its own.
-    pub(crate) fn join(&mut self, next: &mut Piece<T>) -> Result<(), AllocError>
+    /// Takes the entries of the next piece, which are behind its own, where it has room for them, and answers whether it
+    /// did. It takes no memory.
+    pub(crate) fn join(&mut self, next: &mut Piece<T>) -> bool
         requires rise { RiseAbove (top_id 0 self.old) next.old }
         requires few { length self.old + length next.old ≤ 128 }
-        ensures ok { OnOk result (self.new ≡ self.old ++ next.old) }
-        ensures emptied { OnOk result (next.new ≡ []) }
-        ensures err { OnErr result (self.new ≡ self.old) }
-        ensures rest { OnErr result (next.new ≡ next.old) }
+        ensures joined { result ≡ true → self.new ≡ self.old ++ next.old }
+        ensures emptied { result ≡ true → next.new ≡ [] }
+        ensures same { result ≡ false → self.new ≡ self.old }
+        ensures rest { result ≡ false → next.new ≡ next.old }
     {
-        self.entries.append(&mut next.entries)?;
-        Ok(())
+        self.entries.append(&mut next.entries)
     }
 }
 

@@ -13,8 +13,9 @@ use std::marker::Model;
 
 /// A piece has so many entries at most.
 const FULL: u32 = 128;
-/// Neighbours that have no more entries together become one behind a removal or a halving, so that a list of n entries
-/// has about n / 48 pieces at most.
+/// Neighbours that have no more entries together become one behind a removal or a halving, where the first has room for
+/// all: it has room for as many as it ever had, and each but the last for 64 at least, so a list of n entries has about
+/// n / 33 pieces at most.
 const THIN: u32 = 96;
 
 /// Entries, each an id from 1 and what stands with it, no id twice, in order of their ids, cut into pieces of at most
@@ -111,25 +112,23 @@ impl<T: Drop> Pieces<T> {
     pub fn put(&mut self, id: u32, x: T) -> Result<(), AllocError>
         requires { 1 ≤ id }
         ensures ok { OnOk result (flat self.new ≡ put id x (flat self.old)) }
-        ensures err { OnErr result (flat self.new ≡ flat self.old) }
+        ensures err { OnErr result (self.new ≡ self.old) }
         ensures succeeds { has id (flat self.old) ≡ true → IsOk result }
     {
         let at = self.place(id);
         if at == self.pieces.len() {
             return self.append(id, x);
         }
-        let count = self.pieces.len();
-        let room = self.make_room(at, id)?;
-        self.put_in(room, id, x)?;
-        if self.pieces.len() > count {
-            self.join(at + 1);
-            self.join(at.saturating_sub(1));
+        if self.pieces[at].count() < FULL || self.pieces[at].has(id) {
+            return self.put_in(at, id, x);
         }
+        self.put_in_half(at, id, x)?;
+        self.join(at + 1);
+        self.join(at.saturating_sub(1));
         Ok(())
     }
 
-    /// Takes the id's entry out, and answers what stood with it. Where there is no memory to join two pieces, they stay
-    /// two.
+    /// Takes the id's entry out, and answers what stood with it. It takes no memory.
     pub fn take(&mut self, id: u32) -> Option<T>
         ensures after { flat self.new ≡ without id (flat self.old) }
         ensures gone { result ≡ found id (flat self.old) }
@@ -163,36 +162,20 @@ impl<T: Drop> Pieces<T> {
         Ok(())
     }
 
-    /// Where the entry goes: a full piece that does not have the id is halved first.
-    fn make_room(&mut self, at: usize, id: u32) -> Result<usize, AllocError>
+    /// Puts a new entry into the full piece at the place, and makes two pieces of that.
+    fn put_in_half(&mut self, at: usize, id: u32, x: T) -> Result<(), AllocError>
+        requires id { 1 ≤ id }
         requires there { at < length self.old }
         requires fits { FitsAt id self.old at }
-        ensures same { flat self.new ≡ flat self.old }
-        ensures there { IfOk result (λ at. at < length self.new) }
-        ensures fits { IfOk result (λ at. FitsAt id self.new at) }
-        ensures room { IfOk result (λ at. (has id (get_or self.new at []) ≡ true) ⊎ (length (get_or self.new at []) < 128)) }
-        ensures succeeds { has id (flat self.old) ≡ true → IsOk result }
-    {
-        if self.pieces[at].count() < FULL || self.pieces[at].has(id) {
-            return Ok(at);
-        }
-        self.halve(at)?;
-        if self.pieces[at].last() < id {
-            return Ok(at + 1);
-        }
-        Ok(at)
-    }
-
-    /// Makes two pieces of a full one.
-    fn halve(&mut self, at: usize) -> Result<(), AllocError>
-        requires there { at < length self.old }
         requires full { length (get_or self.old at []) ≡ 128 }
-        ensures ok { OnOk result (self.new ≡ insert (set self.old at (take 64 (get_or self.old at []))) (at + 1) (drop 64 (get_or self.old at []))) }
+        requires new { has id (get_or self.old at []) ≡ false }
+        ensures ok { OnOk result (flat self.new ≡ put id x (flat self.old)) }
         ensures err { OnErr result (self.new ≡ self.old) }
     {
         self.pieces.reserve(1)?;
-        let rest = self.pieces[at].halve()?;
+        let rest = self.pieces[at].put_and_halve(id, x)?;
         insert_reserved(&mut self.pieces, at + 1, rest);
+        self.length += 1;
         Ok(())
     }
 
@@ -227,7 +210,8 @@ impl<T: Drop> Pieces<T> {
         Some(x)
     }
 
-    /// Makes one piece of the one at the place and the next, where they have few entries. Without memory they stay two.
+    /// Makes one piece of the one at the place and the next, where they have few entries and the first has room for all.
+    /// It takes no memory.
     fn join(&mut self, at: usize)
         ensures { flat self.new ≡ flat self.old }
     {
@@ -238,9 +222,8 @@ impl<T: Drop> Pieces<T> {
             return;
         }
         let mut next = self.pieces.remove(at + 1);
-        match self.pieces[at].join(&mut next) {
-            Ok(()) => {}
-            Err(_) => insert_reserved(&mut self.pieces, at + 1, next),
+        if !self.pieces[at].join(&mut next) {
+            insert_reserved(&mut self.pieces, at + 1, next);
         }
     }
 }

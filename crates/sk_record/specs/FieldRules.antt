@@ -124,7 +124,7 @@ paging_of fields wanted =
 abbrev pub find_of : List Field → Wanted → Option (Find Data)
 find_of fields wanted = option_map (λ paging. record { ask = wanted.ask; paging = paging }) (paging_of fields wanted)
 
--- The replacement of what has the term of this text of the named filter by a record; none where there is no such filter, or no record.
+-- The edit that puts a record in the place of all documents with a term, where the field and the record keep the rules.
 abbrev pub replaced_by : List Field → List ℕ × List ℕ → Given → Option Edit
 replaced_by fields pair given = option_and_then (λ term. option_map (λ it. Edit.ReplaceBy term it) (record_of fields given)) (term_of fields pair)
 

@@ -11,3 +11,4 @@ pub mod OfferLaws
 pub mod SeeLaws
 pub mod EndLaws
 pub mod SpentLaws
+pub mod PaceLaws

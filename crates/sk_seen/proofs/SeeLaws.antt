@@ -287,14 +287,14 @@ module _ (query : Tree) (find : Find) (docs : Docs) (give : ℕ → Option ℕ) 
       abbrev own_ask : ℕ
       own_ask = need_for find.options mid.seen mid.heap ceiling
 
-      asked2 : ((need2 ≡ need) × (h ≡ last_id)) ⊎ (need2 ≡ max need own_ask)
+      pub asked2 : ((need2 ≡ need) × (h ≡ last_id)) ⊎ (need2 ≡ max need own_ask)
       asked2 = by_options asked
         where
           by_options : ((need2 ≡ need) × (h ≡ last_id)) ⊎ (need2 ≡ max need (need_for mid.options mid.seen mid.heap ceiling)) → ((need2 ≡ need) × (h ≡ last_id)) ⊎ (need2 ≡ max need own_ask)
           by_options (inl e) = inl e
           by_options (inr e) = inr (e ∙ (λ j. max need (need_for (looked.options j) mid.seen mid.heap ceiling)))
 
-      rises_by : ((need2 ≡ need) × (h ≡ last_id)) ⊎ (need2 ≡ max need own_ask) → need ≤ need2
+      pub rises_by : ((need2 ≡ need) × (h ≡ last_id)) ⊎ (need2 ≡ max need own_ask) → need ≤ need2
       rises_by (inl e) = let same = e.0 in omega (arith, same)
       rises_by (inr e) = omega (arith, e)
 
@@ -309,7 +309,7 @@ module _ (query : Tree) (find : Find) (docs : Docs) (give : ℕ → Option ℕ) 
           let cut = need_few find mid.seen ceiling mid.heap (omega (arith, few, looked.seen)) in
           omega (arith, e, low, cut)
 
-      walked_on : (walk2 : Walk query find docs give2 need2 saw2) × (walk2.last ≡ h)
+      pub walked_on : (walk2 : Walk query find docs give2 need2 saw2) × (walk2.last ≡ h)
       walked_on =
           walked query find docs give need of.saw walk h w at give2 need2 over saw2 looked.is (rises_by asked2) looked.keeps (few_by asked2)
           (right_by

@@ -48,7 +48,7 @@ module _ (query : Tree) (find : Find) (docs : Docs) (give : ℕ → Option ℕ) 
   saw_few =
       let beside = (shown_beside (is_behind find.order (held_by find docs of.saw)) (λ _. []) (λ _ _ _. refl) (found_by query find of.walk.before) of.saw of.walk.shown).long in
       let all : length (found_by query find docs) ≡ length (found_by query find of.walk.before ++ found_by query find of.walk.rest) =
-          ap length (ap (found_by query find) of.walk.split ∙ found_append query find of.walk.before of.walk.rest) in
+      ap length (ap (found_by query find) of.walk.split ∙ found_append query find of.walk.before of.walk.rest) in
       omega (arith, beside, all, length-append (found_by query find of.walk.before) (found_by query find of.walk.rest))
 
   -- at all times, whatever the number of hits

@@ -6,3 +6,4 @@ pub mod Needs
 pub mod Calm
 pub mod Hits
 pub mod Views
+pub mod Paces

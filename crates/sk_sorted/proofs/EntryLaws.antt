@@ -171,6 +171,11 @@ module _ {X : Type 0} where
   put-without low id x [] up = refl
   put-without low id x (e ∷ es) up = grind (arith, nat_tests, put-without e.0 id x es, put-front e.0 id x es, without-below e.0 id es, up.0, up.1)
 
+  -- what was put where nothing was is gone once it is taken out
+  pub without-put : (id : ℕ) (x : X) (es : List (ℕ × X)) → found id es ≡ None → without id (put id x es) ≡ es
+  without-put id x [] none = grind (arith, nat_tests)
+  without-put id x (e ∷ es) none = grind (arith, nat_tests, none, without-put id x es, without-absent id (e ∷ es))
+
   -- entries below the id stand before what is put, and entries from it on behind
   pub put-append : (id : ℕ) (x : X) (ds es : List (ℕ × X)) → LieBelow id ds → put id x (ds ++ es) ≡ ds ++ put id x es
   put-append id x [] es below = refl

@@ -4,11 +4,11 @@ use mathlib.Core.Bool.{true≢false}
 use Rattle.std.specs.List.{insert, remove}
 use Rattle.std.specs.List.Sorted.{IsPartitionedBy}
 use Rattle.std.proofs.lemmas.Bool.Decides.{nat_tests}
-use Rattle.std.proofs.lemmas.List.{length-append, length-take, length-drop, set-get_or, get_or_default, get_or-set_same}
+use Rattle.std.proofs.lemmas.List.{length-append, length-set, set-get_or, get_or_default, get_or-set_same}
 use Rattle.sk_sorted.specs.Entries.{RiseAbove, LieBelow, put, without, has, found, top_id}
 use Rattle.sk_sorted.proofs.EntryLaws.{LieBelow-put, LieBelow-without, length_fits, put-last, without-absent}
 use Rattle.sk_sorted.specs.Runs.{flat, RunsRise, AreRuns, FitsAt}
-use Rattle.sk_sorted.proofs.RunLaws.{put_in_run, without_in_run, found_in_run, rise_put, rise_without, rise_cut, flat-cut, rise_joined, flat-join, fits-cut, fits-behind, cut-first, cut-second, cut-length, before-removed, put-back, next-rises, tops_rise, all_below, flat-remove, rise_remove, flat-last, rise_last, AreRuns-sorted}
+use Rattle.sk_sorted.proofs.RunLaws.{put_in_run, without_in_run, found_in_run, rise_put, rise_without, rise_cut, flat-cut, rise_joined, flat-join, before-removed, put-back, next-rises, tops_rise, all_below, flat-remove, rise_remove, flat-last, rise_last, AreRuns-sorted}
 
 module _ {X : Type 0} where
   -- an id that is not there has nothing
@@ -66,18 +66,9 @@ module _ {X : Type 0} where
     small = subst (LieBelow (2 ^ 32)) (sym (flat-join rs i d lt)) are.small;
   }
 
-  -- ---- a run is halved
+  -- ---- a run is cut in two
 
-  -- the entries are the same, and the id belongs in one of the halves
-  pub record Halved (id : ℕ) (rs new : List (List (ℕ × X))) (i n : ℕ) : Type 0 where
-    pub same : flat new ≡ flat rs
-    pub within : i + 1 < length new
-    pub first : id ≤ top_id 0 (get_or new i []) → FitsAt id new i
-    pub second : top_id 0 (get_or new i []) < id → FitsAt id new (i + 1)
-    pub front : length (get_or new i []) ≤ n
-    pub behind : length (get_or new (i + 1) []) + n ≡ length (get_or rs i [])
-
-  -- the halved runs, where what was read and made is told by equations
+  -- the cut runs, where what was read and made is told by equations
   module _ (rs rs2 new : List (List (ℕ × X))) (i n : ℕ) (was now rest : List (ℕ × X)) (same : rs2 ≡ rs) (lt : i < length rs) (is : was ≡ get_or rs2 i was) (some : 0 < n) (less : n < length (get_or rs i []))
       (first : now ≡ take n was) (second : rest ≡ drop n was) (made : new ≡ insert (set rs2 i now) (i + 1) rest) where
     halved_whole : new ≡ insert (set rs i (take n (get_or rs i was))) (i + 1) (drop n (get_or rs i was))
@@ -92,22 +83,6 @@ module _ {X : Type 0} where
     halved_sound are =
         let whole : length (get_or rs i was) ≡ length (get_or rs i []) = ap length (get_or-same rs i was [] lt) in
         subst (λ (s : List (List (ℕ × X))). AreRuns s) (sym halved_whole) (AreRuns-cut rs i n was lt some (omega (arith, whole, less)) are)
-
-  pub halved : (id : ℕ) (rs new : List (List (ℕ × X))) (i n : ℕ) → i < length rs → RunsRise 0 rs → FitsAt id rs i → 0 < n → n < length (get_or rs i [])
-      → new ≡ insert (set rs i (take n (get_or rs i []))) (i + 1) (drop n (get_or rs i [])) → Halved id rs new i n
-  halved id rs new i n lt up fits some less made =
-      let run : List (ℕ × X) = get_or rs i [] in
-      let at : get_or new i [] ≡ take n run = ap (λ (s : List (List (ℕ × X))). get_or s i []) made ∙ cut-first rs i (take n run) (drop n run) [] lt in
-      let later : get_or new (i + 1) [] ≡ drop n run = ap (λ (s : List (List (ℕ × X))). get_or s (i + 1) []) made ∙ cut-second rs i (take n run) (drop n run) [] lt in
-      let up2 = rise_cut 0 rs i n [] lt some less up in
-      record {
-        same = ap flat made ∙ flat-cut rs i n [] lt;
-        within = omega (arith, ap length made, cut-length rs i (take n run) (drop n run) lt);
-        first = λ le. subst (λ (s : List (List (ℕ × X))). FitsAt id s i) (sym made) (fits-cut id rs i n [] up2 fits (subst (λ (s : List (ℕ × X)). id ≤ top_id 0 s) at le));
-        second = λ above. subst (λ (s : List (List (ℕ × X))). FitsAt id s (i + 1)) (sym made) (fits-behind id rs i n [] fits (subst (λ (s : List (ℕ × X)). top_id 0 s < id) at above));
-        front = omega (arith, ap length at, length-take n run);
-        behind = omega (arith, ap length later, length-drop n run, less);
-      }
 
   -- what is told of a run that was read
   pub run_read : (items now : List (List (ℕ × X))) (at : ℕ) (run : List (ℕ × X)) → items ≡ now → run ≡ get_or items at run → at < length now → run ≡ get_or now at []
@@ -197,6 +172,17 @@ module _ {X : Type 0} where
   remove_set (q ∷ rs) zero r = refl
   remove_set (q ∷ rs) (suc i) r = ap (λ (ss : List (List (ℕ × X))). q ∷ ss) (remove_set rs i r)
 
+  -- what is written twice at a place is what was written last
+  set_set : (rs : List (List (ℕ × X))) (i : ℕ) (r s : List (ℕ × X)) → set (set rs i r) i s ≡ set rs i s
+  set_set [] i r s = refl
+  set_set (q ∷ rs) zero r s = refl
+  set_set (q ∷ rs) (suc i) r s = ap (λ (ss : List (List (ℕ × X))). q ∷ ss) (set_set rs i r s)
+
+  -- a put of an id that is not there is one entry more
+  pub length-put_new : (id : ℕ) (x : X) (es : List (ℕ × X)) → has id es ≡ false → length (put id x es) ≡ length es + 1
+  length-put_new id x [] none = omega arith
+  length-put_new id x (e ∷ es) none = grind (arith, nat_tests, none, length-put_new id x es)
+
   length_put : (id : ℕ) (x : X) (es : List (ℕ × X)) → length es ≤ length (put id x es)
   length_put id x [] = omega arith
   length_put id x (e ∷ es) = grind (arith, nat_tests, length_put id x es)
@@ -254,6 +240,35 @@ module _ {X : Type 0} where
 
       pub put_fits : 1 ≤ id → id < 2 ^ 32 → length (flat (set items at new)) < 2 ^ 32
       put_fits begun small = length_fits (flat (set items at new)) (AreRuns-sorted (set items at new) (put_sound begun small))
+
+      -- and the run that it made is cut in two
+      module _ (n : ℕ) (front rest : List (ℕ × X)) (split : List (List (ℕ × X))) (some : 0 < n) (less : n < length new) (first : front ≡ take n new) (second : rest ≡ drop n new) (divided : split ≡ insert (set items at front) (at + 1) rest) where
+        put_within : at < length (set items at new)
+        put_within = omega (arith, within, length-set items at new)
+
+        put_here : new ≡ get_or (set items at new) at new
+        put_here = sym (get_or-set_same items at new new within)
+
+        put_less : n < length (get_or (set items at new) at [])
+        put_less = omega (arith, ap length (get_or-set_same items at new [] within), less)
+
+        put_divided : split ≡ insert (set (set items at new) at front) (at + 1) rest
+        put_divided = divided ∙ ap (λ (s : List (List (ℕ × X))). insert s (at + 1) rest) (sym (set_set items at new front))
+
+        put_split : flat split ≡ flat (set items at new)
+        put_split = halved_flat (set items at new) (set items at new) split at n new front rest refl put_within put_here some put_less first second put_divided
+
+        pub split_view : flat split ≡ put id x (flat now)
+        split_view = put_split ∙ put_view
+
+        pub split_sound : 1 ≤ id → id < 2 ^ 32 → AreRuns split
+        split_sound begun small = halved_sound (set items at new) (set items at new) split at n new front rest refl put_within put_here some put_less first second put_divided (put_sound begun small)
+
+        pub split_length : has id was ≡ false → length (flat split) ≡ length (flat items) + 1
+        split_length none = omega (arith, ap length put_split, length_new new, ap length made, length-put_new id x was none)
+
+        pub split_fits : has id was ≡ false → 1 ≤ id → id < 2 ^ 32 → length (flat items) + 1 < 2 ^ 32
+        split_fits none begun small = omega (arith, split_length none, length_fits (flat split) (AreRuns-sorted split (split_sound begun small)))
 
     -- a removal
     module _ (new : List (ℕ × X)) (made : new ≡ without id was) where

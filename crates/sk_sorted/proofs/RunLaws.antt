@@ -293,55 +293,6 @@ module _ {X : Type 0} where
   fits_last id (r ∷ (s ∷ rs)) zero last below = absurd (omega arith)
   fits_last id (r ∷ rs) (suc i) last below = (below 0 (omega arith), fits_last id rs i (omega arith) (λ k lt. below (suc k) (omega arith)))
 
-  -- where an id belongs once its run was cut in two
-  fits_cut : (low id : ℕ) (rs : List (List (ℕ × X))) (i n : ℕ) (d : List (ℕ × X)) → RunsRise low (insert (set rs i (take n (get_or rs i d))) (suc i) (drop n (get_or rs i d))) → FitsAt id rs i
-      → id ≤ top_id 0 (take n (get_or rs i d)) → FitsAt id (insert (set rs i (take n (get_or rs i d))) (suc i) (drop n (get_or rs i d))) i
-  fits_cut low id [] i n d up fits le = absurd fits
-  fits_cut low id (r ∷ rs) zero n d up fits le =
-      RiseAbove-lower id (top_id 0 (take n r)) (drop n r ++ flat rs) le (flat-rise (top_id 0 (take n r)) (drop n r ∷ rs) up.1.1)
-  fits_cut low id (r ∷ rs) (suc i) n d up fits le = (fits.0, fits_cut (top_id 0 r) id rs i n d up.1.1 fits.1 le)
-
-  fits_behind : (id : ℕ) (rs : List (List (ℕ × X))) (i n : ℕ) (d : List (ℕ × X)) → FitsAt id rs i → top_id 0 (take n (get_or rs i d)) < id
-      → FitsAt id (insert (set rs i (take n (get_or rs i d))) (suc i) (drop n (get_or rs i d))) (suc i)
-  fits_behind id [] i n d fits lt = absurd fits
-  fits_behind id (r ∷ rs) zero n d fits lt = (lt, fits)
-  fits_behind id (r ∷ rs) (suc i) n d fits lt = (fits.0, fits_behind id rs i n d fits.1 lt)
-
-  pub fits-cut : (id : ℕ) (rs : List (List (ℕ × X))) (i n : ℕ) (d : List (ℕ × X)) → RunsRise 0 (insert (set rs i (take n (get_or rs i d))) (i + 1) (drop n (get_or rs i d))) → FitsAt id rs i
-      → id ≤ top_id 0 (take n (get_or rs i d)) → FitsAt id (insert (set rs i (take n (get_or rs i d))) (i + 1) (drop n (get_or rs i d))) i
-  fits-cut id rs i n d up fits le =
-      subst (λ j. FitsAt id (insert (set rs i (take n (get_or rs i d))) j (drop n (get_or rs i d))) i) (sym (add-one i))
-      (fits_cut 0 id rs i n d (subst (λ j. RunsRise 0 (insert (set rs i (take n (get_or rs i d))) j (drop n (get_or rs i d)))) (add-one i) up) fits le)
-
-  pub fits-behind : (id : ℕ) (rs : List (List (ℕ × X))) (i n : ℕ) (d : List (ℕ × X)) → FitsAt id rs i → top_id 0 (take n (get_or rs i d)) < id
-      → FitsAt id (insert (set rs i (take n (get_or rs i d))) (i + 1) (drop n (get_or rs i d))) (i + 1)
-  fits-behind id rs i n d fits lt = subst (λ j. FitsAt id (insert (set rs i (take n (get_or rs i d))) j (drop n (get_or rs i d))) j) (sym (add-one i)) (fits_behind id rs i n d fits lt)
-
-  -- the two runs of a cut
-  cut_first : (rs : List (List (ℕ × X))) (i : ℕ) (r s d : List (ℕ × X)) → i < length rs → get_or (insert (set rs i r) (suc i) s) i d ≡ r
-  cut_first [] i r s d lt = absurd (omega arith)
-  cut_first (q ∷ rs) zero r s d lt = refl
-  cut_first (q ∷ rs) (suc i) r s d lt = cut_first rs i r s d (omega arith)
-
-  cut_second : (rs : List (List (ℕ × X))) (i : ℕ) (r s d : List (ℕ × X)) → i < length rs → get_or (insert (set rs i r) (suc i) s) (suc i) d ≡ s
-  cut_second [] i r s d lt = absurd (omega arith)
-  cut_second (q ∷ rs) zero r s d lt = refl
-  cut_second (q ∷ rs) (suc i) r s d lt = cut_second rs i r s d (omega arith)
-
-  cut_length : (rs : List (List (ℕ × X))) (i : ℕ) (r s : List (ℕ × X)) → i < length rs → length (insert (set rs i r) (suc i) s) ≡ length rs + 1
-  cut_length [] i r s lt = absurd (omega arith)
-  cut_length (q ∷ rs) zero r s lt = omega arith
-  cut_length (q ∷ rs) (suc i) r s lt = omega (arith, cut_length rs i r s (omega arith))
-
-  pub cut-first : (rs : List (List (ℕ × X))) (i : ℕ) (r s d : List (ℕ × X)) → i < length rs → get_or (insert (set rs i r) (i + 1) s) i d ≡ r
-  cut-first rs i r s d lt = subst (λ j. get_or (insert (set rs i r) j s) i d ≡ r) (sym (add-one i)) (cut_first rs i r s d lt)
-
-  pub cut-second : (rs : List (List (ℕ × X))) (i : ℕ) (r s d : List (ℕ × X)) → i < length rs → get_or (insert (set rs i r) (i + 1) s) (i + 1) d ≡ s
-  cut-second rs i r s d lt = subst (λ j. get_or (insert (set rs i r) j s) j d ≡ s) (sym (add-one i)) (cut_second rs i r s d lt)
-
-  pub cut-length : (rs : List (List (ℕ × X))) (i : ℕ) (r s : List (ℕ × X)) → i < length rs → length (insert (set rs i r) (i + 1) s) ≡ length rs + 1
-  cut-length rs i r s lt = subst (λ j. length (insert (set rs i r) j s) ≡ length rs + 1) (sym (add-one i)) (cut_length rs i r s lt)
-
   -- ---- parts of runs
 
   pub rise_drop : (low n : ℕ) (rs : List (List (ℕ × X))) → RunsRise low rs → RunsRise low (drop n rs)

@@ -1,5 +1,5 @@
 //! A list of entries in order of their ids.
-ghost use Rattle.std.specs.Prelude.{◌≡◌, ◌≤◌, [], ◌++◌, length, take, drop, true, IfOk, IsOk, OnOk, OnErr};
+ghost use Rattle.std.specs.Prelude.{◌≡◌, ◌≤◌, [], ◌++◌, length, take, drop, true, false, IfOk, IsOk, OnOk, OnErr};
 ghost use Rattle.std.specs.Option.{option_map};
 ghost use Rattle.sk_sorted.specs.Entries.{AreSorted, RiseAbove, put, without, found, has, top_id};
 
@@ -120,16 +120,22 @@ impl<T: Drop> Sorted<T> {
         Ok(Sorted { entries })
     }
 
-    /// Takes the entries of another list, which are behind its own.
-    pub fn append(&mut self, other: &mut Sorted<T>) -> Result<(), AllocError>
+    /// Takes the entries of another list, which are behind its own, where it has room for them, and answers whether it
+    /// did. It takes no memory.
+    pub fn append(&mut self, other: &mut Sorted<T>) -> bool
         requires { RiseAbove (top_id 0 self.old) other.old }
-        ensures ok { OnOk result (self.new ≡ self.old ++ other.old) }
-        ensures emptied { OnOk result (other.new ≡ []) }
-        ensures err { OnErr result (self.new ≡ self.old) }
-        ensures rest { OnErr result (other.new ≡ other.old) }
+        ensures joined { result ≡ true → self.new ≡ self.old ++ other.old }
+        ensures emptied { result ≡ true → other.new ≡ [] }
+        ensures same { result ≡ false → self.new ≡ self.old }
+        ensures rest { result ≡ false → other.new ≡ other.old }
     {
-        self.entries.append(&mut other.entries)?;
-        Ok(())
+        if self.entries.capacity() - self.entries.len() < other.entries.len() {
+            return false;
+        }
+        match self.entries.append(&mut other.entries) {
+            Ok(()) => true,
+            Err(_) => unreachable!(),
+        }
     }
 }
 

@@ -45,14 +45,13 @@ impl SlotList {
         requires begun { 1 ≤ id }
         requires some { 1 ≤ length value }
         ensures ok { OnOk result (flat self.new ≡ put id value (flat self.old)) }
-        ensures err { OnErr result (flat self.new ≡ flat self.old) }
+        ensures err { OnErr result (self.new ≡ self.old) }
         ensures succeeds { has id (flat self.old) ≡ true → IsOk result }
     {
         self.entries.put(id, value)
     }
 
-    /// Takes the document's value out, and answers whether there was one. Where there is no memory to join two pieces,
-    /// they stay two.
+    /// Takes the document's value out, and answers whether there was one. It takes no memory.
     pub fn clear(&mut self, id: DocId) -> bool
         ensures after { flat self.new ≡ without id (flat self.old) }
         ensures there { result ≡ has id (flat self.old) }

@@ -39,8 +39,10 @@ fn a_full_chunk_is_cut(rt: HostRuntime) -> Result<(), Fail> {
 #[test]
 fn each_call_succeeds_with_memory(rt: HostRuntime) -> Result<(), Fail> {
     let mut chunk = Chunk::one(rt.alloc(), 1, 3)?;
+    chunk.insert(2, 4)?;
+    assert!(rt; chunk.remove(2));
     let mut next = Chunk::one(rt.alloc(), 4294967295, 5)?;
-    chunk.join(&mut next)?;
+    assert!(rt; chunk.join(&mut next));
     assert_eq!(rt; next.head(), Chunk::new(rt.alloc()).head());
     let ids = chunk.put_ids(Vec::new(rt.alloc()))?;
     assert_eq!(rt; ids.as_slice(), [1, 4294967295].as_slice());

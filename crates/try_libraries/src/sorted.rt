@@ -12,7 +12,7 @@ fn each_call_succeeds_with_memory(rt: HostRuntime) -> Result<(), Fail> {
     assert_eq!(rt; list.remove(4294967295), Some('a'));
     let mut rest = list.split_off(0)?;
     assert_eq!(rt; rest.length(), 1);
-    list.append(&mut rest)?;
+    assert!(rt; list.append(&mut rest));
     assert_eq!(rt; list.last(), 1);
     let text = format!(in rt.alloc(); "{list:?}")?;
     assert_eq!(rt; text.as_str(), "Sorted of 1");

@@ -12,19 +12,26 @@ join-requires-clause-rise c =
 
 pub invariant_of-self : goal.invariant_of-self
 invariant_of-self c =
-    joined_sound c.self.inside.chunks.items c.remove-next.new.self.items c.args.at c.index_mut.result.now c.remove-next.result _ _ (omega arith) c.self.invariant
-    c.remove-next.ensures.items c.remove-next.ensures.value c.index_mut.ensures.value
-    c.join.new.self c.in-Ok.ensures.ok
-
-pub invariant_of-self-in-Err : goal.invariant_of-self-in-Err
-invariant_of-self-in-Err c =
     let same = unjoined c.self.inside.chunks.items c.remove-next.new.self.items c.args.at c.index_mut.result.now c.remove-next.result _ _ (omega arith) c.self.invariant
     c.remove-next.ensures.items c.remove-next.ensures.value c.index_mut.ensures.value
-    c.join.new.self c.join.new.next c.insert_reserved.new.chunks.items c.in-Err.ensures.err c.in-Err.ensures.rest c.insert_reserved.ensures in
+    c.join.new.self c.join.new.next c.insert_reserved.new.chunks.items (c.join.ensures.same c.if-not-join.true) (c.join.ensures.rest c.if-not-join.true) c.insert_reserved.ensures in
     subst (λ (s : Runs). IsDirectory s c.self.inside.length c.self.inside.greatest) (sym same) c.self.invariant
 
-pub returns-in-Ok : goal.returns-in-Ok
-returns-in-Ok c =
+pub invariant_of-self-else-not-join : goal.invariant_of-self-else-not-join
+invariant_of-self-else-not-join c =
+    joined_sound c.self.inside.chunks.items c.remove-next.new.self.items c.args.at c.index_mut.result.now c.remove-next.result _ _ (omega arith) c.self.invariant
+    c.remove-next.ensures.items c.remove-next.ensures.value c.index_mut.ensures.value
+    c.join.new.self (c.join.ensures.joined c.if-not-join.false)
+
+pub returns-then-not-join : goal.returns-then-not-join
+returns-then-not-join c =
+    let same = unjoined c.self.inside.chunks.items c.remove-next.new.self.items c.args.at c.index_mut.result.now c.remove-next.result _ _ (omega arith) c.self.invariant
+    c.remove-next.ensures.items c.remove-next.ensures.value c.index_mut.ensures.value
+    c.join.new.self c.join.new.next c.insert_reserved.new.chunks.items (c.join.ensures.same c.if-not-join.true) (c.join.ensures.rest c.if-not-join.true) c.insert_reserved.ensures in
+    ap (λ (s : Runs). flat s) (same ∙ c.self.view_is)
+
+pub returns-else-not-join : goal.returns-else-not-join
+returns-else-not-join c =
     joined_flat c.self.inside.chunks.items c.remove-next.new.self.items c.args.at c.index_mut.result.now c.remove-next.result _ _ (omega arith) c.self.invariant
     c.remove-next.ensures.items c.remove-next.ensures.value c.index_mut.ensures.value
-    c.join.new.self c.in-Ok.ensures.ok ∙ ap (λ (s : Runs). flat s) c.self.view_is
+    c.join.new.self (c.join.ensures.joined c.if-not-join.false) ∙ ap (λ (s : Runs). flat s) c.self.view_is

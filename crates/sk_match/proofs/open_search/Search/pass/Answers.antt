@@ -22,17 +22,17 @@ returns-clause-passes g c = record {
   built = c.seek.ensures.built;
   need = search rules;
   asked = inr (search rules);
-  stops = stops;
+  stops = on_stops;
   rare = c.seek.ensures.rare;
-  decays = decays;
+  decays = on_decays;
   page = refl;
   bounds = refl;
 }
   where
-    stops : KeepsStops c.args.index.now c.args.id c.max-need.result c.args.self.now.tree c.seek.new.self
-    stops point most stops (inl last) = absurd (c.if-id-eq4294967295.false last)
-    stops point most stops (inr may) = c.seek.ensures.stops point most stops may
+    on_stops : KeepsStops c.args.index.now c.args.id c.max-need.result c.args.self.now.tree c.seek.new.self
+    on_stops point most stops (inl last) = absurd (c.if-id-eq4294967295.false last)
+    on_stops point most stops (inr may) = c.seek.ensures.stops point most stops may
 
-    decays : KeepsDecays c.args.index.now c.args.id c.max-need.result c.args.self.now.tree c.seek.new.self
-    decays point greatest most decays (inl last) = absurd (c.if-id-eq4294967295.false last)
-    decays point greatest most decays (inr may) = c.seek.ensures.decays point greatest most decays may
+    on_decays : KeepsDecays c.args.index.now c.args.id c.max-need.result c.args.self.now.tree c.seek.new.self
+    on_decays point greatest most decays (inl last) = absurd (c.if-id-eq4294967295.false last)
+    on_decays point greatest most decays (inr may) = c.seek.ensures.decays point greatest most decays may

@@ -13,20 +13,28 @@ join-requires-clause-rise g c =
 
 pub invariant_of-self : goal.invariant_of-self
 invariant_of-self g c =
-    kept-same c.self.inside.pieces.items _ c.self.inside.length c.self.invariant
-    (joined_sound c.self.inside.pieces.items c.remove-next.new.self.items c.args.at c.index_mut.result.now c.remove-next.result (omega arith) c.self.invariant.sound
-    c.remove-next.ensures.items c.remove-next.ensures.value c.index_mut.ensures.value c.join.new.self c.in-Ok.ensures.ok)
-    (joined_flat c.self.inside.pieces.items c.remove-next.new.self.items c.args.at c.index_mut.result.now c.remove-next.result (omega arith) c.self.invariant.sound
-    c.remove-next.ensures.items c.remove-next.ensures.value c.index_mut.ensures.value c.join.new.self c.in-Ok.ensures.ok)
-
-pub invariant_of-self-in-Err : goal.invariant_of-self-in-Err
-invariant_of-self-in-Err g c =
     let same = unjoined c.self.inside.pieces.items c.remove-next.new.self.items c.args.at c.index_mut.result.now c.remove-next.result (omega arith) c.self.invariant.sound
     c.remove-next.ensures.items c.remove-next.ensures.value c.index_mut.ensures.value
-    c.join.new.self c.join.new.next c.insert_reserved.new.pieces.items c.in-Err.ensures.err c.in-Err.ensures.rest c.insert_reserved.ensures in
+    c.join.new.self c.join.new.next c.insert_reserved.new.pieces.items (c.join.ensures.same c.if-not-join.true) (c.join.ensures.rest c.if-not-join.true) c.insert_reserved.ensures in
     subst (λ (s : List (List (ℕ × g.row.T.Denot))). ArePieces s c.self.inside.length) (sym same) c.self.invariant
 
-pub returns-in-Ok : goal.returns-in-Ok
-returns-in-Ok g c =
+pub invariant_of-self-else-not-join : goal.invariant_of-self-else-not-join
+invariant_of-self-else-not-join g c =
+    kept-same c.self.inside.pieces.items _ c.self.inside.length c.self.invariant
+    (joined_sound c.self.inside.pieces.items c.remove-next.new.self.items c.args.at c.index_mut.result.now c.remove-next.result (omega arith) c.self.invariant.sound
+    c.remove-next.ensures.items c.remove-next.ensures.value c.index_mut.ensures.value c.join.new.self (c.join.ensures.joined c.if-not-join.false))
+    (joined_flat c.self.inside.pieces.items c.remove-next.new.self.items c.args.at c.index_mut.result.now c.remove-next.result (omega arith) c.self.invariant.sound
+    c.remove-next.ensures.items c.remove-next.ensures.value c.index_mut.ensures.value c.join.new.self (c.join.ensures.joined c.if-not-join.false))
+
+pub returns-then-not-join : goal.returns-then-not-join
+returns-then-not-join g c =
+    let same = unjoined c.self.inside.pieces.items c.remove-next.new.self.items c.args.at c.index_mut.result.now c.remove-next.result (omega arith) c.self.invariant.sound
+    c.remove-next.ensures.items c.remove-next.ensures.value c.index_mut.ensures.value
+    c.join.new.self c.join.new.next c.insert_reserved.new.pieces.items (c.join.ensures.same c.if-not-join.true) (c.join.ensures.rest c.if-not-join.true) c.insert_reserved.ensures in
+    ap (λ (s : List (List (ℕ × g.row.T.Denot))). flat s) (same ∙ c.self.view_is)
+
+pub returns-else-not-join : goal.returns-else-not-join
+returns-else-not-join g c =
     joined_flat c.self.inside.pieces.items c.remove-next.new.self.items c.args.at c.index_mut.result.now c.remove-next.result (omega arith) c.self.invariant.sound
-    c.remove-next.ensures.items c.remove-next.ensures.value c.index_mut.ensures.value c.join.new.self c.in-Ok.ensures.ok ∙ ap (λ (s : List (List (ℕ × g.row.T.Denot))). flat s) c.self.view_is
+    c.remove-next.ensures.items c.remove-next.ensures.value c.index_mut.ensures.value c.join.new.self (c.join.ensures.joined c.if-not-join.false)
+    ∙ ap (λ (s : List (List (ℕ × g.row.T.Denot))). flat s) c.self.view_is
