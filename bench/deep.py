@@ -1,7 +1,8 @@
 #!/usr/bin/env python3
-"""Times the built sk_tool on long, deep and wide lines, on a stack of 8 MiB: each kind of line in a size and in a tenth
-of it. What it is answered must begin as the rules say, and the time of the size must be at most 20 times that of its
-tenth, where it is more than the fifth of a second. Ends with 1 where one is not.
+"""Times the built sk_tool on long, deep and wide lines, on a stack of 8 MiB, and on one of 2 MiB, the least that it
+wants, on finds of 1,024 words, brackets and trees that nest: each kind of line in a size and in a tenth of it. What it
+is answered must begin as the rules say, and the time of the size must be at most 20 times that of its tenth, where it
+is more than the fifth of a second. Ends with 1 where one is not.
 
 Wants the built program: (cd crates/sk_tool && rt run). Run it at the top of the repository:
 python3 bench/deep.py [WORD [FOLDER]], the lines whose titles have the word alone, and FOLDER being where crates/ is."""
@@ -14,7 +15,7 @@ import time
 
 HERE = os.path.dirname(os.path.realpath(__file__))
 LONGEST = 1_048_576
-STACK = 8 << 20
+STACK, LEAST_STACK = 8 << 20, 2 << 20
 SCHEMA = {
     "schema": [
         {"name": "body", "kind": "text"},
@@ -237,16 +238,24 @@ KINDS = [
         "ok deleted 1",
     ),
 ]
+# The same, on the least stack.
+ON_LEAST = [
+    ("1,024 words, on 2 MiB", 1_024, lambda n: [*DOCUMENT, find("a " * n)], FOUND),
+    ("1,024 different words, on 2 MiB", 1_024, lambda n: [add(different(n)), find(different(n))], FOUND),
+    ("99 brackets, on 2 MiB", 99, lambda n: [*DOCUMENT, find("(" * n + "a" + ")" * n)], FOUND),
+    ("a tree 63 deep, on 2 MiB", 63, lambda n: [*DOCUMENT, nested("and", n)], FOUND),
+]
 
 
-def limited():
-    resource.setrlimit(resource.RLIMIT_STACK, (STACK, STACK))
-
-
-def seconds(program, text):
+def seconds(program, text, stack):
     """How long the program takes over the lines, the number that it ends with, and its last answer that is no hit."""
     begun = time.monotonic()
-    ran = subprocess.run([program, "run"], input=text, capture_output=True, preexec_fn=limited)
+    ran = subprocess.run(
+        [program, "run"],
+        input=text,
+        capture_output=True,
+        preexec_fn=lambda: resource.setrlimit(resource.RLIMIT_STACK, (stack, stack)),
+    )
     took = time.monotonic() - begun
     answers = [line for line in ran.stdout.split(b"\n") if line and not line.startswith(b"hit ")]
     return took, ran.returncode, answers[-1].decode(errors="replace") if answers else ""
@@ -257,12 +266,13 @@ def main():
     folder = sys.argv[2] if len(sys.argv) > 2 else os.path.join(HERE, "..")
     program = os.path.join(folder, "crates", "sk_tool", "out", "sk_tool")
     wrong = 0
-    for title, most, lines, begins in KINDS:
+    tries = [(STACK, kind) for kind in KINDS] + [(LEAST_STACK, kind) for kind in ON_LEAST]
+    for stack, (title, most, lines, begins) in tries:
         if word not in title:
             continue
         texts = [("\n".join([json.dumps(SCHEMA), *lines(size)]) + "\n").encode() for size in (most // 10, most)]
         longest = max(len(line) for line in texts[1].split(b"\n"))
-        (early, _, _), (late, code, said) = (seconds(program, text) for text in texts)
+        (early, _, _), (late, code, said) = (seconds(program, text, stack) for text in texts)
         faults = []
         if code not in (0, 1) or not said.startswith(begins):
             faults.append(f"ends with {code}, says {said[:100]!r} and not {begins!r}")

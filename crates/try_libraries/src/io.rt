@@ -3,6 +3,7 @@ ghost use Rattle.std.specs.Prelude.{◌≤◌};
 
 use sk_io::*;
 use std::alloc::{AllocError, Global};
+use std::fs;
 use std::io::{self, Cursor, ErrorKind, Read, Write};
 use std::test::Fail;
 
@@ -209,6 +210,76 @@ fn an_interrupted_call_is_tried_64_times(rt: HostRuntime) -> Result<(), Fail> {
         let mut sink = StdSink::new(Interrupted { times });
         assert_eq!(rt; sink.put(b""), wanted, "{times} times");
     }
+    Ok(())
+}
+
+/// A writer that holds what it takes until it is flushed, which it first refuses so often.
+#[derive(Debug, Drop)]
+struct Holding<'a> {
+    held: Vec<u8>,
+    moved: &'a mut Vec<u8>,
+    refusals: u32,
+}
+
+impl<'a> Write for Holding<'a> {
+    fn write(&mut self, piece: &[u8]) -> io::Result<usize> {
+        self.held.extend_from_slice(piece)?;
+        Ok(piece.len())
+    }
+
+    fn flush(&mut self) -> io::Result<()> {
+        if let Some(left) = self.refusals.checked_sub(1) {
+            self.refusals = left;
+            return Err(ErrorKind::WriteZero.into());
+        }
+        self.moved.append(&mut self.held)?;
+        Ok(())
+    }
+}
+
+/// A sink that is to finish flushes its writer each time, and answers where that fails.
+#[test]
+fn to_finish_flushes(rt: HostRuntime) -> Result<(), Fail> {
+    for (refusals, calls, wanted, moved) in [
+        (0, 0, Ok(()), ""),
+        (0, 1, Ok(()), "abc"),
+        (1, 1, Err(Failed), ""),
+        (1, 2, Ok(()), "abc"),
+    ] {
+        let mut place = Vec::new(rt.alloc());
+        let mut sink = StdSink::new(Holding {
+            held: Vec::new(rt.alloc()),
+            moved: &mut place,
+            refusals,
+        });
+        assert_eq!(rt; put_all(&mut sink, b"abc"), Ok(()));
+        let mut last = Ok(());
+        for _ in 0..calls {
+            last = sink.finish();
+        }
+        drop(sink);
+        assert_eq!(rt; last, wanted, "{calls} calls, {refusals} refused");
+        assert_eq!(rt;
+            place.as_slice(),
+            moved.as_bytes(),
+            "{calls} calls, {refusals} refused"
+        );
+    }
+    Ok(())
+}
+
+/// A file that is written behind its source: it is read on, and then it ends.
+#[test]
+fn a_file_is_read_on(rt: HostRuntime) -> Result<(), Fail> {
+    let path = "written.txt";
+    let mut source = LazyFile::new(&rt, String::from_str(rt.alloc(), path)?);
+    fs::write(&rt, path, "abcdefg")?;
+    for (wanted, bytes) in [(Ok(4), b"abcd"), (Ok(3), b"efg."), (Ok(0), b"....")] {
+        let mut buf = *b"....";
+        assert_eq!(rt; source.take(&mut buf), wanted);
+        assert_eq!(rt; buf, *bytes);
+    }
+    fs::remove_file(&rt, path)?;
     Ok(())
 }
 

@@ -9,7 +9,12 @@ use std::sync::ledger::{Blank, Ledger};
 use std::test::Fail;
 
 /// The head behind a seek.
-fn sought<R: Env, L: Ledger>(rt: &R, blank: Blank, list: &List, target: u32) -> (u32, Option<u32>, u32)
+fn sought<R: Env, L: Ledger>(
+    rt: &R,
+    blank: Blank,
+    list: &List,
+    target: u32,
+) -> (u32, Option<u32>, u32)
     requires name { blank.name ≡ L.name }
     requires parts { blank.parts ≡ L.parts }
     requires one { blank.parts ≡ 1 }

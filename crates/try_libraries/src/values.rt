@@ -10,7 +10,7 @@ use std::sync::ledger::{Blank, Ledger};
 use std::test::Fail;
 
 /// The document's value, read once.
-fn read_one<R: Env, L: Ledger>(rt: &R, blank: Blank, list: &SlotList, id: DocId) -> &[u8]
+fn read_one<'a, R: Env, L: Ledger>(rt: &R, blank: Blank, list: &'a SlotList, id: DocId) -> &'a [u8]
     requires name { blank.name ≡ L.name }
     requires parts { blank.parts ≡ L.parts }
     requires one { blank.parts ≡ 1 }
@@ -60,7 +60,10 @@ fn each_call_succeeds_with_memory(rt: HostRuntime) -> Result<(), Fail> {
         assert!(rt; !value.as_slice().is_empty());
         list.set(id, value)?;
     }
-    assert_eq!(rt; read_one::<_, Brand>(&rt, Blank::new(1), &list, 1), b"b".as_slice());
+    assert_eq!(rt;
+        read_one::<_, Brand>(&rt, Blank::new(1), &list, 1),
+        b"b".as_slice()
+    );
     let lo = Bytes::new(rt.alloc(), b"b")?;
     let ids = two_ids::<_, Brand>(&rt, Blank::new(1), &list, Some(lo), 2);
     assert_eq!(rt; ids, (Some(1), Some(4294967295), 2));

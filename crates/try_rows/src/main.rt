@@ -61,7 +61,11 @@ fn main(rt: HostRuntime) -> io::Result<ExitCode> {
 }
 
 /// The first run of a section that is not as it should be, with its turn.
-fn differing_run<R: Env>(rt: &R, section: &Section, alloc: Global) -> Result<Option<(u64, Ran)>, AllocError> {
+fn differing_run<R: Env>(
+    rt: &R,
+    section: &Section,
+    alloc: Global,
+) -> Result<Option<(u64, Ran)>, AllocError> {
     let mut whole = String::new(alloc);
     for turn in 0..u64::MAX {
         let ran = section.run::<_, Brand>(rt, Blank::new(1), alloc, turn)?;

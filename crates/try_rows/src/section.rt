@@ -6,8 +6,8 @@ use crate::setting::{Each, Setting};
 use sk_engine::{Status, start};
 use sk_io::{MemorySink, MemorySource};
 use std::alloc::{AllocError, Global};
-use std::str;
 use std::rt::Env;
+use std::str;
 use std::sync::ledger::{Blank, Ledger};
 
 /// What is said where the word is no form.
@@ -161,7 +161,13 @@ impl Section {
 
     /// Runs the lines over a store of their own. Where each call of a stream is to fail in turn, that of the turn does,
     /// and none in turn 0.
-    pub fn run<R: Env, L: Ledger>(&self, rt: &R, blank: Blank, alloc: Global, turn: u64) -> Result<Ran, AllocError>
+    pub fn run<R: Env, L: Ledger>(
+        &self,
+        rt: &R,
+        blank: Blank,
+        alloc: Global,
+        turn: u64,
+    ) -> Result<Ran, AllocError>
         requires name { blank.name ≡ L.name }
         requires parts { blank.parts ≡ L.parts }
         requires one { blank.parts ≡ 1 }
