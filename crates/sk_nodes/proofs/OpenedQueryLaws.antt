@@ -1,7 +1,7 @@
 -- What the accounts of a query's node begin with.
-use Rattle.std.proofs.Common.{Result, Ok, Err, IfOk, ◌≡◌, ◌≤◌, ◌<◌, ◌^◌, ◌⊎◌, ◌∙◌, ℕ, true, false, List, [], ◌∷◌, length, Option, Some, inl, inr, refl, sym, subst, ap, arith}
+use Rattle.std.proofs.Common.{Result, Ok, Err, IfOk, ◌≡◌, ◌≤◌, ◌<◌, ◌^◌, ◌∙◌, ℕ, false, List, [], ◌∷◌, Option, Some, inl, inr, refl, sym, subst, ap, arith}
 use Rattle.sk_base.specs.declared.find.Scheme.{Scheme}
-use Rattle.sk_base.specs.Numbers.{Docs, terms_with}
+use Rattle.sk_base.specs.Numbers.{terms_with}
 use Rattle.sk_query.specs.declared.form.Form.{Form}
 use Rattle.sk_query.specs.Trees as Trees
 use Rattle.sk_model.specs.Edits.{document_at}
@@ -12,7 +12,7 @@ use Rattle.sk_decay.specs.Sides.{paired, greatest_under}
 use Rattle.sk_nodes.specs.Left.{rest}
 use Rattle.sk_nodes.specs.Sound.{IsTop, Sound}
 use Rattle.sk_nodes.proofs.NodeLaws.{greatest_under-mono}
-use Rattle.sk_model.specs.Sharp.{terms_in, flat_lists, rare_lists}
+use Rattle.sk_model.specs.Sharp.{terms_in}
 use Rattle.sk_index.specs.Indexed.{Indexed}
 use Rattle.sk_nodes.specs.declared.top.Top.{Top}
 use Rattle.sk_nodes.specs.Shapes.{Shape, ended, pair, any, Sides, no_sides, side}

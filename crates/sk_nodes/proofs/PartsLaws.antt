@@ -1,5 +1,5 @@
 -- What holds of parts holds of the pieces that they are split into, and of the sides of one node.
-use Rattle.std.proofs.Common.{◌≡◌, ◌≤◌, ◌<◌, ◌+◌, ◌^◌, ◌&&◌, ℕ, Bool, true, false, [], ◌∷◌, Option, None, Some, refl, sym, subst, ◌∙◌, arith, add_comm}
+use Rattle.std.proofs.Common.{◌≡◌, ◌≤◌, ◌<◌, ◌^◌, ◌&&◌, ℕ, Bool, true, false, [], ◌∷◌, Option, None, Some, refl, sym, subst, ◌∙◌, arith, add_comm}
 use Rattle.sk_base.specs.declared.find.Scheme.{Scheme}
 use Rattle.sk_query.specs.Fits.{is_sound, are_sound}
 use Rattle.sk_model.specs.Documents.{Document}

@@ -15,7 +15,6 @@ use Rattle.std.proofs.lemmas.Result.{IfOk-weaker}
 use Rattle.sk_query.specs.Trees as Trees
 use Rattle.sk_query.specs.Trees.{query_view, queries_view}
 use Rattle.sk_query.proofs.ViewLaws.{view-Nothing, view-All, view-Term, view-Wildcard, view-Near, view-Phrase, view-Synonym, view-Scale, view-Range}
-use Rattle.sk_model.specs.Sharp.{terms_in}
 use Rattle.sk_nodes.proofs.NestLaws.{one_term, paired_nest}
 use Rattle.sk_nodes.proofs.LedLaws.{lone_following}
 use Rattle.std.proofs.Common.{[], ◌∷◌}
