@@ -1,15 +1,22 @@
 -- What the accounts of a query's node begin with.
-use Rattle.std.proofs.Common.{◌≡◌, ◌≤◌, ◌<◌, ◌^◌, ◌⊎◌, ◌∙◌, ℕ, true, false, List, [], ◌∷◌, length, Option, Some, inl, inr, refl, sym, subst, ap, arith}
+use Rattle.std.proofs.Common.{Result, Ok, Err, IfOk, ◌≡◌, ◌≤◌, ◌<◌, ◌^◌, ◌∙◌, ℕ, false, List, [], ◌∷◌, Option, Some, inl, inr, refl, sym, subst, ap, arith}
 use Rattle.sk_base.specs.declared.find.Scheme.{Scheme}
-use Rattle.sk_base.specs.Numbers.{Docs, terms_with}
+use Rattle.sk_base.specs.Numbers.{terms_with}
 use Rattle.sk_query.specs.declared.form.Form.{Form}
 use Rattle.sk_query.specs.Trees as Trees
-use Rattle.sk_model.specs.Bounds.{term_ceil}
-use Rattle.sk_model.specs.Sharp.{terms_in, flat_lists, rare_lists}
+use Rattle.sk_model.specs.Edits.{document_at}
+use Rattle.sk_model.specs.Combining.{combined}
+use Rattle.sk_model.specs.Bounds.{sum_in, ceil, ceils, ceil_of, term_ceil}
+use Rattle.sk_nodes.specs.Parts.{Splits, AreSides}
+use Rattle.sk_decay.specs.Sides.{paired, greatest_under}
+use Rattle.sk_nodes.specs.Left.{rest}
+use Rattle.sk_nodes.specs.Sound.{IsTop, Sound}
+use Rattle.sk_nodes.proofs.NodeLaws.{greatest_under-mono}
+use Rattle.sk_model.specs.Sharp.{terms_in}
 use Rattle.sk_index.specs.Indexed.{Indexed}
 use Rattle.sk_nodes.specs.declared.top.Top.{Top}
-use Rattle.sk_nodes.specs.Shapes.{Shape, ended, pair, any, Sides}
-use Rattle.sk_nodes.specs.Opened.{count_in, is_nest, others_of}
+use Rattle.sk_nodes.specs.Shapes.{Shape, ended, pair, any, Sides, no_sides, side}
+use Rattle.sk_nodes.specs.Opened.{count_in, score_of, part_scores, joint_score_of, is_nest, others_of, OpensSides, Gathers, Opens}
 use Rattle.sk_nodes.specs.Moved.{Accounts, SeekAccounts}
 use Rattle.sk_nodes.specs.Any.{OpensTerms}
 use Rattle.sk_nodes.specs.Flat.{IsNest, IsJoint, OpensNest, OpensFlat, PairsNest, SplitsTerms}
@@ -94,6 +101,49 @@ module _ (i : Indexed) (scheme : Scheme) (factor : ℕ) (t : Top) (s : Shape) (b
       other : (u : List ℕ) → Trees.parts form ts ≡ Trees.term u → OpensTerm i t s u (term_ceil scheme factor u i.live.documents) before after
       other u is = cc
 
+-- ---- the node of sides
+
+pub sides_opened : (i : Indexed) (form joint : Form) (factor : ℕ) (ts : Trees.Trees) (scheme : Scheme) (ss : Sides) (t : Top) (s : Shape) → AreSides form joint factor ts ts → OpensSides i ss (part_scores ts scheme factor) (sum_in (ceils ts scheme factor i.live.documents))
+    → Gathers i joint ss t s → Opens i t s (joint_score_of form ts scheme factor) (ceil_of form (ceils ts scheme factor i.live.documents))
+sides_opened i form joint factor ts scheme ss t s sides opens gathers = record {
+  top = gathers.top;
+  sound = gathers.sound;
+  gives = λ id. gathers.gives id ∙ ap (combined joint) (opens.gives id) ∙ sym (sides.scores scheme (document_at id i.live.documents));
+  ceiling = omega (arith, gathers.ceiling, opens.ceiling, sides.ceiling scheme i.live.documents);
+}
+
+-- one side alone
+pub one_side_opened : (i : Indexed) (ts : Trees.Trees) (query : Trees.Tree) (scheme : Scheme) (factor : ℕ) (ss : Sides) (t : Top) (s : Shape) → ts ≡ Trees.tree query Trees.no_trees → ss ≡ side t s no_sides
+    → Opens i t s (score_of query scheme factor) (ceil query scheme factor i.live.documents) → OpensSides i ss (part_scores ts scheme factor) (sum_in (ceils ts scheme factor i.live.documents))
+one_side_opened i ts query scheme factor ss t s alone is opens =
+    subst (λ (us : Trees.Trees). OpensSides i ss (part_scores us scheme factor) (sum_in (ceils us scheme factor i.live.documents))) (sym alone)
+    (subst (λ (rs : Sides). OpensSides i rs (part_scores (Trees.tree query Trees.no_trees) scheme factor) (sum_in (ceils (Trees.tree query Trees.no_trees) scheme factor i.live.documents))) (sym is) (record {
+      sound = record { top = opens.top; sound = opens.sound; others = tt };
+      gives = λ id. (λ j. opens.gives id j ∷ []);
+      ceiling = omega (arith, opens.ceiling);
+    }))
+
+-- the node of two
+pub pair_opened : (i : Indexed) (form other : Form) (factor : ℕ) (ts fs bs : Trees.Trees) (scheme : Scheme) (ta : Top) (a : Shape) (tb : Top) (b : Shape) (t : Top) (s : Shape) → other ≡ others_of form → Splits form factor ts fs bs
+    → Opens i ta a (joint_score_of form fs scheme factor) (ceil_of form (ceils fs scheme factor i.live.documents)) → Opens i tb b (joint_score_of other bs scheme factor) (ceil_of other (ceils bs scheme factor i.live.documents))
+    → IsTop i t s → Sound i s → ((id : ℕ) → rest i s id ≡ paired form (rest i a id) (rest i b id)) → t.greatest ≤ greatest_under form ta.greatest tb.greatest
+    → Opens i t s (joint_score_of form ts scheme factor) (ceil_of form (ceils ts scheme factor i.live.documents))
+pair_opened i form other factor ts fs bs scheme ta a tb b t s is splits one two top sound gives ceiling =
+    let docs = i.live.documents in
+    let second = subst (λ (f : Form). Opens i tb b (joint_score_of f bs scheme factor) (ceil_of f (ceils bs scheme factor docs))) is two in
+    let most = greatest_under-mono form (ceil_of form (ceils fs scheme factor docs)) (ceil_of (others_of form) (ceils bs scheme factor docs)) ta.greatest tb.greatest one.ceiling second.ceiling in
+    record {
+      top = top;
+      sound = sound;
+      gives = λ id. gives id ∙ (λ j. paired form (one.gives id j) (second.gives id j)) ∙ sym (splits.scores scheme (document_at id docs));
+      ceiling = omega (arith, ceiling, most, splits.ceiling scheme docs);
+    }
+
+-- four facts of one answer
+pub IfOk-four : {T E : Type 0} (r : Result T E) (A B C D F : T → Type 0) → ((p : T) → A p → B p → C p → D p → F p) → IfOk r A → IfOk r B → IfOk r C → IfOk r D → IfOk r F
+IfOk-four (Ok p) A B C D F h a b c d = h p a b c d
+IfOk-four (Err e) A B C D F h a b c d = a
+
 -- ---- parts
 
 -- one part alone
@@ -134,12 +184,12 @@ odd_parts_query i form ts scheme factor t s before after odd many = record {
     leads_not Form.AndMaybe lists can odd = cc
 
 -- the sides of an or
-pub any_parts_query : (i : Indexed) (form : Form) (ts us : Trees.Trees) (ss : Sides) (scheme : Scheme) (factor : ℕ) (t : Top) (s : Shape) (before between after : ℕ) → form ≡ Form.Or → 3 ≤ count_in ts → terms_in ts ≡ terms_in us
-    → ((lists : List (List ℕ)) → terms_in us ≡ Some lists → OpensTerms i ss lists before between) → Accounts i 0 0 between after (any ss) s → OpensParts i form ts scheme factor t s before after
-any_parts_query i form ts us ss scheme factor t s before between after is many same opens accounts = record {
-  nest = λ lists joint e. terms_nest i form ss s lists before between after is (opens lists (sym same ∙ e)) accounts;
+pub any_parts_query : (i : Indexed) (form : Form) (ts : Trees.Trees) (ss : Sides) (scheme : Scheme) (factor : ℕ) (t : Top) (s : Shape) (before between after : ℕ) → form ≡ Form.Or → 3 ≤ count_in ts
+    → ((lists : List (List ℕ)) → terms_in ts ≡ Some lists → OpensTerms i ss lists before between) → Accounts i 0 0 between after (any ss) s → OpensParts i form ts scheme factor t s before after
+any_parts_query i form ts ss scheme factor t s before between after is many opens accounts = record {
+  nest = λ lists joint e. terms_nest i form ss s lists before between after is (opens lists e) accounts;
   led = λ lists can e. absurd (or_leads_not form lists is can);
-  follows = λ lists so e. terms_follow i ts ss s lists before between after many e (opens lists (sym same ∙ e)) accounts;
+  follows = λ lists so e. terms_follow i ts ss s lists before between after many e (opens lists e) accounts;
   alone = λ term e. absurd (many_not_one ts term (omega (arith, many)) e);
   fading = λ x y or e. absurd (many_not_two ts x y many e);
 }

@@ -1,13 +1,17 @@
 -- What holds of parts holds of the pieces that they are split into, and of the sides of one node.
-use Rattle.std.proofs.Common.{◌≡◌, ◌≤◌, ◌<◌, ◌^◌, ℕ, true, false, refl, subst, ◌∙◌, add_comm}
+use Rattle.std.proofs.Common.{◌≡◌, ◌≤◌, ◌<◌, ◌^◌, ◌&&◌, ℕ, Bool, true, false, [], ◌∷◌, Option, None, Some, refl, sym, subst, ◌∙◌, arith, add_comm}
+use Rattle.sk_base.specs.declared.find.Scheme.{Scheme}
+use Rattle.sk_query.specs.Fits.{is_sound, are_sound}
+use Rattle.sk_model.specs.Documents.{Document}
+use Rattle.sk_model.specs.Scores.{score}
 use Rattle.sk_query.specs.declared.form.Form.{Form}
 use Rattle.sk_query.specs.Trees as Trees
-use Rattle.sk_model.specs.Bounds.{ceils, ceil_of}
+use Rattle.sk_model.specs.Bounds.{ceil, ceils, ceil_of}
 use Rattle.sk_model.specs.Allowance.{leaves_readings}
 use Rattle.sk_model.proofs.CombiningLaws.{both-turned}
-use Rattle.sk_nodes.specs.Opened.{count_in, joint_score_of, is_nest, AreParts}
-use Rattle.sk_nodes.specs.Parts.{Splits, AreSides}
-use Rattle.sk_nodes.proofs.OpenLaws.{joined, split_front, split_back, split_front_size, split_back_size, split_scores, split_ceiling, split_readings, split_fits, odd_are, odd_scores, odd_ceiling, odd_fits, or_are, or_scores, or_ceiling, or_fits}
+use Rattle.sk_nodes.specs.Opened.{IsPart, count_in, score_of, joint_score_of, is_nest, AreParts}
+use Rattle.sk_nodes.specs.Parts.{Splits, Halves, IsOfParts, IsOnlyPart, AreSides}
+use Rattle.sk_nodes.proofs.OpenLaws.{combined-one, halves_scores, halves_ceiling, joined, split_front, split_back, split_front_size, split_back_size, split_scores, split_ceiling, split_readings, split_fits, odd_are, odd_scores, odd_ceiling, odd_fits, or_are, or_scores, or_ceiling, or_fits}
 use Rattle.sk_nodes.proofs.NestLaws.{split_terms, turned_terms}
 
 -- pieces in the order of the parts
@@ -63,3 +67,70 @@ or_sides form factor ts e are small = record {
   fits = or_fits form factor ts e are small;
   readings = λ docs. refl;
 }
+
+-- halves of the sides of one node
+pub halves : (factor : ℕ) (ts fs bs : Trees.Trees) → ts ≡ joined fs bs → AreParts Form.Xor factor ts → 0 < count_in fs → 0 < count_in bs → Halves factor ts fs bs
+halves factor ts fs bs e are front_some back_some = record {
+  front = split_front Form.Xor factor ts fs bs e are front_some back_some;
+  back = split_back Form.Xor factor ts fs bs e are front_some back_some;
+  front_size = split_front_size Form.Xor factor ts fs bs e are front_some back_some;
+  back_size = split_back_size Form.Xor factor ts fs bs e are front_some back_some;
+  scores = halves_scores factor ts fs bs e;
+  ceiling = halves_ceiling factor ts fs bs e;
+  readings = split_readings Form.Xor factor ts fs bs e are front_some back_some;
+  terms = λ lists found. split_terms ts fs bs lists e found;
+}
+
+-- a query of several parts
+pub of_parts : (factor : ℕ) (query : Trees.Tree) (form : Form) (ts : Trees.Trees) → query ≡ Trees.parts form ts → IsPart factor query → IsOfParts factor query form ts
+of_parts factor query form ts e is = subst (λ (q : Trees.Tree). IsOfParts factor q form ts) (sym e) (by (subst (λ (q : Trees.Tree). IsPart factor q) e is))
+  where
+    given : (us : Trees.Trees) → is_sound factor (Trees.parts form us) ≡ true → (0 < count_in us) × (are_sound factor us ≡ true)
+    given Trees.no_trees h = cc
+    given (Trees.tree u us) h = (omega arith, h)
+
+    by : IsPart factor (Trees.parts form ts) → IsOfParts factor (Trees.parts form ts) form ts
+    by is = let are = given ts is.sound in record {
+      parts = record { some = are.0; sound = are.1; leaves = is.leaves };
+      size = refl;
+      scores = λ scheme o. scored o scheme;
+      ceiling = λ scheme docs. refl;
+      readings = λ docs. refl;
+    }
+      where
+        scored : (o : Option Document) (scheme : Scheme) → score_of (Trees.parts form ts) scheme factor o ≡ joint_score_of form ts scheme factor o
+        scored None scheme = refl
+        scored (Some d) scheme = refl
+
+-- one part alone
+pub only_part : (form : Form) (factor : ℕ) (ts : Trees.Trees) (query : Trees.Tree) → ts ≡ Trees.tree query Trees.no_trees → AreParts form factor ts → IsOnlyPart form factor ts query
+only_part form factor ts query e are = subst (λ (us : Trees.Trees). IsOnlyPart form factor us query) (sym e) (by (subst (λ (us : Trees.Trees). AreParts form factor us) e are))
+  where
+    by : AreParts form factor (Trees.tree query Trees.no_trees) → IsOnlyPart form factor (Trees.tree query Trees.no_trees) query
+    by are = record {
+      part = record { sound = (and_true are.sound).0; leaves = omega (arith, are.leaves) };
+      size = omega arith;
+      scores = λ scheme o. scored o scheme;
+      ceiling = λ scheme docs. ceil_of-one form (ceil query scheme factor docs);
+      readings = λ docs. omega arith;
+    }
+      where
+        and_true : (is_sound factor query && true) ≡ true → (is_sound factor query ≡ true) × Unit {0}
+        and_true h = (left (is_sound factor query) h, tt)
+          where
+            left : (b : Bool) → (b && true) ≡ true → b ≡ true
+            left true h = refl
+            left false h = cc
+
+        ceil_of-one : (form : Form) (n : ℕ) → ceil_of form (n ∷ []) ≡ n
+        ceil_of-one Form.And n = omega arith
+        ceil_of-one Form.Or n = omega arith
+        ceil_of-one Form.Xor n = omega arith
+        ceil_of-one Form.Max n = omega arith
+        ceil_of-one Form.AndNot n = omega arith
+        ceil_of-one Form.AndMaybe n = omega arith
+        ceil_of-one Form.Filter n = omega arith
+
+        scored : (o : Option Document) (scheme : Scheme) → joint_score_of form (Trees.tree query Trees.no_trees) scheme factor o ≡ score_of query scheme factor o
+        scored None scheme = refl
+        scored (Some d) scheme = combined-one form (score query scheme factor d)

@@ -1,8 +1,9 @@
 -- What a node is opened for.
-use Rattle.std.specs.Prelude.{◌≡◌, ◌≤◌, ◌<◌, ◌+◌, ◌^◌, ℕ, nat_le, Bool, true, All, List, [], ◌∷◌, length, Option, None, Some}
+use Rattle.std.specs.Prelude.{◌≡◌, ◌≤◌, ◌<◌, ◌+◌, ◌^◌, ℕ, nat_le, Bool, true, All, List, [], ◌∷◌, length, map, Option, None, Some}
 use Rattle.sk_base.specs.declared.find.Scheme.{Scheme}
 use Rattle.sk_base.specs.Loads.{IsLight}
 use Rattle.sk_sorted.specs.Entries.{AreSorted}
+use Rattle.sk_dict.specs.Terms.{term_at}
 use Rattle.sk_query.specs.declared.form.Form.{Form}
 use Rattle.sk_query.specs.Trees as Query
 use Rattle.sk_query.specs.Fits.{is_sound, are_sound, leaves_of, leaves_in}
@@ -116,6 +117,10 @@ abbrev pub joint_form : Scheme → Form
 joint_form Scheme.Bool = Form.Max
 joint_form Scheme.Coord = Form.Max
 joint_form Scheme.Nnn = Form.Or
+
+-- The synonym of the terms with these numbers.
+abbrev pub synonym_of : Indexed → List ℕ → Query.Tree
+synonym_of i ns = Query.synonym (map (term_at i.terms) ns)
 
 -- Sides give these lists of scores, and weigh no more together than this.
 pub record OpensSides (i : Indexed) (ss : Sides) (f : Option Document → List (Option ℕ)) (most : ℕ) : Type 0 where

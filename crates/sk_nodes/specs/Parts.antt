@@ -1,5 +1,5 @@
 -- How the parts of a query come to nodes of two sides, and to the sides of one node.
-use Rattle.std.specs.Prelude.{◌≡◌, ◌≤◌, ◌<◌, ◌+◌, ◌^◌, ℕ, All, List, Option, Some}
+use Rattle.std.specs.Prelude.{◌≡◌, ◌≤◌, ◌<◌, ◌+◌, ◌^◌, ◌++◌, ℕ, All, List, Option, Some}
 use Rattle.sk_base.specs.declared.find.Scheme.{Scheme}
 use Rattle.sk_base.specs.Loads.{IsLight}
 use Rattle.sk_base.specs.Numbers.{Docs}
@@ -7,12 +7,12 @@ use Rattle.sk_query.specs.declared.form.Form.{Form}
 use Rattle.sk_query.specs.Trees as Query
 use Rattle.sk_model.specs.Documents.{Document}
 use Rattle.sk_model.specs.Combining.{combined}
-use Rattle.sk_model.specs.Bounds.{sum_in, ceils, ceil_of}
-use Rattle.sk_model.specs.Allowance.{leaves_readings}
+use Rattle.sk_model.specs.Bounds.{sum_in, ceil, ceils, ceil_of}
+use Rattle.sk_model.specs.Allowance.{leaf_readings, leaves_readings}
 use Rattle.sk_model.specs.Sharp.{terms_in}
 use Rattle.sk_decay.specs.Sides.{paired, greatest_under}
 use Rattle.sk_nodes.specs.Flat.{SplitsTerms}
-use Rattle.sk_nodes.specs.Opened.{part_scores, joint_score_of, others_of, parts_size, AreParts}
+use Rattle.sk_nodes.specs.Opened.{IsPart, score_of, part_scores, joint_score_of, others_of, query_size, parts_size, AreParts}
 
 -- The parts of a form were split into those that are put together first and the others: a node of two sides gives what the form does.
 pub record Splits (form : Form) (factor : ℕ) (whole first others : Query.Trees) : Type 0 where
@@ -25,6 +25,33 @@ pub record Splits (form : Form) (factor : ℕ) (whole first others : Query.Trees
   pub fits : (scheme : Scheme) (docs : Docs) → All IsLight docs → ceil_of form (ceils first scheme factor docs) + ceil_of (others_of form) (ceils others scheme factor docs) < 2 ^ 63
   pub readings : (docs : Docs) → leaves_readings whole docs ≡ leaves_readings first docs + leaves_readings others docs
   pub terms : (lists : List (List ℕ)) → terms_in whole ≡ Some lists → SplitsTerms lists (terms_in first) (terms_in others)
+
+-- The sides of one node were split into halves.
+pub record Halves (factor : ℕ) (whole first others : Query.Trees) : Type 0 where
+  pub front : AreParts Form.Xor factor first
+  pub back : AreParts Form.Xor factor others
+  pub front_size : parts_size first < parts_size whole
+  pub back_size : parts_size others < parts_size whole
+  pub scores : (scheme : Scheme) (o : Option Document) → part_scores whole scheme factor o ≡ part_scores first scheme factor o ++ part_scores others scheme factor o
+  pub ceiling : (scheme : Scheme) (docs : Docs) → sum_in (ceils whole scheme factor docs) ≡ sum_in (ceils first scheme factor docs) + sum_in (ceils others scheme factor docs)
+  pub readings : (docs : Docs) → leaves_readings whole docs ≡ leaves_readings first docs + leaves_readings others docs
+  pub terms : (lists : List (List ℕ)) → terms_in whole ≡ Some lists → SplitsTerms lists (terms_in first) (terms_in others)
+
+-- A query of several parts is opened as its parts are, under its factor.
+pub record IsOfParts (factor : ℕ) (query : Query.Tree) (form : Form) (ts : Query.Trees) : Type 0 where
+  pub parts : AreParts form factor ts
+  pub size : query_size query ≡ 1 + parts_size ts
+  pub scores : (scheme : Scheme) (o : Option Document) → score_of query scheme factor o ≡ joint_score_of form ts scheme factor o
+  pub ceiling : (scheme : Scheme) (docs : Docs) → ceil query scheme factor docs ≡ ceil_of form (ceils ts scheme factor docs)
+  pub readings : (docs : Docs) → leaf_readings query docs ≡ leaves_readings ts docs
+
+-- One part alone is opened as its query is.
+pub record IsOnlyPart (form : Form) (factor : ℕ) (parts : Query.Trees) (query : Query.Tree) : Type 0 where
+  pub part : IsPart factor query
+  pub size : query_size query ≡ parts_size parts
+  pub scores : (scheme : Scheme) (o : Option Document) → joint_score_of form parts scheme factor o ≡ score_of query scheme factor o
+  pub ceiling : (scheme : Scheme) (docs : Docs) → ceil_of form (ceils parts scheme factor docs) ≡ ceil query scheme factor docs
+  pub readings : (docs : Docs) → leaves_readings parts docs ≡ leaf_readings query docs
 
 -- The parts of a form are sides of one node, which makes of their scores what the form `joint` does.
 pub record AreSides (form joint : Form) (factor : ℕ) (whole sides : Query.Trees) : Type 0 where

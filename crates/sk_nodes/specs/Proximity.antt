@@ -1,5 +1,5 @@
 -- Terms that have to stand near, or as a phrase.
-use Rattle.std.specs.Prelude.{◌≡◌, ◌≤◌, ◌<◌, ◌+◌, ℕ, Bool, true, List, [], ◌∷◌, length, map, filter, is_some, Some}
+use Rattle.std.specs.Prelude.{◌≡◌, ◌≤◌, ◌<◌, ◌+◌, ℕ, Bool, true, List, [], ◌∷◌, length, map, filter, is_some}
 use Rattle.sk_sorted.specs.Entries.{AreSorted, from, has}
 use Rattle.sk_dict.specs.Terms.{term_at, number_of}
 use Rattle.sk_query.specs.Trees as Query

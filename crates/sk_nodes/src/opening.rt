@@ -22,7 +22,7 @@ ghost use Rattle.sk_nodes.specs.Opened.{CanRead, CanOpen, IsPart, score_of, part
 use crate::begun::{any_of, odd_of, one_side, pair_of, tested_of, with_more};
 use crate::leaf::{Leaf, ListOf, list_length};
 use crate::node::Node;
-use crate::parts::{any_parts, odd_halves, odd_parts, only_part, others_of, parts_of, split_parts};
+use crate::parts::{is_many, is_nest, odd_halves, only_part, others_of, parts_of, split_parts};
 use crate::proximity::{Proximity, Standing};
 use crate::ranges::open_range;
 use crate::synonym::{open_synonym, open_wildcard};
@@ -54,7 +54,7 @@ pub(crate) fn open_node<L: Ledger>(
     ensures counts { Counts spent.old spent.new steps.old steps.new most.new }
     ensures accounts { IfOk result (λ p. OpensQuery index.now (query_view query.now) scheme factor p.0 (shape_of p.1) spent.old spent.new) }
 {
-    if let Some((form, parts)) = parts_of(query, factor) {
+    if let Some((form, parts)) = parts_of(query) {
         return open_parts(
             alloc, index, form, parts, scheme, factor, most, spent, steps,
         );
@@ -199,22 +199,22 @@ fn open_parts<L: Ledger>(
     ensures counts { Counts spent.old spent.new steps.old steps.new most.new }
     ensures accounts { IfOk result (λ p. OpensParts index.now form (queries_view parts.now) scheme factor p.0 (shape_of p.1) spent.old spent.new) }
 {
-    if let Some(part) = only_part(form, parts, factor) {
+    if let Some(part) = only_part(parts) {
         return open_node(alloc, index, part, scheme, factor, most, spent, steps);
     }
-    if let Some(sides) = odd_parts(form, parts, factor) {
-        let (tops, nodes) = open_sides(alloc, index, sides, scheme, factor, most, spent, steps)?;
+    if !is_nest(form, parts) {
+        let (tops, nodes) = open_sides(alloc, index, parts, scheme, factor, most, spent, steps)?;
         let (top, node) = odd_of(index, tops, nodes, spent, steps);
         return Ok((top, node));
     }
-    if let Some(sides) = any_parts(form, parts, factor) {
+    if is_many(form, parts.len()) {
         let (all_tops, all_nodes) = open_sides(
-            alloc, index, sides, scheme, factor, most, spent, steps,
+            alloc, index, parts, scheme, factor, most, spent, steps,
         )?;
         let (top, node) = any_of(index, all_tops, all_nodes, spent, steps);
         return Ok((top, node));
     }
-    let (front, back) = split_parts(index, form, parts, factor);
+    let (front, back) = split_parts(index, form, parts);
     let (ta, a) = open_parts(
         alloc, index, form, front, scheme, factor, most, spent, steps,
     )?;
@@ -252,12 +252,12 @@ fn open_sides<L: Ledger>(
     ensures counts { Counts spent.old spent.new steps.old steps.new most.new }
     ensures terms { IfOk result (λ p. (lists : List (List ℕ)) → terms_in (queries_view parts.now) ≡ Some lists → OpensTerms index.now (sides_on p.0.items p.1.items) lists spent.old spent.new) }
 {
-    if let Some(part) = only_part(Form::Xor, parts, factor) {
+    if let Some(part) = only_part(parts) {
         let (top, node) = open_node(alloc, index, part, scheme, factor, most, spent, steps)?;
         let (tops, nodes) = one_side(alloc, top, node)?;
         return Ok((tops, nodes));
     }
-    let (front, back) = odd_halves(parts, factor);
+    let (front, back) = odd_halves(parts);
     let (some_tops, some_nodes) = open_sides(
         alloc, index, front, scheme, factor, most, spent, steps,
     )?;

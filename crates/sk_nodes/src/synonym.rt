@@ -16,7 +16,7 @@ ghost use Rattle.sk_nodes.specs.Shapes.{shape_of};
 ghost use Rattle.sk_nodes.specs.Left.{unread_of};
 ghost use Rattle.sk_nodes.specs.Flat.{OpensNest, OpensFlat};
 ghost use Rattle.sk_nodes.specs.Proximity.{AreThere};
-ghost use Rattle.sk_nodes.specs.Opened.{CanOpen, IsPart, score_of, joint_form, Opens};
+ghost use Rattle.sk_nodes.specs.Opened.{CanOpen, IsPart, score_of, joint_form, synonym_of, Opens};
 
 use crate::begun::pair_of;
 use crate::node::Node;
@@ -119,7 +119,7 @@ fn open_joint<L: Ledger>(
     requires there { AreThere index.now numbers.now }
     requires apart { are_different (map (term_at index.now.terms) numbers.now) ≡ true }
     requires can { CanOpen index.now factor spent.old most.old }
-    ensures opens { IfOk result (λ p. Opens index.now p.0 (shape_of p.1) (score_of (QueryTree.synonym (map (term_at index.now.terms) numbers.now)) scheme factor) (2 ^ 45)) }
+    ensures opens { IfOk result (λ p. Opens index.now p.0 (shape_of p.1) (score_of (synonym_of index.now numbers.now) scheme factor) (2 ^ 45)) }
     ensures pays { IfOk result (λ p. Pays spent.old spent.new most.old most.new (unread_of index.now (shape_of p.1)) (lengths_of (map (term_at index.now.terms) numbers.now) index.now.live.documents)) }
     ensures counts { Counts spent.old spent.new steps.old steps.new most.new }
     ensures nest { IfOk result (λ p. OpensNest index.now (joint_form scheme) (shape_of p.1) (map (term_at index.now.terms) numbers.now) spent.old spent.new) }
@@ -150,7 +150,7 @@ fn open_one<L: Ledger>(
     requires one { length numbers.now ≡ 1 }
     requires there { AreThere index.now numbers.now }
     requires can { CanOpen index.now factor spent.old most.old }
-    ensures opens { IfOk result (λ p. Opens index.now p.0 (shape_of p.1) (score_of (QueryTree.synonym (map (term_at index.now.terms) numbers.now)) scheme factor) (2 ^ 45)) }
+    ensures opens { IfOk result (λ p. Opens index.now p.0 (shape_of p.1) (score_of (synonym_of index.now numbers.now) scheme factor) (2 ^ 45)) }
     ensures pays { IfOk result (λ p. Pays spent.old spent.new most.old most.new (unread_of index.now (shape_of p.1)) (lengths_of (map (term_at index.now.terms) numbers.now) index.now.live.documents)) }
     ensures counts { Counts spent.old spent.new steps.old steps.new most.new }
     ensures nest { IfOk result (λ p. (form : Form) → OpensNest index.now form (shape_of p.1) (map (term_at index.now.terms) numbers.now) spent.old spent.new) }
@@ -175,7 +175,7 @@ fn split_numbers<'a>(
     ensures back_apart { are_different (map (term_at index.now.terms) result.1.now) ≡ true }
     ensures front_shorter { length result.0.now < length numbers.now }
     ensures back_shorter { length result.1.now < length numbers.now }
-    ensures scores { (factor : ℕ) (o : Option Document) → score_of (QueryTree.synonym (map (term_at index.now.terms) numbers.now)) scheme factor o ≡ paired (joint_form scheme) (score_of (QueryTree.synonym (map (term_at index.now.terms) result.0.now)) scheme factor o) (score_of (QueryTree.synonym (map (term_at index.now.terms) result.1.now)) scheme factor o) }
+    ensures scores { (factor : ℕ) (o : Option Document) → score_of (synonym_of index.now numbers.now) scheme factor o ≡ paired (joint_form scheme) (score_of (synonym_of index.now result.0.now) scheme factor o) (score_of (synonym_of index.now result.1.now) scheme factor o) }
     ensures terms { map (term_at index.now.terms) numbers.now ≡ map (term_at index.now.terms) result.0.now ++ map (term_at index.now.terms) result.1.now }
     ensures readings { lengths_of (map (term_at index.now.terms) numbers.now) index.now.live.documents ≡ lengths_of (map (term_at index.now.terms) result.0.now) index.now.live.documents + lengths_of (map (term_at index.now.terms) result.1.now) index.now.live.documents }
 {

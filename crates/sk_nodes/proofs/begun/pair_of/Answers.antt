@@ -2,7 +2,7 @@
 use Rattle.std.proofs.Common.{ℕ, Option, ap, sym, ◌∙◌, refl, arith}
 use Rattle.sk_model.proofs.CoverLaws.{covers_exactly}
 use Rattle.sk_decay.specs.Sides.{paired}
-use Rattle.sk_nodes.specs.Shapes.{pair, shape_of}
+use Rattle.sk_nodes.specs.Shapes.{shape_of}
 use Rattle.sk_nodes.specs.Left.{rest, from_on}
 use Rattle.sk_nodes.proofs.LeafLaws.{from_on-at}
 use Rattle.sk_nodes.proofs.NodeLaws.{pair_shape}

@@ -15,12 +15,13 @@ use Rattle.std.proofs.lemmas.Result.{IfOk-weaker}
 use Rattle.sk_query.specs.Trees as Trees
 use Rattle.sk_query.specs.Trees.{query_view, queries_view}
 use Rattle.sk_query.proofs.ViewLaws.{view-Nothing, view-All, view-Term, view-Wildcard, view-Near, view-Phrase, view-Synonym, view-Scale, view-Range}
-use Rattle.sk_model.specs.Sharp.{terms_in}
 use Rattle.sk_nodes.proofs.NestLaws.{one_term, paired_nest}
 use Rattle.sk_nodes.proofs.LedLaws.{lone_following}
 use Rattle.std.proofs.Common.{[], ◌∷◌}
+use Rattle.sk_model.specs.Edits.{document_at}
+use Rattle.sk_nodes.proofs.PartsLaws.{of_parts, only_part, odd_sides, or_sides}
 use Rattle.sk_nodes.proofs.CountLaws.{counted}
-use Rattle.sk_nodes.proofs.OpenedQueryLaws.{other_query, term_query, synonym_query, wildcard_query, parts_query, only_query, odd_parts_query, any_parts_query, pair_parts_query}
+use Rattle.sk_nodes.proofs.OpenedQueryLaws.{other_query, term_query, synonym_query, wildcard_query, parts_query, only_query, odd_parts_query, any_parts_query, pair_parts_query, sides_opened, pair_opened, one_side_opened, IfOk-four}
 use Rattle.sk_nodes.specs.Any.{OpensTerms}
 use Rattle.sk_nodes.proofs.AnyOpenLaws.{one_opens, opens_both}
 use Rattle.sk_nodes.proofs.opening.+open_node.Goals as goal
@@ -28,9 +29,10 @@ use Rattle.sk_nodes.proofs.opening.+open_node.Goals as goal
 pub open_sides-returns-clause-opens : goal.open_sides-returns-clause-opens
 open_sides-returns-clause-opens g t c =
     let i = c.args.index.now in
+    let halves = c.odd_halves.ensures c.args.factor c.requires.parts in
     opens_behind i (sides_on c.in_ok-some_tops.some_tops.items c.in_ok-some_tops.some_nodes.items) (sides_on c.in_ok-more_tops.more_tops.items c.in_ok-more_tops.more_nodes.items) (sides_on c.in_ok-tops-2.tops.items c.in_ok-tops-2.nodes.items)
     (part_scores (queries_view c.odd_halves.result.0.now) c.args.scheme c.args.factor) (part_scores (queries_view c.odd_halves.result.1.now) c.args.scheme c.args.factor) (part_scores (queries_view c.args.parts.now) c.args.scheme c.args.factor)
-    _ _ _ c.in_ok-tops-2.ensures.sides (c.odd_halves.ensures.scores c.args.scheme) (c.odd_halves.ensures.ceiling c.args.scheme i.live.documents) c.in_ok-some_tops.ensures.opens c.in_ok-more_tops.ensures.opens
+    _ _ _ c.in_ok-tops-2.ensures.sides (halves.scores c.args.scheme) (halves.ceiling c.args.scheme i.live.documents) c.in_ok-some_tops.ensures.opens c.in_ok-more_tops.ensures.opens
 
 pub open_sides-returns-clause-pays : goal.open_sides-returns-clause-pays
 open_sides-returns-clause-pays g t c =
@@ -41,7 +43,7 @@ open_sides-returns-clause-pays g t c =
     let others = c.in_ok-more_tops.ensures.pays in
     record {
       paid = omega (arith, whole, first.paid, others.paid);
-      within = omega (arith, first.within, others.within, c.odd_halves.ensures.readings i.live.documents);
+      within = omega (arith, first.within, others.within, (c.odd_halves.ensures c.args.factor c.requires.parts).readings i.live.documents);
       room = others.room;
     }
 
@@ -140,21 +142,43 @@ open_parts-returns-in-Some-clause-accounts g t c =
     IfOk-weaker c.open_node.result _ _
     (λ p h. only_query c.args.index.now c.args.form (queries_view c.args.parts.now) (query_view c.in-Some.part.now) c.args.scheme c.args.factor p.0 (shape_of p.1) c.args.spent.now c.open_node.new.spent c.in-Some.ensures.alone h) c.open_node.ensures.accounts
 
-pub open_parts-returns-in-Some-odd_parts-clause-accounts : goal.open_parts-returns-in-Some-odd_parts-clause-accounts
-open_parts-returns-in-Some-odd_parts-clause-accounts g t c =
-    odd_parts_query c.args.index.now c.args.form (queries_view c.args.parts.now) c.args.scheme c.args.factor _ _ _ _ c.in-Some-odd_parts.ensures.odd (omega (arith, counted c.args.parts.now, c.in_default.ensures.many))
+pub open_parts-returns-then-not-is_nest-clause-accounts : goal.open_parts-returns-then-not-is_nest-clause-accounts
+open_parts-returns-then-not-is_nest-clause-accounts g t c =
+    odd_parts_query c.args.index.now c.args.form (queries_view c.args.parts.now) c.args.scheme c.args.factor _ _ _ _ (sym c.is_nest.ensures ∙ c.if-not-is_nest.true) (omega (arith, counted c.args.parts.now, c.in_default.ensures.many))
 
-pub open_parts-returns-in-Some-any_parts-clause-accounts : goal.open_parts-returns-in-Some-any_parts-clause-accounts
-open_parts-returns-in-Some-any_parts-clause-accounts g t c =
-    any_parts_query c.args.index.now c.args.form (queries_view c.args.parts.now) (queries_view c.in-Some-any_parts.sides.now) (sides_on c.in_ok-all_tops.all_tops.items c.in_ok-all_tops.all_nodes.items) c.args.scheme c.args.factor _ _ _ _ _ c.in-Some-any_parts.ensures.form
-    c.in-Some-any_parts.ensures.many c.in-Some-any_parts.ensures.terms c.in_ok-all_tops.ensures.terms c.any_of-node.ensures.accounts
+pub open_parts-returns-then-not-is_nest-clause-opens : goal.open_parts-returns-then-not-is_nest-clause-opens
+open_parts-returns-then-not-is_nest-clause-opens g t c =
+    sides_opened c.args.index.now c.args.form Form.Xor c.args.factor (queries_view c.args.parts.now) c.args.scheme (sides_on c.in_ok-tops.tops.items c.in_ok-tops.nodes.items) _ _
+    (odd_sides c.args.form c.args.factor (queries_view c.args.parts.now) _ (sym c.is_nest.ensures ∙ c.if-not-is_nest.true) c.requires.parts c.requires.can.bounded) c.in_ok-tops.ensures.opens c.odd_of-node.ensures.gathers
+
+pub open_parts-open_sides-requires : goal.open_parts-open_sides-requires
+open_parts-open_sides-requires g t c κs within = (omega (arith, c.decreases), (within, (c.requires.can, (odd_sides c.args.form c.args.factor (queries_view c.args.parts.now) _ (sym c.is_nest.ensures ∙ c.if-not-is_nest.true) c.requires.parts c.requires.can.bounded).parts)))
+
+pub open_parts-odd_of-node-requires-clause-fits : goal.open_parts-odd_of-node-requires-clause-fits
+open_parts-odd_of-node-requires-clause-fits g t c = omega (arith, (odd_sides c.args.form c.args.factor (queries_view c.args.parts.now) _ (sym c.is_nest.ensures ∙ c.if-not-is_nest.true) c.requires.parts c.requires.can.bounded).fits c.args.scheme c.args.index.now.live.documents c.requires.can.light, c.in_ok-tops.ensures.opens.ceiling)
+
+pub open_parts-returns-then-is_many-clause-accounts : goal.open_parts-returns-then-is_many-clause-accounts
+open_parts-returns-then-is_many-clause-accounts g t c =
+    any_parts_query c.args.index.now c.args.form (queries_view c.args.parts.now) (sides_on c.in_ok-all_tops.all_tops.items c.in_ok-all_tops.all_nodes.items) c.args.scheme c.args.factor _ _ _ _ _ (c.is_many.ensures.form c.if-is_many.true)
+    (omega (arith, counted c.args.parts.now, c.is_many.ensures.many c.if-is_many.true)) c.in_ok-all_tops.ensures.terms c.any_of-node.ensures.accounts
+
+pub open_parts-returns-then-is_many-clause-opens : goal.open_parts-returns-then-is_many-clause-opens
+open_parts-returns-then-is_many-clause-opens g t c =
+    sides_opened c.args.index.now c.args.form Form.Or c.args.factor (queries_view c.args.parts.now) c.args.scheme (sides_on c.in_ok-all_tops.all_tops.items c.in_ok-all_tops.all_nodes.items) _ _
+    (or_sides c.args.form c.args.factor (queries_view c.args.parts.now) (c.is_many.ensures.form c.if-is_many.true) c.requires.parts c.requires.can.bounded) c.in_ok-all_tops.ensures.opens c.any_of-node.ensures.gathers
+
+pub open_parts-open_sides-requires-then-is_many : goal.open_parts-open_sides-requires-then-is_many
+open_parts-open_sides-requires-then-is_many g t c κs within = (omega (arith, c.decreases), (within, (c.requires.can, (or_sides c.args.form c.args.factor (queries_view c.args.parts.now) (c.is_many.ensures.form c.if-is_many.true) c.requires.parts c.requires.can.bounded).parts)))
+
+pub open_parts-any_of-node-requires-clause-fits : goal.open_parts-any_of-node-requires-clause-fits
+open_parts-any_of-node-requires-clause-fits g t c = omega (arith, (or_sides c.args.form c.args.factor (queries_view c.args.parts.now) (c.is_many.ensures.form c.if-is_many.true) c.requires.parts c.requires.can.bounded).fits c.args.scheme c.args.index.now.live.documents c.requires.can.light, c.in_ok-all_tops.ensures.opens.ceiling)
 
 pub open_parts-returns-clause-accounts : goal.open_parts-returns-clause-accounts
 open_parts-returns-clause-accounts g t c =
     IfOk-weaker c.pair_of.result _ _
     (λ p h. pair_parts_query c.args.index.now c.args.form c.others_of.result (queries_view c.args.parts.now) (queries_view c.split_parts.result.0.now) (queries_view c.split_parts.result.1.now) c.args.scheme c.args.factor
-    c.in_ok-ta.ta (shape_of c.in_ok-ta.a) c.in_ok-tb.tb (shape_of c.in_ok-tb.b) p.0 (shape_of p.1) _ _ _ _ c.others_of.ensures (omega (arith, counted c.args.parts.now, c.in_default.ensures.many)) c.split_parts.ensures.splits.front.some c.split_parts.ensures.splits.back.some
-    c.split_parts.ensures.splits.terms c.split_parts.ensures.led c.in_ok-ta.ensures.accounts c.in_ok-tb.ensures.accounts (λ joint first second. paired_nest c.args.index.now c.args.form _ _ c.in_ok-ta.ta (shape_of c.in_ok-ta.a) c.in_ok-tb.tb (shape_of c.in_ok-tb.b) (shape_of p.1) h.all first second joint) h) c.pair_of.ensures.accounts
+    c.in_ok-ta.ta (shape_of c.in_ok-ta.a) c.in_ok-tb.tb (shape_of c.in_ok-tb.b) p.0 (shape_of p.1) _ _ _ _ c.others_of.ensures (omega (arith, counted c.args.parts.now, c.in_default.ensures.many)) (c.split_parts.ensures.splits c.args.factor c.requires.can.bounded c.requires.parts).front.some (c.split_parts.ensures.splits c.args.factor c.requires.can.bounded c.requires.parts).back.some
+    (c.split_parts.ensures.splits c.args.factor c.requires.can.bounded c.requires.parts).terms c.split_parts.ensures.led c.in_ok-ta.ensures.accounts c.in_ok-tb.ensures.accounts (λ joint first second. paired_nest c.args.index.now c.args.form _ _ c.in_ok-ta.ta (shape_of c.in_ok-ta.a) c.in_ok-tb.tb (shape_of c.in_ok-tb.b) (shape_of p.1) h.all first second joint) h) c.pair_of.ensures.accounts
 
 -- ---- the sides of one node
 
@@ -168,7 +192,7 @@ open_sides-returns-in-Some-clause-terms g t c lists e =
 pub open_sides-returns-clause-terms : goal.open_sides-returns-clause-terms
 open_sides-returns-clause-terms g t c lists e =
     let i = c.args.index.now in
-    let split = c.odd_halves.ensures.terms lists e in
+    let split = (c.odd_halves.ensures c.args.factor c.requires.parts).terms lists e in
     opens_both i (sides_on c.in_ok-tops-2.tops.items c.in_ok-tops-2.nodes.items) (sides_on c.in_ok-some_tops.some_tops.items c.in_ok-some_tops.some_nodes.items) (sides_on c.in_ok-more_tops.more_tops.items c.in_ok-more_tops.more_nodes.items)
     lists split.first split.second _ _ _ c.in_ok-tops-2.ensures.sides split.whole (c.in_ok-some_tops.ensures.terms split.first split.front_is) (c.in_ok-more_tops.ensures.terms split.second split.back_is)
 
@@ -183,3 +207,124 @@ pub open_node-returns-in-Range-clause-opens : goal.open_node-returns-in-Range-cl
 open_node-returns-in-Range-clause-opens g t c =
     IfOk-weaker c.open_range.result _ _
     (λ p h. subst (λ q. Opens c.args.index.now p.0 (shape_of p.1) (score_of q c.args.scheme c.args.factor) (ceil q c.args.scheme c.args.factor c.args.index.now.live.documents)) (sym (ap query_view c.in-Range.is ∙ view-Range _ _ _)) (h c.args.factor)) c.open_range.ensures.opens
+
+-- ---- queries and parts
+
+pub open_node-open_parts-requires : goal.open_node-open_parts-requires
+open_node-open_parts-requires g t c κs within =
+    let of = of_parts c.args.factor (query_view c.args.query.now) c.in-Some.form (queries_view c.in-Some.parts.now) c.in-Some.ensures.is c.requires.part in
+    (omega (arith, c.decreases, of.size), (within, (c.requires.can, of.parts)))
+
+pub open_node-returns-in-Some-clause-opens : goal.open_node-returns-in-Some-clause-opens
+open_node-returns-in-Some-clause-opens g t c =
+    let docs = c.args.index.now.live.documents in
+    let of = of_parts c.args.factor (query_view c.args.query.now) c.in-Some.form (queries_view c.in-Some.parts.now) c.in-Some.ensures.is c.requires.part in
+    IfOk-weaker c.open_parts.result _ _
+    (λ p h. record { top = h.top; sound = h.sound; gives = λ id. h.gives id ∙ sym (of.scores c.args.scheme (document_at id docs)); ceiling = omega (arith, h.ceiling, of.ceiling c.args.scheme docs) }) c.open_parts.ensures.opens
+
+pub open_node-returns-in-Some-clause-pays : goal.open_node-returns-in-Some-clause-pays
+open_node-returns-in-Some-clause-pays g t c =
+    let of = of_parts c.args.factor (query_view c.args.query.now) c.in-Some.form (queries_view c.in-Some.parts.now) c.in-Some.ensures.is c.requires.part in
+    IfOk-weaker c.open_parts.result _ _ (λ p h. record { paid = h.paid; within = omega (arith, h.within, of.readings c.args.index.now.live.documents); room = h.room }) c.open_parts.ensures.pays
+
+pub open_parts-open_node-requires : goal.open_parts-open_node-requires
+open_parts-open_node-requires g t c κs within =
+    let only = only_part c.args.form c.args.factor (queries_view c.args.parts.now) (query_view c.in-Some.part.now) c.in-Some.ensures.alone c.requires.parts in
+    (omega (arith, c.decreases, only.size), (within, (c.requires.can, only.part)))
+
+pub open_parts-returns-in-Some-clause-opens : goal.open_parts-returns-in-Some-clause-opens
+open_parts-returns-in-Some-clause-opens g t c =
+    let docs = c.args.index.now.live.documents in
+    let only = only_part c.args.form c.args.factor (queries_view c.args.parts.now) (query_view c.in-Some.part.now) c.in-Some.ensures.alone c.requires.parts in
+    IfOk-weaker c.open_node.result _ _
+    (λ p h. record { top = h.top; sound = h.sound; gives = λ id. h.gives id ∙ sym (only.scores c.args.scheme (document_at id docs)); ceiling = omega (arith, h.ceiling, only.ceiling c.args.scheme docs) }) c.open_node.ensures.opens
+
+pub open_parts-returns-in-Some-clause-pays : goal.open_parts-returns-in-Some-clause-pays
+open_parts-returns-in-Some-clause-pays g t c =
+    let only = only_part c.args.form c.args.factor (queries_view c.args.parts.now) (query_view c.in-Some.part.now) c.in-Some.ensures.alone c.requires.parts in
+    IfOk-weaker c.open_node.result _ _ (λ p h. record { paid = h.paid; within = omega (arith, h.within, only.readings c.args.index.now.live.documents); room = h.room }) c.open_node.ensures.pays
+
+pub open_sides-open_node-requires : goal.open_sides-open_node-requires
+open_sides-open_node-requires g t c κs within =
+    let only = only_part Form.Xor c.args.factor (queries_view c.args.parts.now) (query_view c.in-Some.part.now) c.in-Some.ensures.alone c.requires.parts in
+    (omega (arith, c.decreases, only.size), (within, (c.requires.can, only.part)))
+
+pub open_sides-open_sides-requires : goal.open_sides-open_sides-requires
+open_sides-open_sides-requires g t c κs within =
+    let halves = c.odd_halves.ensures c.args.factor c.requires.parts in
+    (omega (arith, c.decreases, halves.front_size), (within, (c.requires.can, halves.front)))
+
+pub open_sides-open_sides-requires-2 : goal.open_sides-open_sides-requires-2
+open_sides-open_sides-requires-2 g t c κs within =
+    let halves = c.odd_halves.ensures c.args.factor c.requires.parts in (
+      omega (arith, c.decreases, halves.back_size),
+      (
+        within,
+        (
+          record {
+            read = record { documents = c.requires.can.read.documents; room = c.in_ok-some_tops.ensures.pays.room; small = c.open_sides.ensures.counts.small };
+            bounded = c.requires.can.bounded;
+            light = c.requires.can.light;
+          },
+          halves.back,
+        ),
+      ),
+    )
+
+pub open_parts-open_parts-requires : goal.open_parts-open_parts-requires
+open_parts-open_parts-requires g t c κs within =
+    let splits = c.split_parts.ensures.splits c.args.factor c.requires.can.bounded c.requires.parts in
+    (omega (arith, c.decreases, splits.front_size), (within, (c.requires.can, splits.front)))
+
+pub open_parts-open_parts-requires-2 : goal.open_parts-open_parts-requires-2
+open_parts-open_parts-requires-2 g t c κs within =
+    let splits = c.split_parts.ensures.splits c.args.factor c.requires.can.bounded c.requires.parts in (
+      omega (arith, c.decreases, splits.back_size),
+      (
+        within,
+        (
+          record {
+            read = record { documents = c.requires.can.read.documents; room = c.in_ok-ta.ensures.pays.room; small = c.open_parts.ensures.counts.small };
+            bounded = c.requires.can.bounded;
+            light = c.requires.can.light;
+          },
+          subst (λ (f : Form). AreParts f c.args.factor (queries_view c.split_parts.result.1.now)) (sym c.others_of.ensures) splits.back,
+        ),
+      ),
+    )
+
+pub open_parts-pair_of-requires-clause-fits : goal.open_parts-pair_of-requires-clause-fits
+open_parts-pair_of-requires-clause-fits g t c =
+    let splits = c.split_parts.ensures.splits c.args.factor c.requires.can.bounded c.requires.parts in
+    let docs = c.args.index.now.live.documents in
+    let back = ap (λ f. ceil_of f (ceils (queries_view c.split_parts.result.1.now) c.args.scheme c.args.factor docs)) c.others_of.ensures in
+    omega (arith, splits.fits c.args.scheme docs c.requires.can.light, c.in_ok-ta.ensures.opens.ceiling, c.in_ok-tb.ensures.opens.ceiling, back)
+
+pub open_parts-returns-clause-opens : goal.open_parts-returns-clause-opens
+open_parts-returns-clause-opens g t c =
+    IfOk-four c.pair_of.result _ _ _ _ _
+    (λ p top sound gives ceiling. pair_opened c.args.index.now c.args.form c.others_of.result c.args.factor (queries_view c.args.parts.now) (queries_view c.split_parts.result.0.now) (queries_view c.split_parts.result.1.now) c.args.scheme
+    c.in_ok-ta.ta (shape_of c.in_ok-ta.a) c.in_ok-tb.tb (shape_of c.in_ok-tb.b) p.0 (shape_of p.1) c.others_of.ensures (c.split_parts.ensures.splits c.args.factor c.requires.can.bounded c.requires.parts) c.in_ok-ta.ensures.opens c.in_ok-tb.ensures.opens top sound gives ceiling)
+    c.pair_of.ensures.top c.pair_of.ensures.sound c.pair_of.ensures.gives c.pair_of.ensures.ceiling
+
+pub open_parts-returns-clause-pays : goal.open_parts-returns-clause-pays
+open_parts-returns-clause-pays g t c =
+    let read = (c.split_parts.ensures.splits c.args.factor c.requires.can.bounded c.requires.parts).readings c.args.index.now.live.documents in
+    IfOk-weaker c.pair_of.result _ _
+    (λ p paid. record {
+      paid = omega (arith, paid, c.in_ok-ta.ensures.pays.paid, c.in_ok-tb.ensures.pays.paid);
+      within = omega (arith, read, c.in_ok-ta.ensures.pays.within, c.in_ok-tb.ensures.pays.within);
+      room = omega (arith, paid, c.in_ok-ta.ensures.pays.paid, c.in_ok-tb.ensures.pays.paid, c.requires.can.read.room);
+    }) c.pair_of.ensures.paid
+
+pub open_sides-returns-in-Some-clause-opens : goal.open_sides-returns-in-Some-clause-opens
+open_sides-returns-in-Some-clause-opens g t c =
+    one_side_opened c.args.index.now (queries_view c.args.parts.now) (query_view c.in-Some.part.now) c.args.scheme c.args.factor _ c.in_ok-top.top (shape_of c.in_ok-top.node) c.in-Some.ensures.alone c.in_ok-tops.ensures.sides c.in_ok-top.ensures.opens
+
+pub open_sides-returns-in-Some-clause-pays : goal.open_sides-returns-in-Some-clause-pays
+open_sides-returns-in-Some-clause-pays g t c =
+    let i = c.args.index.now in
+    let only = only_part Form.Xor c.args.factor (queries_view c.args.parts.now) (query_view c.in-Some.part.now) c.in-Some.ensures.alone c.requires.parts in
+    let pays = c.in_ok-top.ensures.pays in
+    let unread = ap (unread_in i) c.in_ok-tops.ensures.sides in
+    record { paid = omega (arith, unread, pays.paid); within = omega (arith, only.readings i.live.documents, pays.within); room = pays.room }

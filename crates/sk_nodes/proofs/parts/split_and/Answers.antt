@@ -18,7 +18,7 @@ others_some : (c : goal.After-others-1) → 0 < count_in (queries_view c.split_a
 others_some c = omega (arith, counted c.split_at.result.1.now, c.split_at.ensures.back_len, c.requires.many)
 
 pub returns-then-is_longer-clause-splits : goal.returns-then-is_longer-clause-splits
-returns-then-is_longer-clause-splits c = turned_splits c.args._factor _ _ _ (whole c) c.requires.parts (others_some c) (first_some c) c.requires.factor
+returns-then-is_longer-clause-splits c factor small are = turned_splits factor _ _ _ (whole c) are (others_some c) (first_some c) small
 
 pub returns-then-is_longer-clause-led : goal.returns-then-is_longer-clause-led
 returns-then-is_longer-clause-led c lists terms =
@@ -28,4 +28,4 @@ returns-then-is_longer-clause-led c lists terms =
 pub returns-clause-led : goal.returns-clause-led
 returns-clause-led c lists terms =
     let count = terms_count (queries_view c.args.parts.now) lists terms in
-    c.split_in_order.ensures.led lists c.args.index.now.live.documents tt (c.is_longer.ensures.ordered c.if-is_longer.false (omega (arith, counted c.args.parts.now, count.0, count.1, c.requires.parts.leaves)) lists terms) terms
+    c.split_in_order.ensures.led lists c.args.index.now.live.documents tt (c.is_longer.ensures.ordered c.if-is_longer.false (omega (arith, counted c.args.parts.now, count.0, count.1, c.requires.leaves)) lists terms) terms

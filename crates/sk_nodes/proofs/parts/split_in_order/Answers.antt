@@ -19,10 +19,10 @@ back_some : (c : goal.After-split_at) → 0 < count_in (queries_view c.split_at.
 back_some c = omega (arith, counted c.split_at.result.1.now, c.split_at.ensures.back_len, c.split_of.ensures.within)
 
 pub returns-clause-splits : goal.returns-clause-splits
-returns-clause-splits c = splits c.args.form c.args._factor _ _ _ (whole c) c.requires.parts (front_some c) (back_some c) c.requires.factor c.requires.nest
+returns-clause-splits c factor small are = splits c.args.form factor _ _ _ (whole c) are (front_some c) (back_some c) small c.requires.nest
 
 pub returns-clause-led : goal.returns-clause-led
 returns-clause-led c lists docs can ordered terms =
-    splits_led c.args.form (queries_view c.args.parts.now) (queries_view c.split_at.result.0.now) (queries_view c.split_at.result.1.now) lists docs c.split_of.result (whole c) terms c.requires.parts.leaves
+    splits_led c.args.form (queries_view c.args.parts.now) (queries_view c.split_at.result.0.now) (queries_view c.split_at.result.1.now) lists docs c.split_of.result (whole c) terms c.requires.leaves
     (omega (arith, counted c.split_at.result.0.now, c.split_at.ensures.front_len)) (front_some c) (back_some c)
     (subst (λ n. SplitsOff c.args.form n c.split_of.result) (sym (counted c.args.parts.now)) c.split_of.ensures.off) can ordered
