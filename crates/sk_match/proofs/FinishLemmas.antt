@@ -1,5 +1,5 @@
 -- A search at its end.
-use Rattle.std.proofs.Common.{◌≡◌, ◌≤◌, ◌||◌, ℕ, Bool, true, false, min, List, length, Option, None, Some, is_none, unwrap_or, refl, sym, ap, ◌∙◌, subst, arith}
+use Rattle.std.proofs.Common.{◌≡◌, ◌≤◌, ◌||◌, ℕ, Bool, true, false, min, length, None, is_none, unwrap_or, refl, sym, ap, ◌∙◌, subst, arith}
 use Rattle.sk_base.specs.declared.find.Find.{Find}
 use Rattle.sk_base.specs.declared.report.Report.{Report}
 use Rattle.sk_base.specs.Numbers.{Docs}

@@ -1,10 +1,9 @@
 -- A search that is opened, and that moves past a document.
-use Rattle.std.proofs.Common.{◌≡◌, ◌≤◌, ◌<◌, ◌+◌, ◌⊎◌, ◌^◌, ℕ, suc, Bool, true, false, cond, ◌&&◌, ◌||◌, nat_le, nat_lt, max, List, [], ◌∷◌, length, drop, filter, Option, None, Some, option_map, is_some, unwrap_or, refl, sym, ap, ◌∙◌, subst, arith, inl, inr, true≢false}
+use Rattle.std.proofs.Common.{◌≡◌, ◌≤◌, ◌<◌, ◌+◌, ◌⊎◌, ℕ, suc, Bool, true, false, cond, ◌&&◌, ◌||◌, nat_le, nat_lt, max, List, [], ◌∷◌, length, drop, filter, Option, None, Some, option_map, is_some, unwrap_or, refl, sym, ap, ◌∙◌, subst, arith, inl, inr, true≢false}
 use Rattle.std.specs.List.{AllByRecursion, cons_option}
 use Rattle.std.proofs.lemmas.Bool.{and_parts, le-leb, lt-leb, ltb-false, ltb-true}
 use Rattle.sk_base.specs.declared.find.Find.{Find}
 use Rattle.sk_base.specs.declared.find.Options.{Options}
-use Rattle.sk_base.specs.declared.rank.OrderBy.{OrderBy}
 use Rattle.sk_base.specs.declared.rank.Rank.{Rank}
 use Rattle.sk_base.specs.declared.find.Collapse.{Collapse}
 use Rattle.sk_base.specs.Numbers.{Docs}
@@ -39,7 +38,7 @@ use Rattle.sk_seen.proofs.WalkLaws.{weighed, scores}
 use Rattle.sk_seen.proofs.SeeLaws.{page_opened, may_see, at_last, Looked, passed_by, looked_at, gone_on, wanted_before, asked_behind, head_early}
 use Rattle.sk_seen.specs.Paces.{reached_by}
 use Rattle.sk_seen.proofs.PaceLaws.{no_cutoff, reached_on}
-use Rattle.sk_match.specs.Searches.{IsOn, Accounts, Stands, PassesOver, Passes, AsksBehind, left_to_stop}
+use Rattle.sk_match.specs.Searches.{IsOn, Stands, PassesOver, Passes, AsksBehind}
 use Rattle.sk_match.specs.declared.open_search.Search.{Search}
 
 -- ---- a search that was opened

@@ -1,5 +1,5 @@
 -- The page of a search at its end, and its report.
-use Rattle.std.proofs.Common.{◌≡◌, ◌≤◌, ◌<◌, ◌+◌, ◌-◌, ◌/◌, ◌⊎◌, ◌^◌, ℕ, zero, suc, Bool, true, false, cond, ◌&&◌, ◌||◌, ◌==◌, nat_le, nat_lt, min, List, [], ◌∷◌, length, take, drop, map, Option, None, Some, is_none, unwrap_or, refl, sym, ap, ◌∙◌, subst, arith, inl, inr, true≢false}
+use Rattle.std.proofs.Common.{◌≡◌, ◌≤◌, ◌<◌, ◌-◌, ◌⊎◌, ℕ, zero, suc, Bool, true, false, cond, ◌&&◌, ◌||◌, ◌==◌, nat_le, nat_lt, min, List, [], ◌∷◌, length, take, drop, map, Option, None, Some, is_none, unwrap_or, refl, sym, ap, ◌∙◌, subst, arith, inl, inr, true≢false}
 use Rattle.std.specs.List.{AllByRecursion, AllZip}
 use Rattle.std.proofs.lemmas.List.{length-take}
 use Rattle.std.proofs.lemmas.Bool.{and_parts, leb-false, leb-true, ltb-false, ltb-true}
@@ -30,7 +30,7 @@ use Rattle.sk_heap.specs.declared.hit.Hit.{Hit}
 use Rattle.sk_heap.specs.Held.{ranks_of}
 use Rattle.sk_collapse.specs.Collapsed.{Collapsed, kept_in}
 use Rattle.sk_collapse.proofs.CollapseLaws.{knows_dropped}
-use Rattle.sk_seen.specs.Walks.{page_end, held_by, IsFull, IsPassed, Ended}
+use Rattle.sk_seen.specs.Walks.{held_by, IsFull, IsPassed, Ended}
 use Rattle.sk_seen.specs.Pages.{CollapsesBy, Pages}
 use Rattle.sk_seen.specs.Needs.{is_settled, is_whole}
 use Rattle.sk_seen.specs.Hits.{dropped_of, ranked_of, kept_count}

@@ -1,5 +1,5 @@
 -- How far a search has come for which nothing was passed over.
-use Rattle.std.proofs.Common.{◌≡◌, ◌≤◌, ◌<◌, ◌+◌, ◌⊎◌, ℕ, Bool, true, false, cond, nat_le, nat_lt, max, List, [], ◌∷◌, ◌++◌, length, take, Option, None, Some, refl, sym, ap, ◌∙◌, subst, arith}
+use Rattle.std.proofs.Common.{◌≡◌, ◌≤◌, ◌+◌, ◌⊎◌, ℕ, Bool, true, false, cond, nat_le, nat_lt, max, List, [], ◌∷◌, ◌++◌, length, take, Option, None, Some, sym, ap, ◌∙◌, arith}
 use Rattle.std.specs.List.{AllByRecursion}
 use Rattle.std.proofs.lemmas.Bool.{le-leb}
 use Rattle.std.proofs.lemmas.List.{take_all, take-append-le}
@@ -60,7 +60,9 @@ module _ (query : Tree) (find : Find) (docs : Docs) where
           let walk2 = (See.walked_on query find docs give need page of sorted h w head weight mid saw2 looked ceiling need2 give2 asked over).0 in
           let all : greatest_id saw2 ≡ reached_by mid.seen (found_by query find docs) = ap greatest_id (sym (front give2 need2 mid.seen saw2 walk2 looked.seen low)) in
           let before : reached_by page.seen (found_by query find docs) ≡ greatest_id of.saw = ap greatest_id (front give need page.seen of.saw of.walk of.seen (omega (arith, low, rises))) in
-          let both : greatest_id saw2 ≡ max (greatest_id of.saw) (greatest_id (taken query find at.one (Some w))) = ap greatest_id (sym looked.is) ∙ greatest_append of.saw (taken query find at.one (Some w)) in
-          (omega (arith, far, all, before, both), λ heavy.
-              let one : greatest_id (taken query find at.one (Some w)) ≡ greatest_id (ranked query find at.one w ∷ []) = ap (λ b. greatest_id (cond b (ranked query find at.one w ∷ []) [])) (le-leb find.options.cutoff w heavy) in
-              omega (arith, far, all, both, one, id_is))
+          let both : greatest_id saw2 ≡ max (greatest_id of.saw) (greatest_id (taken query find at.one (Some w))) = ap greatest_id (sym looked.is) ∙ greatest_append of.saw (taken query find at.one (Some w)) in (
+            omega (arith, far, all, before, both),
+            λ heavy.
+                let one : greatest_id (taken query find at.one (Some w)) ≡ greatest_id (ranked query find at.one w ∷ []) = ap (λ b. greatest_id (cond b (ranked query find at.one w ∷ []) [])) (le-leb find.options.cutoff w heavy) in
+                omega (arith, far, all, both, one, id_is),
+          )

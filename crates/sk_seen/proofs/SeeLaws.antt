@@ -1,5 +1,5 @@
 -- A page that saw nothing, that sees the document at the head of what a search is given, and that goes past it.
-use Rattle.std.proofs.Common.{◌≡◌, ◌≢◌, ◌≤◌, ◌<◌, ◌+◌, ◌⊎◌, ◌^◌, ℕ, suc, Bool, true, false, cond, ◌||◌, ◌&&◌, ◌==◌, nat_le, nat_lt, max, List, [], ◌∷◌, ◌++◌, length, All, Option, None, Some, unwrap_or, refl, sym, ap, ◌∙◌, subst, arith, inl, inr, true≢false, IfSome, append-nil}
+use Rattle.std.proofs.Common.{◌≡◌, ◌≢◌, ◌≤◌, ◌<◌, ◌+◌, ◌⊎◌, ◌^◌, ℕ, suc, Bool, true, false, cond, ◌==◌, nat_le, nat_lt, max, List, [], ◌∷◌, ◌++◌, length, All, Option, None, Some, unwrap_or, refl, sym, ap, ◌∙◌, subst, arith, inl, inr, true≢false, IfSome, append-nil}
 use Rattle.std.specs.List.{AllByRecursion}
 use Rattle.std.specs.Option.{option_and_then, IsSomeAnd}
 use Rattle.std.proofs.lemmas.Bool.Decides.{nat_tests}
@@ -8,7 +8,6 @@ use Rattle.std.proofs.lemmas.List.Elements.{All-from_recursion}
 use Rattle.std.proofs.lemmas.Bool.{le-leb, lt-leb, ltb-false, ltb-true}
 use Rattle.sk_base.specs.declared.find.Collapse.{Collapse}
 use Rattle.sk_base.specs.declared.find.Find.{Find}
-use Rattle.sk_base.specs.declared.find.Options.{Options}
 use Rattle.sk_base.specs.declared.rank.Rank.{Rank}
 use Rattle.sk_base.specs.declared.rank.Order.{Order}
 use Rattle.sk_base.specs.declared.rank.OrderBy.{OrderBy}
@@ -28,7 +27,6 @@ use Rattle.sk_model.specs.Settled.{settled, stop_point}
 use Rattle.sk_model.specs.Sharp.{is_plain}
 use Rattle.sk_model.proofs.OrderLaws as OrderLaws
 use Rattle.sk_heap.specs.declared.hit.Hit.{Hit}
-use Rattle.sk_heap.specs.Held.{Held}
 use Rattle.sk_collapse.specs.Collapsed.{Collapsed, group_of}
 use Rattle.sk_collapse.proofs.CollapseLaws.{knows_differ}
 use Rattle.sk_seen.specs.Shown.{is_behind}

@@ -1,7 +1,3 @@
-use Rattle.std.proofs.Common.{sym}
-use Rattle.sk_base.specs.declared.find.Find.{Find}
-use Rattle.sk_query.specs.Trees as QueryTree
-use Rattle.sk_match.specs.Searches.{Stands}
 use Rattle.sk_match.proofs.FinishLemmas.{may_report, finished}
 use Rattle.sk_match.proofs.open_search.Search.finish.Goals as goal
 

@@ -1,4 +1,4 @@
-use Rattle.std.proofs.Common.{rules, arith, false, ◌≡◌, ◌≤◌, sym, subst, ap, ◌∙◌}
+use Rattle.std.proofs.Common.{rules, arith, false, ◌≡◌, ◌≤◌, sym, subst, ap}
 use Rattle.sk_model.specs.Settled.{stop_point}
 use Rattle.sk_seen.specs.Needs.{is_settled}
 use Rattle.sk_match.specs.Searches.{Passes, PassesOver}
