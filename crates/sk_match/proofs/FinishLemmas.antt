@@ -16,10 +16,10 @@ use Rattle.sk_nodes.specs.Stops.{Stops}
 use Rattle.sk_nodes.specs.Rare.{Rare}
 use Rattle.sk_nodes.specs.Decays.{Decays}
 use Rattle.sk_nodes.specs.Built.{gives, left}
-use Rattle.sk_seen.specs.Needs.{is_settled, is_whole}
-use Rattle.sk_seen.specs.Tells.{IsSpent}
-use Rattle.sk_seen.specs.Views.{MayReport, Reports}
-use Rattle.sk_seen.proofs.EndLaws as Ends
+use Rattle.sk_page.specs.Needs.{is_settled, is_whole}
+use Rattle.sk_page.specs.Tells.{IsSpent}
+use Rattle.sk_page.specs.Views.{MayReport, Reports}
+use Rattle.sk_page.proofs.EndLaws as Ends
 use Rattle.sk_match.specs.Searches.{Stands, is_done}
 use Rattle.sk_match.specs.declared.open_search.Search.{Search}
 

@@ -29,15 +29,15 @@ use Rattle.sk_nodes.specs.Decays.{MayFall, DecaysBoth}
 use Rattle.sk_nodes.specs.declared.tree.Tree.{Tree}
 use Rattle.sk_heap.specs.Held.{need_of}
 use Rattle.sk_collapse.specs.Collapsed.{Collapsed}
-use Rattle.sk_seen.specs.Pages.{CollapsesBy}
-use Rattle.sk_seen.specs.Needs.{wanted_by, is_above, is_settled, need_for}
-use Rattle.sk_seen.specs.Views.{Opens, PageOf, MaySee, Sees}
-use Rattle.sk_seen.specs.declared.page.Page.{Page}
-use Rattle.sk_seen.proofs.WalkLaws as Walks
-use Rattle.sk_seen.proofs.WalkLaws.{weighed, scores}
-use Rattle.sk_seen.proofs.SeeLaws.{page_opened, may_see, at_last, Looked, passed_by, looked_at, gone_on, wanted_before, asked_behind, head_early}
-use Rattle.sk_seen.specs.Paces.{reached_by}
-use Rattle.sk_seen.proofs.PaceLaws.{no_cutoff, reached_on}
+use Rattle.sk_page.specs.Pages.{CollapsesBy}
+use Rattle.sk_page.specs.Needs.{wanted_by, is_above, is_settled, need_for}
+use Rattle.sk_page.specs.Views.{Opens, PageOf, MaySee, Sees}
+use Rattle.sk_page.specs.declared.page.Page.{Page}
+use Rattle.sk_page.proofs.WalkLaws as Walks
+use Rattle.sk_page.proofs.WalkLaws.{weighed, scores}
+use Rattle.sk_page.proofs.SeeLaws.{page_opened, may_see, at_last, Looked, passed_by, looked_at, gone_on, wanted_before, asked_behind, head_early}
+use Rattle.sk_page.specs.Paces.{reached_by}
+use Rattle.sk_page.proofs.PaceLaws.{no_cutoff, reached_on}
 use Rattle.sk_match.specs.Searches.{IsOn, Stands, PassesOver, Passes, AsksBehind}
 use Rattle.sk_match.specs.declared.open_search.Search.{Search}
 

@@ -19,9 +19,9 @@ use Rattle.sk_nodes.specs.Stops.{Stops, MayMove}
 use Rattle.sk_nodes.specs.Rare.{Rare}
 use Rattle.sk_nodes.specs.Decays.{Decays, MayFall}
 use Rattle.sk_nodes.specs.declared.tree.Tree.{Tree}
-use Rattle.sk_seen.specs.Needs.{is_settled, need_for}
-use Rattle.sk_seen.specs.Paces.{reached_by}
-use Rattle.sk_seen.specs.Views.{PageOf, Sees}
+use Rattle.sk_page.specs.Needs.{is_settled, need_for}
+use Rattle.sk_page.specs.Paces.{reached_by}
+use Rattle.sk_page.specs.Views.{PageOf, Sees}
 use Rattle.sk_match.specs.declared.open_search.Search.{Search}
 
 -- What a search still has to see: ids and weights, by rising id.

@@ -1,6 +1,6 @@
 use Rattle.std.proofs.Common.{refl, arith}
 use Rattle.sk_query.specs.Trees.{query_view}
-use Rattle.sk_seen.proofs.SpentLaws.{ups_none}
+use Rattle.sk_page.proofs.SpentLaws.{ups_none}
 use Rattle.sk_match.proofs.TurnLemmas.{opened}
 use Rattle.sk_match.proofs.open_search.Search.open.Goals as goal
 

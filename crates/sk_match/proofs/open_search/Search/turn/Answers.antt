@@ -1,6 +1,6 @@
 use Rattle.std.proofs.Common.{rules, arith, false, ◌≡◌, ◌≤◌, sym, subst, ap}
 use Rattle.sk_model.specs.Settled.{stop_point}
-use Rattle.sk_seen.specs.Needs.{is_settled}
+use Rattle.sk_page.specs.Needs.{is_settled}
 use Rattle.sk_match.specs.Searches.{Passes, PassesOver}
 use Rattle.sk_match.specs.declared.open_search.Search.{Search}
 use Rattle.sk_match.proofs.FinishLemmas.{seen_enough, done_at_end, done_settled}
