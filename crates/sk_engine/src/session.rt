@@ -7,7 +7,7 @@ ghost use Rattle.sk_model.specs.Edits.{Live, nothing_live, edited, reply_to};
 ghost use Rattle.sk_engine.specs.Sessions.{SessionHolds, fields_of, steps_in, response_of};
 ghost use Rattle.sk_engine.specs.Finds.{FoundFor, Shows};
 
-use sk_asked::{AskError, query_of};
+use sk_parser::{AskError, query_of};
 use sk_base::{Edit, Find, Reply, Report, Schema};
 use sk_grammar::FaultKind;
 use sk_index::Index;

@@ -4,7 +4,7 @@ use Rattle.sk_base.specs.declared.find.Find.{Find}
 use Rattle.sk_base.specs.declared.schema.Field.{Field}
 use Rattle.sk_base.specs.Numbers.{Docs}
 use Rattle.sk_query.specs.Trees.{Tree}
-use Rattle.sk_asked.specs.Asked.{asked}
+use Rattle.sk_parser.specs.Asked.{asked}
 use Rattle.sk_model.specs.Edits.{Live}
 use Rattle.sk_plain.specs.Pages.{report_for}
 use Rattle.sk_run.specs.declared.find_answer.FindAnswer.{FindAnswer}

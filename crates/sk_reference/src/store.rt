@@ -14,7 +14,7 @@ ghost use Rattle.sk_reference.specs.Answers.{found_for, PlainAnswers};
 ghost use Rattle.sk_reference.specs.Shelved.{holds, fields_of};
 
 use crate::shelf::Shelf;
-use sk_asked::query_of;
+use sk_parser::query_of;
 use sk_base::{Command, Doc, DocId, Edit, Find, Schema};
 use sk_query::Query;
 use sk_run::{FindAnswer, Response, Store, refused, response_to, shown};

@@ -1,8 +1,8 @@
 -- Where no query was read, the refusal with its cause is what the find is answered.
 use Rattle.std.proofs.Common.{Result, Err, sym, subst}
 use Rattle.sk_query.specs.Trees.{Tree}
-use Rattle.sk_asked.specs.declared.asked.AskError.{AskError}
-use Rattle.sk_asked.specs.Asked.{ReadsAs}
+use Rattle.sk_parser.specs.declared.asked.AskError.{AskError}
+use Rattle.sk_parser.specs.Asked.{ReadsAs}
 use Rattle.sk_run.specs.declared.find_answer.FindAnswer.{FindAnswer}
 use Rattle.sk_run.specs.declared.response.Response.{Response}
 use Rattle.sk_run.specs.FindAnswers.{RefusedFor, AnswersAsk}

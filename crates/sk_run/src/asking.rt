@@ -4,9 +4,9 @@ ghost use Rattle.sk_run.specs.Responses.{steps_of};
 ghost use Rattle.sk_run.specs.FindAnswers.{steps_in, RefusedFor, Shown};
 
 use crate::{FindAnswer, Response};
-use sk_asked::{AskError, text_query};
+use sk_parser::{AskError, text_query};
 use sk_base::{Join, Schema, Text};
-use sk_shown::text as compact_text;
+use sk_query_json::text as compact_text;
 use std::alloc::{AllocError, Global};
 
 /// What is answered where no query was read, with its cause.

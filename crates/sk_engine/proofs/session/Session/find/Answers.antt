@@ -1,5 +1,5 @@
 use Rattle.std.proofs.Common.{◌∙◌, sym, subst, ap, IfOk, Result, Ok, Err}
-use Rattle.sk_asked.specs.Asked.{asked}
+use Rattle.sk_parser.specs.Asked.{asked}
 use Rattle.sk_run.specs.FindAnswers.{AnswersAsk}
 use Rattle.sk_engine.specs.Finds.{FoundFor}
 use Rattle.sk_engine.specs.Sessions.{response_of}
