@@ -5,7 +5,7 @@ use Rattle.std.proofs.lemmas.List.{length-take}
 use Rattle.std.proofs.lemmas.Bool.{and_parts, leb-false, leb-true, ltb-false, ltb-true}
 use Rattle.sk_collapse.proofs.GroupLemmas.{ranks_drop}
 use Rattle.sk_base.specs.declared.find.Collapse.{Collapse}
-use Rattle.sk_base.specs.declared.find.Find.{Find}
+use Rattle.sk_base.specs.declared.find.Paging.{Paging}
 use Rattle.sk_base.specs.declared.find.Options.{Options}
 use Rattle.sk_base.specs.declared.rank.Rank.{Rank}
 use Rattle.sk_base.specs.declared.rank.Order.{Order}
@@ -76,46 +76,46 @@ module _ (order : Order) (saw newest : List Rank) (same : best_first order saw �
       ∙ (λ j. dropped (h.0 j) (Some o) key k newest)
       ∙ sym (dropped_alike order (Some o) key k saw newest (key_same key k))
 
-module _ (query : Tree) (find : Find) (docs : Docs) (give : ℕ → Option ℕ) (need : ℕ) (page : Views.Page) (of : PageOf page query find docs give need) where
+module _ (query : Tree) (paging : Paging) (docs : Docs) (give : ℕ → Option ℕ) (need : ℕ) (page : Views.Page) (of : PageOf page query paging docs give need) where
   abbrev saw : List Rank
   saw = of.saw
 
   abbrev key : Rank → List ℕ
-  key = key_of find.collapse docs
+  key = key_of paging.collapse docs
 
-  abbrev pages : Pages find docs of.walk.last saw page.heap page.collapser
+  abbrev pages : Pages paging docs of.walk.last saw page.heap page.collapser
   pages = of.pages
 
   abbrev greatest : ℕ
-  greatest = ceil query find.options.scheme 1 docs
+  greatest = ceil query paging.options.scheme 1 docs
 
-  kept_is : kept_by_page page ≡ length (kept_by find docs saw)
-  kept_is = kept_told find.order saw pages.newest pages.same find.collapse key page.collapser page.seen pages.collapse of.seen
+  kept_is : kept_by_page page ≡ length (kept_by paging docs saw)
+  kept_is = kept_told paging.order saw pages.newest pages.same paging.collapse key page.collapser page.seen pages.collapse of.seen
 
-  dropped_is : (k : List ℕ) → dropped_of page.collapser k ≡ dropped_by find docs k saw
-  dropped_is = dropped_told find.order saw pages.newest pages.same find.collapse key page.collapser pages.collapse
+  dropped_is : (k : List ℕ) → dropped_of page.collapser k ≡ dropped_by paging docs k saw
+  dropped_is = dropped_told paging.order saw pages.newest pages.same paging.collapse key page.collapser pages.collapse
 
   kept_seen : kept_by_page page ≤ page.seen
-  kept_seen = let few = kept_few find.order find.collapse key saw in omega (arith, kept_is, few, of.seen)
+  kept_seen = let few = kept_few paging.order paging.collapse key saw in omega (arith, kept_is, few, of.seen)
 
-  cut_same : page.options.cutoff ≡ find.options.cutoff
+  cut_same : page.options.cutoff ≡ paging.options.cutoff
   cut_same = ap (λ (o : Options). o.cutoff) of.options
 
   -- the hits
-  hit_told : (hit : Hit) → hit.key ≡ key hit.rank → TellsHit find docs saw hit.rank (ranked_of docs page.collapser hit)
-  hit_told hit own = record { id = refl; weight = refl; payload = refl; collapsed = dropped_is hit.key ∙ ap (λ k. dropped_by find docs k saw) own }
+  hit_told : (hit : Hit) → hit.key ≡ key hit.rank → TellsHit paging docs saw hit.rank (ranked_of docs page.collapser hit)
+  hit_told hit own = record { id = refl; weight = refl; payload = refl; collapsed = dropped_is hit.key ∙ ap (λ k. dropped_by paging docs k saw) own }
 
-  hits_told : (hits : List Hit) → AllByRecursion (λ (h : Hit). h.key ≡ key h.rank) hits → AllZip (TellsHit find docs saw) (ranks_of hits) (map (ranked_of docs page.collapser) hits)
+  hits_told : (hits : List Hit) → AllByRecursion (λ (h : Hit). h.key ≡ key h.rank) hits → AllZip (TellsHit paging docs saw) (ranks_of hits) (map (ranked_of docs page.collapser) hits)
   hits_told [] h = tt
   hits_told (x ∷ hits) h = (hit_told x h.0, hits_told hits h.1)
 
-  page_told : (hits : List Ranked) → hits ≡ map (ranked_of docs page.collapser) (drop page.options.first page.heap.hits) → AllZip (TellsHit find docs saw) (drop find.options.first (held_by find docs saw)) hits
+  page_told : (hits : List Ranked) → hits ≡ map (ranked_of docs page.collapser) (drop page.options.first page.heap.hits) → AllZip (TellsHit paging docs saw) (drop paging.options.first (held_by paging docs saw)) hits
   page_told hits is =
-      let first : page.options.first ≡ find.options.first = ap (λ (o : Options). o.first) of.options in
-      let front : hits ≡ map (ranked_of docs page.collapser) (drop find.options.first page.heap.hits) = is ∙ ap (λ n. map (ranked_of docs page.collapser) (drop n page.heap.hits)) first in
-      subst (λ rs. AllZip (TellsHit find docs saw) rs hits) (ranks_drop find.options.first page.heap.hits ∙ ap (drop find.options.first) (held_is find docs of.walk.last saw page.heap page.collapser pages))
-      (subst (AllZip (TellsHit find docs saw) (ranks_of (drop find.options.first page.heap.hits))) (sym front)
-      (hits_told (drop find.options.first page.heap.hits) (all_drop (λ (h : Hit). h.key ≡ key h.rank) find.options.first page.heap.hits pages.keys)))
+      let first : page.options.first ≡ paging.options.first = ap (λ (o : Options). o.first) of.options in
+      let front : hits ≡ map (ranked_of docs page.collapser) (drop paging.options.first page.heap.hits) = is ∙ ap (λ n. map (ranked_of docs page.collapser) (drop n page.heap.hits)) first in
+      subst (λ rs. AllZip (TellsHit paging docs saw) rs hits) (ranks_drop paging.options.first page.heap.hits ∙ ap (drop paging.options.first) (held_is paging docs of.walk.last saw page.heap page.collapser pages))
+      (subst (AllZip (TellsHit paging docs saw) (ranks_of (drop paging.options.first page.heap.hits))) (sym front)
+      (hits_told (drop paging.options.first page.heap.hits) (all_drop (λ (h : Hit). h.key ≡ key h.rank) paging.options.first page.heap.hits pages.keys)))
 
   -- ---- what it is sure of
 
@@ -125,8 +125,8 @@ module _ (query : Tree) (find : Find) (docs : Docs) (give : ℕ → Option ℕ) 
   module _ (ceiling : ℕ) (most : (id : ℕ) → unwrap_or (give id) 0 ≤ ceiling) (done : (ended || is_settled page.options page.seen page.heap ceiling) ≡ true) where
     abbrev Settled : Type 0
     Settled =
-        (ceiling < find.options.cutoff)
-        ⊎ ((find.options.cutoff ≤ ceiling) × (wanted find ≤ page.seen) × IsFull find docs saw × ((r : Rank) → r.weight ≤ ceiling → of.walk.last < r.id → IsPassed find docs saw r))
+        (ceiling < paging.options.cutoff)
+        ⊎ ((paging.options.cutoff ≤ ceiling) × (wanted paging ≤ page.seen) × IsFull paging docs saw × ((r : Rank) → r.weight ≤ ceiling → of.walk.last < r.id → IsPassed paging docs saw r))
 
     how : (weighed give docs ≡ []) ⊎ Settled
     how = step ended refl done
@@ -134,55 +134,55 @@ module _ (query : Tree) (find : Find) (docs : Docs) (give : ℕ → Option ℕ) 
         step : (b : Bool) → ended ≡ b → (b || is_settled page.options page.seen page.heap ceiling) ≡ true → (weighed give docs ≡ []) ⊎ Settled
         step true e f = inl (no_first (weighed give docs) e)
         step false e f =
-            inr (settled_is find docs of.walk.last saw page.heap page.collapser pages (hits_sorted find docs of.walk.last saw page.heap page.collapser pages) page.seen ceiling
+            inr (settled_is paging docs of.walk.last saw page.heap page.collapser pages (hits_sorted paging docs of.walk.last saw page.heap page.collapser pages) page.seen ceiling
             (subst (λ o. is_settled o page.seen page.heap ceiling ≡ true) of.options f))
 
-    end_by : (weighed give docs ≡ []) ⊎ Settled → Ended query find docs saw
-    end_by (inl none) = ended_at_end query find docs give need saw of.walk none
-    end_by (inr (inl low)) = ended_below query find docs give need saw of.walk ceiling most low
-    end_by (inr (inr full)) = ended_settled query find docs give need saw of.walk ceiling most (let many = full.1 in omega (arith, many, of.seen)) full.2 full.3
+    end_by : (weighed give docs ≡ []) ⊎ Settled → Ended query paging docs saw
+    end_by (inl none) = ended_at_end query paging docs give need saw of.walk none
+    end_by (inr (inl low)) = ended_below query paging docs give need saw of.walk ceiling most low
+    end_by (inr (inr full)) = ended_settled query paging docs give need saw of.walk ceiling most (let many = full.1 in omega (arith, many, of.seen)) full.2 full.3
 
-    end : Ended query find docs saw
+    end : Ended query paging docs saw
     end = end_by how
 
     -- as many were seen as are wanted, or all
-    pub seen_enough : min (wanted find) (length (found_by query find docs)) ≤ page.seen
+    pub seen_enough : min (wanted paging) (length (found_by query paging docs)) ≤ page.seen
     seen_enough =
-        let same : length (take (wanted find) (found_by query find docs)) ≡ length (take (wanted find) saw) = ap length end.first in
-        omega (arith, same, length-take (wanted find) (found_by query find docs), length-take (wanted find) saw, of.seen)
+        let same : length (take (wanted paging) (found_by query paging docs)) ≡ length (take (wanted paging) saw) = ap length end.first in
+        omega (arith, same, length-take (wanted paging) (found_by query paging docs), length-take (wanted paging) saw, of.seen)
 
-    whole_by : (weighed give docs ≡ []) ⊎ (ceiling < find.options.cutoff) → need ≤ find.options.cutoff → found_by query find docs ≡ saw
-    whole_by (inl none) low = all_at_end query find docs give need saw of.walk none low
-    whole_by (inr below) low = all_below query find docs give need saw of.walk ceiling most below low
+    whole_by : (weighed give docs ≡ []) ⊎ (ceiling < paging.options.cutoff) → need ≤ paging.options.cutoff → found_by query paging docs ≡ saw
+    whole_by (inl none) low = all_at_end query paging docs give need saw of.walk none low
+    whole_by (inr below) low = all_below query paging docs give need saw of.walk ceiling most below low
 
-    whole_is : is_whole page.options need ended ceiling ≡ true → found_by query find docs ≡ saw
+    whole_is : is_whole page.options need ended ceiling ≡ true → found_by query paging docs ≡ saw
     whole_is e =
         let b = and_parts (nat_le need page.options.cutoff) (ended || nat_lt ceiling page.options.cutoff) e in
         let low = leb-true need page.options.cutoff b.0 in
         whole_by (which ended refl b.1) (omega (arith, low, cut_same))
       where
-        which : (b : Bool) → ended ≡ b → (b || nat_lt ceiling page.options.cutoff) ≡ true → (weighed give docs ≡ []) ⊎ (ceiling < find.options.cutoff)
+        which : (b : Bool) → ended ≡ b → (b || nat_lt ceiling page.options.cutoff) ≡ true → (weighed give docs ≡ []) ⊎ (ceiling < paging.options.cutoff)
         which true f g = inl (no_first (weighed give docs) f)
         which false f g = let l = ltb-true ceiling page.options.cutoff g in inr (omega (arith, l, cut_same))
 
     -- ---- its numbers
 
-    module _ (within : ceiling ≤ greatest) (low : greatest < find.options.cutoff → need ≤ find.options.cutoff) (sound : is_sound 1 query ≡ true) where
-      high_need : find.options.cutoff < need → (wanted find ≤ length saw) × (find.options.cutoff ≤ greatest)
-      high_need high = (many (nat_le (wanted find) (length saw)) refl, enough (nat_le find.options.cutoff greatest) refl)
+    module _ (within : ceiling ≤ greatest) (low : greatest < paging.options.cutoff → need ≤ paging.options.cutoff) (sound : is_sound 1 query ≡ true) where
+      high_need : paging.options.cutoff < need → (wanted paging ≤ length saw) × (paging.options.cutoff ≤ greatest)
+      high_need high = (many (nat_le (wanted paging) (length saw)) refl, enough (nat_le paging.options.cutoff greatest) refl)
         where
-          many : (b : Bool) → nat_le (wanted find) (length saw) ≡ b → wanted find ≤ length saw
-          many true e = leb-true (wanted find) (length saw) e
-          many false e = let less = of.walk.few (leb-false (wanted find) (length saw) e) in absurd (omega (arith, less, high))
+          many : (b : Bool) → nat_le (wanted paging) (length saw) ≡ b → wanted paging ≤ length saw
+          many true e = leb-true (wanted paging) (length saw) e
+          many false e = let less = of.walk.few (leb-false (wanted paging) (length saw) e) in absurd (omega (arith, less, high))
 
-          enough : (b : Bool) → nat_le find.options.cutoff greatest ≡ b → find.options.cutoff ≤ greatest
-          enough true e = leb-true find.options.cutoff greatest e
-          enough false e = let less = low (leb-false find.options.cutoff greatest e) in absurd (omega (arith, less, high))
+          enough : (b : Bool) → nat_le paging.options.cutoff greatest ≡ b → paging.options.cutoff ≤ greatest
+          enough true e = leb-true paging.options.cutoff greatest e
+          enough false e = let less = low (leb-false paging.options.cutoff greatest e) in absurd (omega (arith, less, high))
 
-      partly : is_whole page.options need ended ceiling ≡ false → (wanted find ≤ length saw) × (find.options.cutoff ≤ greatest)
+      partly : is_whole page.options need ended ceiling ≡ false → (wanted paging ≤ length saw) × (paging.options.cutoff ≤ greatest)
       partly e = step (nat_le need page.options.cutoff) ended (nat_lt ceiling page.options.cutoff) refl refl refl e
         where
-          settled_end : ended ≡ false → page.options.cutoff ≤ ceiling → (weighed give docs ≡ []) ⊎ Settled → (wanted find ≤ length saw) × (find.options.cutoff ≤ greatest)
+          settled_end : ended ≡ false → page.options.cutoff ≤ ceiling → (weighed give docs ≡ []) ⊎ Settled → (wanted paging ≤ length saw) × (paging.options.cutoff ≤ greatest)
           settled_end f g (inl none) = absurd (true≢false (sym (ap (λ ps. is_none (first_id ps)) none) ∙ f))
           settled_end f g (inr (inl less)) = absurd (omega (arith, less, g, cut_same))
           settled_end f g (inr (inr full)) =
@@ -190,21 +190,21 @@ module _ (query : Tree) (find : Find) (docs : Docs) (give : ℕ → Option ℕ) 
               let high = full.0 in
               (omega (arith, many, of.seen), omega (arith, high, within))
 
-          step : (a b c : Bool) → nat_le need page.options.cutoff ≡ a → ended ≡ b → nat_lt ceiling page.options.cutoff ≡ c → (a && (b || c)) ≡ false → (wanted find ≤ length saw) × (find.options.cutoff ≤ greatest)
+          step : (a b c : Bool) → nat_le need page.options.cutoff ≡ a → ended ≡ b → nat_lt ceiling page.options.cutoff ≡ c → (a && (b || c)) ≡ false → (wanted paging ≤ length saw) × (paging.options.cutoff ≤ greatest)
           step false b c f g h so = let high = leb-false need page.options.cutoff f in high_need (omega (arith, high, cut_same))
           step true true c f g h so = absurd (true≢false so)
           step true false true f g h so = absurd (true≢false so)
           step true false false f g h so = settled_end g (ltb-false ceiling page.options.cutoff h) how
 
-      upper_told : (whole : Bool) → is_whole page.options need ended ceiling ≡ whole → IsUpper query find docs saw (upper_count page (static_count query docs) whole)
+      upper_told : (whole : Bool) → is_whole page.options need ended ceiling ≡ whole → IsUpper query paging docs saw (upper_count page (static_count query docs) whole)
       upper_told true e = inl (whole_is e, kept_is)
       upper_told false e =
           let p = partly e in
           inr (p.0, p.1, λ j. static_count query docs - (of.seen j - kept_is j))
 
-      lower_upper : (upper : ℕ) → IsUpper query find docs saw upper → kept_by_page page ≤ upper
+      lower_upper : (upper : ℕ) → IsUpper query paging docs saw upper → kept_by_page page ≤ upper
       lower_upper upper u =
-          let counts = counts_told query find docs saw end 1 (kept_by_page page) upper sound kept_is u in
+          let counts = counts_told query paging docs saw end 1 (kept_by_page page) upper sound kept_is u in
           let least = counts.at_least in
           let high = counts.at_most in
           omega (arith, least, high)
@@ -214,8 +214,8 @@ module _ (query : Tree) (find : Find) (docs : Docs) (give : ℕ → Option ℕ) 
       may_report sorted whole e = record {
         kept = kept_seen;
         dropped =
-            let long = (beside query find docs saw end).long in
-            let found = found_within query find 1 docs sound in
+            let long = (beside query paging docs saw end).long in
+            let found = found_within query paging 1 docs sound in
             omega (arith, long, found, of.seen);
         small =
             let live = static_live docs query in
@@ -225,12 +225,12 @@ module _ (query : Tree) (find : Find) (docs : Docs) (give : ℕ → Option ℕ) 
       }
 
       -- and the report is one that the find may have
-      pub reported : (whole : Bool) → is_whole page.options need ended ceiling ≡ whole → (spent : ℕ) → IsSpent query find docs spent → (report : Report)
-          → Reports docs page (record { greatest = greatest; most = static_count query docs }) whole spent report → ReportsFor query find docs report
+      pub reported : (whole : Bool) → is_whole page.options need ended ceiling ≡ whole → (spent : ℕ) → IsSpent query paging docs spent → (report : Report)
+          → Reports docs page (record { greatest = greatest; most = static_count query docs }) whole spent report → ReportsFor query paging docs report
       reported whole e spent lists report r =
-          let upper : IsUpper query find docs saw report.upper = subst (IsUpper query find docs saw) (sym r.upper) (upper_told whole e) in
+          let upper : IsUpper query paging docs saw report.upper = subst (IsUpper query paging docs saw) (sym r.upper) (upper_told whole e) in
           let order = lower_upper report.upper upper in
-          told query find docs saw end 1 report sound (record {
+          told query paging docs saw end 1 report sound (record {
             hits = page_told report.hits r.hits;
             lower = r.lower ∙ kept_is;
             upper = upper;

@@ -3,7 +3,7 @@ use Rattle.std.proofs.Common.{◌≡◌, ◌≤◌, ◌<◌, ◌⊎◌, ℕ, Boo
 use Rattle.std.specs.List.Sorted.{IsSortedBy}
 use Rattle.std.proofs.lemmas.Bool.Decides.{nat_tests}
 use Rattle.std.proofs.lemmas.Bool.{leb-true, ltb-false, ltb-true}
-use Rattle.sk_base.specs.declared.find.Find.{Find}
+use Rattle.sk_base.specs.declared.find.Paging.{Paging}
 use Rattle.sk_base.specs.declared.rank.Rank.{Rank}
 use Rattle.sk_base.specs.Before.{is_before}
 use Rattle.sk_base.specs.Numbers.{Docs}
@@ -23,65 +23,65 @@ one_of a b =
       | false ↦ λ e. inl (ltb-false b a e)
     ] refl
 
-module _ (find : Find) (docs : Docs) where
+module _ (paging : Paging) (docs : Docs) where
   -- the greater of two
-  pub need_max : (saw : List Rank) (last a b : ℕ) → IsNeed find docs saw last a → IsNeed find docs saw last b → IsNeed find docs saw last (max a b)
+  pub need_max : (saw : List Rank) (last a b : ℕ) → IsNeed paging docs saw last a → IsNeed paging docs saw last b → IsNeed paging docs saw last (max a b)
   need_max saw last a b (inl h) (inl g) = inl (omega (arith, h, g))
   need_max saw last a b (inl h) (inr g) = either (one_of b a)
     where
-      either : (b ≤ a) ⊎ (a < b) → IsNeed find docs saw last (max a b)
+      either : (b ≤ a) ⊎ (a < b) → IsNeed paging docs saw last (max a b)
       either (inl l) = inl (omega (arith, h, l))
       either (inr l) = inr (g.0, λ r w above. g.1 r (omega (arith, w, l)) above)
   need_max saw last a b (inr h) (inl g) = either (one_of a b)
     where
-      either : (a ≤ b) ⊎ (b < a) → IsNeed find docs saw last (max a b)
+      either : (a ≤ b) ⊎ (b < a) → IsNeed paging docs saw last (max a b)
       either (inl l) = inl (omega (arith, g, l))
       either (inr l) = inr (h.0, λ r w above. h.1 r (omega (arith, w, l)) above)
   need_max saw last a b (inr h) (inr g) = inr (h.0, λ r w above. either r w above (one_of a b))
     where
-      either : (r : Rank) → r.weight < max a b → last < r.id → (a ≤ b) ⊎ (b < a) → IsPassed find docs saw r
+      either : (r : Rank) → r.weight < max a b → last < r.id → (a ≤ b) ⊎ (b < a) → IsPassed paging docs saw r
       either r w above (inl l) = g.1 r (omega (arith, w, l)) above
       either r w above (inr l) = h.1 r (omega (arith, w, l)) above
 
   -- where what is behind the page stays behind it
-  pub need_on : (saw more : List Rank) (last later need : ℕ) → last ≤ later → (IsFull find docs saw → IsFull find docs more) → (IsFull find docs saw → (r : Rank) → IsPassed find docs saw r → IsPassed find docs more r)
-      → IsNeed find docs saw last need → IsNeed find docs more later need
+  pub need_on : (saw more : List Rank) (last later need : ℕ) → last ≤ later → (IsFull paging docs saw → IsFull paging docs more) → (IsFull paging docs saw → (r : Rank) → IsPassed paging docs saw r → IsPassed paging docs more r)
+      → IsNeed paging docs saw last need → IsNeed paging docs more later need
   need_on saw more last later need up full keeps (inl low) = inl low
   need_on saw more last later need up full keeps (inr h) = inr (full h.0, λ r w above. keeps h.0 r (h.1 r w (omega (arith, up, above))))
 
-  module _ (last : ℕ) (saw : List Rank) (held : Held) (c : Option Collapsed) (pages : Pages find docs last saw held c) (sorted : IsSortedBy (λ (x y : Hit). is_before held.order x.rank y.rank) held.hits) where
-    at_need : (o : Option ℕ) (ceiling : ℕ) → need_of held ≡ o → IsNeed find docs saw last (need_at o find.options.cutoff ceiling)
-    at_need None ceiling e = let both = page_of_none find docs last saw held c pages e in inr (both.0, λ r w above. both.1 r)
-    at_need (Some n) ceiling e = either (one_of n find.options.cutoff)
+  module _ (last : ℕ) (saw : List Rank) (held : Held) (c : Option Collapsed) (pages : Pages paging docs last saw held c) (sorted : IsSortedBy (λ (x y : Hit). is_before held.order x.rank y.rank) held.hits) where
+    at_need : (o : Option ℕ) (ceiling : ℕ) → need_of held ≡ o → IsNeed paging docs saw last (need_at o paging.options.cutoff ceiling)
+    at_need None ceiling e = let both = page_of_none paging docs last saw held c pages e in inr (both.0, λ r w above. both.1 r)
+    at_need (Some n) ceiling e = either (one_of n paging.options.cutoff)
       where
-        either : (n ≤ find.options.cutoff) ⊎ (find.options.cutoff < n) → IsNeed find docs saw last (max n find.options.cutoff)
+        either : (n ≤ paging.options.cutoff) ⊎ (paging.options.cutoff < n) → IsNeed paging docs saw last (max n paging.options.cutoff)
         either (inl l) = inl (omega (arith, l))
-        either (inr l) = inr (page_is_full find docs last saw held c pages n e (omega (arith, l)), λ r w above. page_passes find docs last saw held c pages sorted n e r (omega (arith, w, l)) above)
+        either (inr l) = inr (page_is_full paging docs last saw held c pages n e (omega (arith, l)), λ r w above. page_passes paging docs last saw held c pages sorted n e r (omega (arith, w, l)) above)
 
-    pub need_right : (seen ceiling : ℕ) → IsNeed find docs saw last (need_for find.options seen held ceiling)
+    pub need_right : (seen ceiling : ℕ) → IsNeed paging docs saw last (need_for paging.options seen held ceiling)
     need_right seen ceiling =
-        elim (nat_lt seen (wanted find)) as (λ b. IsNeed find docs saw last (cond b find.options.cutoff (need_at (need_of held) find.options.cutoff ceiling))) [
+        elim (nat_lt seen (wanted paging)) as (λ b. IsNeed paging docs saw last (cond b paging.options.cutoff (need_at (need_of held) paging.options.cutoff ceiling))) [
           | true ↦ inl (omega arith)
           | false ↦ at_need (need_of held) ceiling refl
         ]
 
     -- none can enter the page
-    above_passes : (o : Option ℕ) (ceiling : ℕ) → need_of held ≡ o → is_above o ceiling ≡ true → IsFull find docs saw × ((r : Rank) → r.weight ≤ ceiling → last < r.id → IsPassed find docs saw r)
-    above_passes None ceiling e h = let both = page_of_none find docs last saw held c pages e in (both.0, λ r w above. both.1 r)
+    above_passes : (o : Option ℕ) (ceiling : ℕ) → need_of held ≡ o → is_above o ceiling ≡ true → IsFull paging docs saw × ((r : Rank) → r.weight ≤ ceiling → last < r.id → IsPassed paging docs saw r)
+    above_passes None ceiling e h = let both = page_of_none paging docs last saw held c pages e in (both.0, λ r w above. both.1 r)
     above_passes (Some n) ceiling e h =
         let more : ceiling < n = ltb-true ceiling n h in
-        (page_is_full find docs last saw held c pages n e (omega (arith, more)), λ r w above. page_passes find docs last saw held c pages sorted n e r (omega (arith, w, more)) above)
+        (page_is_full paging docs last saw held c pages n e (omega (arith, more)), λ r w above. page_passes paging docs last saw held c pages sorted n e r (omega (arith, w, more)) above)
 
-    pub settled_is : (seen ceiling : ℕ) → is_settled find.options seen held ceiling ≡ true
-        → (ceiling < find.options.cutoff) ⊎ ((find.options.cutoff ≤ ceiling) × (wanted find ≤ seen) × IsFull find docs saw × ((r : Rank) → r.weight ≤ ceiling → last < r.id → IsPassed find docs saw r))
+    pub settled_is : (seen ceiling : ℕ) → is_settled paging.options seen held ceiling ≡ true
+        → (ceiling < paging.options.cutoff) ⊎ ((paging.options.cutoff ≤ ceiling) × (wanted paging ≤ seen) × IsFull paging docs saw × ((r : Rank) → r.weight ≤ ceiling → last < r.id → IsPassed paging docs saw r))
     settled_is seen ceiling h =
-        elim (nat_lt ceiling find.options.cutoff) as (λ b. nat_lt ceiling find.options.cutoff ≡ b → (b || (nat_le (wanted find) seen && is_above (need_of held) ceiling)) ≡ true
-        → (ceiling < find.options.cutoff) ⊎ ((find.options.cutoff ≤ ceiling) × (wanted find ≤ seen) × IsFull find docs saw × ((r : Rank) → r.weight ≤ ceiling → last < r.id → IsPassed find docs saw r))) [
-          | true ↦ λ e g. inl (ltb-true ceiling find.options.cutoff e)
+        elim (nat_lt ceiling paging.options.cutoff) as (λ b. nat_lt ceiling paging.options.cutoff ≡ b → (b || (nat_le (wanted paging) seen && is_above (need_of held) ceiling)) ≡ true
+        → (ceiling < paging.options.cutoff) ⊎ ((paging.options.cutoff ≤ ceiling) × (wanted paging ≤ seen) × IsFull paging docs saw × ((r : Rank) → r.weight ≤ ceiling → last < r.id → IsPassed paging docs saw r))) [
+          | true ↦ λ e g. inl (ltb-true ceiling paging.options.cutoff e)
           | false ↦ λ e g.
-              let b = both_true (nat_le (wanted find) seen) (is_above (need_of held) ceiling) g in
+              let b = both_true (nat_le (wanted paging) seen) (is_above (need_of held) ceiling) g in
               let p = above_passes (need_of held) ceiling refl b.1 in
-              inr (ltb-false ceiling find.options.cutoff e, leb-true (wanted find) seen b.0, p.0, p.1)
+              inr (ltb-false ceiling paging.options.cutoff e, leb-true (wanted paging) seen b.0, p.0, p.1)
         ] refl h
       where
         both_true : (a b : Bool) → (a && b) ≡ true → (a ≡ true) × (b ≡ true)
@@ -89,8 +89,8 @@ module _ (find : Find) (docs : Docs) where
         both_true false b e = absurd (true≢false (sym e))
 
 -- until enough were seen the cutoff alone is asked for
-pub need_few : (find : Find) (seen ceiling : ℕ) (held : Held) → seen < wanted find → need_for find.options seen held ceiling ≡ find.options.cutoff
-need_few find seen ceiling held few = ap (λ b. cond b find.options.cutoff (need_at (need_of held) find.options.cutoff ceiling)) (is_less seen (wanted find) few)
+pub need_few : (paging : Paging) (seen ceiling : ℕ) (held : Held) → seen < wanted paging → need_for paging.options seen held ceiling ≡ paging.options.cutoff
+need_few paging seen ceiling held few = ap (λ b. cond b paging.options.cutoff (need_at (need_of held) paging.options.cutoff ceiling)) (is_less seen (wanted paging) few)
   where
     is_less : (a b : ℕ) → a < b → nat_lt a b ≡ true
     is_less a b l = grind (arith, nat_tests)

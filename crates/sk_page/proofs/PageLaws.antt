@@ -7,7 +7,7 @@ use Rattle.std.proofs.lemmas.List.{length-map, get_or-map, get_or-take}
 use Rattle.std.proofs.lemmas.List.Elements.{All-from_recursion, recursion_from_All}
 use Rattle.std.proofs.lemmas.List.Sorted.{IsPermutation-to_front, IsPermutation-sym, IsPermutation-cons, IsPermutation-trans}
 use Rattle.sk_base.specs.declared.find.Collapse.{Collapse}
-use Rattle.sk_base.specs.declared.find.Find.{Find}
+use Rattle.sk_base.specs.declared.find.Paging.{Paging}
 use Rattle.sk_base.specs.declared.rank.Order.{Order}
 use Rattle.sk_base.specs.declared.rank.Rank.{Rank}
 use Rattle.sk_base.specs.Before.{is_before}
@@ -191,13 +191,13 @@ module _ (order : Order) where
 
 -- ---- what is kept under a verdict
 
-module _ (find : Find) (docs : Docs) where
+module _ (paging : Paging) (docs : Docs) where
   abbrev key : Rank → List ℕ
-  key = key_of find.collapse docs
+  key = key_of paging.collapse docs
 
   -- a search that saw nothing
-  pub page_start : (held : Held) (c : Option Collapsed) → held ≡ record { order = find.order; most = page_end find; room = page_end find; hits = [] } → CollapsesBy find.collapse find.order key [] c → Pages find docs 0 [] held c
-  page_start held c is collapse = subst (λ h. Pages find docs 0 [] h c) (sym is) (record {
+  pub page_start : (held : Held) (c : Option Collapsed) → held ≡ record { order = paging.order; most = page_end paging; room = page_end paging; hits = [] } → CollapsesBy paging.collapse paging.order key [] c → Pages paging docs 0 [] held c
+  page_start held c is collapse = subst (λ h. Pages paging docs 0 [] h c) (sym is) (record {
     newest = [];
     same = refl;
     differ = λ i j d l m. absurd (omega (arith, m));
@@ -205,7 +205,7 @@ module _ (find : Find) (docs : Docs) where
     order = refl;
     most = refl;
     room = refl;
-    hits = sym (none find.collapse (page_end find));
+    hits = sym (none paging.collapse (page_end paging));
     keys = tt;
     under = tt;
     collapse = collapse;
@@ -218,16 +218,16 @@ module _ (find : Find) (docs : Docs) where
       none (Some c) (suc n) = refl
 
   -- the kept matches stand in order, and their ids differ
-  kept_orders : (newest : List Rank) → AllPairs (λ x y. x.id ≢ y.id) newest → (o : Option Collapse) (k : Rank → List ℕ) → IsSortedBy (is_before find.order) (kept find.order o k newest) × AllPairs (λ x y. x.id ≢ y.id) (kept find.order o k newest)
-  kept_orders newest differ None k = (sorted_from find.order (best_first find.order newest) (rises_best_first find.order newest), pairs_distinct (best_first find.order newest) (distinct_best find.order newest (distinct_from newest differ)))
-  kept_orders newest differ (Some c) k = (kept_sorted find.order c.max k newest differ, kept_differ find.order c.max k newest differ)
+  kept_orders : (newest : List Rank) → AllPairs (λ x y. x.id ≢ y.id) newest → (o : Option Collapse) (k : Rank → List ℕ) → IsSortedBy (is_before paging.order) (kept paging.order o k newest) × AllPairs (λ x y. x.id ≢ y.id) (kept paging.order o k newest)
+  kept_orders newest differ None k = (sorted_from paging.order (best_first paging.order newest) (rises_best_first paging.order newest), pairs_distinct (best_first paging.order newest) (distinct_best paging.order newest (distinct_from newest differ)))
+  kept_orders newest differ (Some c) k = (kept_sorted paging.order c.max k newest differ, kept_differ paging.order c.max k newest differ)
 
-  module _ (last : ℕ) (saw : List Rank) (held : Held) (c : Option Collapsed) (pages : Pages find docs last saw held c) (x : Rank) (later : last < x.id) where
+  module _ (last : ℕ) (saw : List Rank) (held : Held) (c : Option Collapsed) (pages : Pages paging docs last saw held c) (x : Rank) (later : last < x.id) where
     abbrev Before : List Rank
-    Before = kept_by find docs pages.newest
+    Before = kept_by paging docs pages.newest
 
     abbrev After : List Rank
-    After = kept_by find docs (x ∷ pages.newest)
+    After = kept_by paging docs (x ∷ pages.newest)
 
     pub fresh : All (λ (r : Rank). r.id ≢ x.id) pages.newest
     fresh = All-from_recursion (λ (r : Rank). r.id ≢ x.id) pages.newest (each_weaker (λ (r : Rank). r.id ≤ last) (λ (r : Rank). r.id ≢ x.id) (λ r l e. absurd (omega (arith, l, e, later))) pages.newest pages.low)
@@ -238,27 +238,27 @@ module _ (find : Find) (docs : Docs) where
     differs : AllPairs (λ x y. x.id ≢ y.id) (x ∷ pages.newest)
     differs = differ_more x pages.newest pages.differ fresh
 
-    orders : IsSortedBy (is_before find.order) Before × AllPairs (λ x y. x.id ≢ y.id) Before
-    orders = kept_orders pages.newest pages.differ find.collapse key
+    orders : IsSortedBy (is_before paging.order) Before × AllPairs (λ x y. x.id ≢ y.id) Before
+    orders = kept_orders pages.newest pages.differ paging.collapse key
 
     module _ (hit : Hit) (is : hit.rank ≡ x) where
-      offered_is : (h : Held) → h.order ≡ find.order → h.most ≡ page_end find → ranks_of (offered hit h).hits ≡ take (page_end find) (place find.order x (ranks_of h.hits))
+      offered_is : (h : Held) → h.order ≡ paging.order → h.most ≡ page_end paging → ranks_of (offered hit h).hits ≡ take (page_end paging) (place paging.order x (ranks_of h.hits))
       offered_is h order most = ranks_offered hit h ∙ (λ i. take (most i) (place (order i) (is i) (ranks_of h.hits)))
 
-      hits_after : (v : Verdict) → Judges v find.order key x Before After → ranks_of (judged v hit held).hits ≡ take (page_end find) After
+      hits_after : (v : Verdict) → Judges v paging.order key x Before After → ranks_of (judged v hit held).hits ≡ take (page_end paging) After
       hits_after Verdict.Keep j =
           offered_is held pages.order pages.most
-          ∙ ap (λ rs. take (page_end find) (place find.order x rs)) pages.hits
-          ∙ sym (take_placed find.order (page_end find) x Before)
-          ∙ ap (take (page_end find)) (sym j)
+          ∙ ap (λ rs. take (page_end paging) (place paging.order x rs)) pages.hits
+          ∙ sym (take_placed paging.order (page_end paging) x Before)
+          ∙ ap (take (page_end paging)) (sym j)
       hits_after (Verdict.KeepFor id) j =
           let y : Rank = j.0 in
           offered_is (without id held) pages.order pages.most
-          ∙ ap (λ rs. take (page_end find) (place find.order x rs)) (ranks_without id held.hits ∙ ap (without_rank id) pages.hits)
-          ∙ sym (subst (λ n. take (page_end find) (place find.order x (without_rank n Before)) ≡ take (page_end find) (place find.order x (without_rank n (take (page_end find) Before)))) j.1
-          (best_for_kept find.order (page_end find) x y Before orders.0 orders.1 j.2 j.4))
-          ∙ ap (take (page_end find)) (sym j.5)
-      hits_after Verdict.Drop j = pages.hits ∙ ap (take (page_end find)) (sym j)
+          ∙ ap (λ rs. take (page_end paging) (place paging.order x rs)) (ranks_without id held.hits ∙ ap (without_rank id) pages.hits)
+          ∙ sym (subst (λ n. take (page_end paging) (place paging.order x (without_rank n Before)) ≡ take (page_end paging) (place paging.order x (without_rank n (take (page_end paging) Before)))) j.1
+          (best_for_kept paging.order (page_end paging) x y Before orders.0 orders.1 j.2 j.4))
+          ∙ ap (take (page_end paging)) (sym j.5)
+      hits_after Verdict.Drop j = pages.hits ∙ ap (take (page_end paging)) (sym j)
 
       module _ (P : Hit → Type 0) (own : P hit) where
         all_offered : (h : Held) → AllByRecursion P h.hits → AllByRecursion P (offered hit h).hits
@@ -285,118 +285,118 @@ module _ (find : Find) (docs : Docs) where
       same_room Verdict.Drop = refl
 
       -- one match more
-      pub page_more : (v : Verdict) (c2 : Option Collapsed) → hit.key ≡ key x → Judges v find.order key x Before After → CollapsesBy find.collapse find.order key (x ∷ pages.newest) c2
-          → Pages find docs x.id (saw ++ x ∷ []) (judged v hit held) c2
+      pub page_more : (v : Verdict) (c2 : Option Collapsed) → hit.key ≡ key x → Judges v paging.order key x Before After → CollapsesBy paging.collapse paging.order key (x ∷ pages.newest) c2
+          → Pages paging docs x.id (saw ++ x ∷ []) (judged v hit held) c2
       page_more v c2 own j collapse = record {
         newest = x ∷ pages.newest;
-        same = best_last find.order pages.newest saw x pages.same differs;
+        same = best_last paging.order pages.newest saw x pages.same differs;
         differ = differs;
         low = (omega arith, each_weaker (λ (r : Rank). r.id ≤ last) (λ (r : Rank). r.id ≤ x.id) (λ r l. omega (arith, l, later)) pages.newest pages.low);
         order = same_order v ∙ pages.order;
         most = same_most v ∙ pages.most;
         room = same_room v ∙ pages.room;
         hits = hits_after v j;
-        keys = all_judged (λ (h : Hit). h.key ≡ key_of find.collapse docs h.rank) (own ∙ ap key (sym is)) v pages.keys;
+        keys = all_judged (λ (h : Hit). h.key ≡ key_of paging.collapse docs h.rank) (own ∙ ap key (sym is)) v pages.keys;
         under = all_judged (λ (h : Hit). h.rank.id ≤ x.id) (subst (λ (r : Rank). r.id ≤ x.id) (sym is) (omega arith)) v
             (each_weaker (λ (h : Hit). h.rank.id ≤ last) (λ (h : Hit). h.rank.id ≤ x.id) (λ h l. omega (arith, l, later)) held.hits pages.under);
         collapse = collapse;
       }
 
     -- what comes behind the page comes behind it with one match more
-    newest_kept : kept_by find docs saw ≡ Before
-    newest_kept = ap (kept_of find.collapse key) pages.same
+    newest_kept : kept_by paging docs saw ≡ Before
+    newest_kept = ap (kept_of paging.collapse key) pages.same
 
-    leads_on : (v : Verdict) (r : Rank) → Judges v find.order key x Before After → page_end find ≤ length Before → is_behind find.order (take (page_end find) Before) r ≡ true → is_behind find.order (take (page_end find) After) r ≡ true
-    leads_on Verdict.Keep r j full h = subst (λ zs. is_behind find.order (take (page_end find) zs) r ≡ true) (sym j) (leads_more find.order r (page_end find) x Before full h)
+    leads_on : (v : Verdict) (r : Rank) → Judges v paging.order key x Before After → page_end paging ≤ length Before → is_behind paging.order (take (page_end paging) Before) r ≡ true → is_behind paging.order (take (page_end paging) After) r ≡ true
+    leads_on Verdict.Keep r j full h = subst (λ zs. is_behind paging.order (take (page_end paging) zs) r ≡ true) (sym j) (leads_more paging.order r (page_end paging) x Before full h)
     leads_on (Verdict.KeepFor id) r j full h =
         let y : Rank = j.0 in
-        subst (λ zs. is_behind find.order (take (page_end find) zs) r ≡ true) (sym j.5)
-        (subst (λ n. is_behind find.order (take (page_end find) (place find.order x (without_rank n Before))) r ≡ true) j.1
-        (leads_for find.order r (page_end find) x y Before full orders.0 orders.1 j.2 j.4 h))
-    leads_on Verdict.Drop r j full h = subst (λ zs. is_behind find.order (take (page_end find) zs) r ≡ true) (sym j) h
+        subst (λ zs. is_behind paging.order (take (page_end paging) zs) r ≡ true) (sym j.5)
+        (subst (λ n. is_behind paging.order (take (page_end paging) (place paging.order x (without_rank n Before))) r ≡ true) j.1
+        (leads_for paging.order r (page_end paging) x y Before full orders.0 orders.1 j.2 j.4 h))
+    leads_on Verdict.Drop r j full h = subst (λ zs. is_behind paging.order (take (page_end paging) zs) r ≡ true) (sym j) h
 
-    pub page_keeps : (v : Verdict) → Judges v find.order key x Before After → IsFull find docs saw → (r : Rank) → IsPassed find docs saw r → IsPassed find docs (saw ++ x ∷ []) r
+    pub page_keeps : (v : Verdict) → Judges v paging.order key x Before After → IsFull paging docs saw → (r : Rank) → IsPassed paging docs saw r → IsPassed paging docs (saw ++ x ∷ []) r
     page_keeps v j full r h =
-        let more : kept_by find docs (saw ++ x ∷ []) ≡ After = ap (kept_of find.collapse key) (best_last find.order pages.newest saw x pages.same differs) in
-        subst (λ zs. is_behind find.order (take (page_end find) zs) r ≡ true) (sym more)
-        (leads_on v r j (subst (λ zs. page_end find ≤ length zs) newest_kept full) (subst (λ zs. is_behind find.order (take (page_end find) zs) r ≡ true) newest_kept h))
+        let more : kept_by paging docs (saw ++ x ∷ []) ≡ After = ap (kept_of paging.collapse key) (best_last paging.order pages.newest saw x pages.same differs) in
+        subst (λ zs. is_behind paging.order (take (page_end paging) zs) r ≡ true) (sym more)
+        (leads_on v r j (subst (λ zs. page_end paging ≤ length zs) newest_kept full) (subst (λ zs. is_behind paging.order (take (page_end paging) zs) r ≡ true) newest_kept h))
 
     -- as many are kept with one match more
-    pub page_full : (v : Verdict) → Judges v find.order key x Before After → IsFull find docs saw → IsFull find docs (saw ++ x ∷ [])
+    pub page_full : (v : Verdict) → Judges v paging.order key x Before After → IsFull paging docs saw → IsFull paging docs (saw ++ x ∷ [])
     page_full v j full =
-        let more : kept_by find docs (saw ++ x ∷ []) ≡ After = ap (kept_of find.collapse key) (best_last find.order pages.newest saw x pages.same differs) in
-        subst (λ zs. page_end find ≤ length zs) (sym more) (longer v j (subst (λ zs. page_end find ≤ length zs) newest_kept full))
+        let more : kept_by paging docs (saw ++ x ∷ []) ≡ After = ap (kept_of paging.collapse key) (best_last paging.order pages.newest saw x pages.same differs) in
+        subst (λ zs. page_end paging ≤ length zs) (sym more) (longer v j (subst (λ zs. page_end paging ≤ length zs) newest_kept full))
       where
-        length_place : (y : Rank) (ys : List Rank) → length (place find.order y ys) ≡ suc (length ys)
+        length_place : (y : Rank) (ys : List Rank) → length (place paging.order y ys) ≡ suc (length ys)
         length_place y [] = refl
-        length_place y (z ∷ zs) = step (is_before find.order y z) (length_place y zs)
+        length_place y (z ∷ zs) = step (is_before paging.order y z) (length_place y zs)
           where
-            step : (b : Bool) → length (place find.order y zs) ≡ suc (length zs) → length (cond b (y ∷ z ∷ zs) (z ∷ place find.order y zs)) ≡ suc (suc (length zs))
+            step : (b : Bool) → length (place paging.order y zs) ≡ suc (length zs) → length (cond b (y ∷ z ∷ zs) (z ∷ place paging.order y zs)) ≡ suc (suc (length zs))
             step true e = refl
             step false e = ap suc e
 
-        longer : (v : Verdict) → Judges v find.order key x Before After → page_end find ≤ length Before → page_end find ≤ length After
-        longer Verdict.Keep j h = let e : length After ≡ length (place find.order x Before) = ap length j in omega (arith, h, e, length_place x Before)
+        longer : (v : Verdict) → Judges v paging.order key x Before After → page_end paging ≤ length Before → page_end paging ≤ length After
+        longer Verdict.Keep j h = let e : length After ≡ length (place paging.order x Before) = ap length j in omega (arith, h, e, length_place x Before)
         longer (Verdict.KeepFor id) j h =
             let y : Rank = j.0 in
-            let e : length After ≡ length (place find.order x (without_rank id Before)) = ap length j.5 in
+            let e : length After ≡ length (place paging.order x (without_rank id Before)) = ap length j.5 in
             let less : suc (length (without_rank id Before)) ≡ length Before = subst (λ n. suc (length (without_rank n Before)) ≡ length Before) j.1 (length-without_rank y Before (distinct_from Before orders.1) j.2) in
             omega (arith, h, e, length_place x (without_rank id Before), less)
-        longer Verdict.Drop j h = subst (λ zs. page_end find ≤ length zs) (sym j) h
+        longer Verdict.Drop j h = subst (λ zs. page_end paging ≤ length zs) (sym j) h
 
   -- the hits of a page stand in order
-  pub hits_sorted : (last : ℕ) (saw : List Rank) (held : Held) (c : Option Collapsed) → Pages find docs last saw held c → IsSortedBy (λ (x y : Hit). is_before held.order x.rank y.rank) held.hits
+  pub hits_sorted : (last : ℕ) (saw : List Rank) (held : Held) (c : Option Collapsed) → Pages paging docs last saw held c → IsSortedBy (λ (x y : Hit). is_before held.order x.rank y.rank) held.hits
   hits_sorted last saw held c pages k d low m =
       let long : length (ranks_of held.hits) ≡ length held.hits = length-map held.hits (λ (h : Hit). h.rank) in
-      let same : length (ranks_of held.hits) ≡ length (take (page_end find) (kept_by find docs pages.newest)) = ap length pages.hits in
-      let short : length (take (page_end find) (kept_by find docs pages.newest)) ≡ min (page_end find) (length (kept_by find docs pages.newest)) = length-take (page_end find) (kept_by find docs pages.newest) in
+      let same : length (ranks_of held.hits) ≡ length (take (page_end paging) (kept_by paging docs pages.newest)) = ap length pages.hits in
+      let short : length (take (page_end paging) (kept_by paging docs pages.newest)) ≡ min (page_end paging) (length (kept_by paging docs pages.newest)) = length-take (page_end paging) (kept_by paging docs pages.newest) in
       subst (λ (o : Order). is_before o (get_or held.hits (k + 1) d).rank (get_or held.hits k d).rank ≡ false) (sym pages.order)
-      (subst (λ (r : Rank). is_before find.order (get_or held.hits (k + 1) d).rank r ≡ false) (rank_at k (omega (arith, m)))
-      (subst (λ (r : Rank). is_before find.order r (get_or (kept_by find docs pages.newest) k d.rank) ≡ false) (rank_at (k + 1) (omega (arith, m)))
-      ((kept_orders pages.newest pages.differ find.collapse key).0 k d.rank (omega arith) (omega (arith, m, long, same, short)))))
+      (subst (λ (r : Rank). is_before paging.order (get_or held.hits (k + 1) d).rank r ≡ false) (rank_at k (omega (arith, m)))
+      (subst (λ (r : Rank). is_before paging.order r (get_or (kept_by paging docs pages.newest) k d.rank) ≡ false) (rank_at (k + 1) (omega (arith, m)))
+      ((kept_orders pages.newest pages.differ paging.collapse key).0 k d.rank (omega arith) (omega (arith, m, long, same, short)))))
     where
-      rank_at : (j : ℕ) → j < length held.hits → get_or (kept_by find docs pages.newest) j d.rank ≡ (get_or held.hits j d).rank
+      rank_at : (j : ℕ) → j < length held.hits → get_or (kept_by paging docs pages.newest) j d.rank ≡ (get_or held.hits j d).rank
       rank_at j l =
           let long : length (ranks_of held.hits) ≡ length held.hits = length-map held.hits (λ (h : Hit). h.rank) in
-          let same : length (ranks_of held.hits) ≡ length (take (page_end find) (kept_by find docs pages.newest)) = ap length pages.hits in
-          let short : length (take (page_end find) (kept_by find docs pages.newest)) ≡ min (page_end find) (length (kept_by find docs pages.newest)) = length-take (page_end find) (kept_by find docs pages.newest) in
-          sym (get_or-take (page_end find) (kept_by find docs pages.newest) j d.rank (omega (arith, l, long, same, short)))
+          let same : length (ranks_of held.hits) ≡ length (take (page_end paging) (kept_by paging docs pages.newest)) = ap length pages.hits in
+          let short : length (take (page_end paging) (kept_by paging docs pages.newest)) ≡ min (page_end paging) (length (kept_by paging docs pages.newest)) = length-take (page_end paging) (kept_by paging docs pages.newest) in
+          sym (get_or-take (page_end paging) (kept_by paging docs pages.newest) j d.rank (omega (arith, l, long, same, short)))
           ∙ ap (λ rs. get_or rs j d.rank) (sym pages.hits)
           ∙ get_or-map (λ (h : Hit). h.rank) held.hits j d d.rank l
 
   -- ---- a match that is offered
 
   module _ (last : ℕ) (saw : List Rank) (held held2 : Held) (c c2 : Option Collapsed) (hit : Hit) where
-    pub record More (pages : Pages find docs last saw held c) : Type 0 where
-      pub pages2 : Pages find docs hit.rank.id (saw ++ hit.rank ∷ []) held2 c2
-      pub keeps : IsFull find docs saw → (r : Rank) → IsPassed find docs saw r → IsPassed find docs (saw ++ hit.rank ∷ []) r
-      pub full : IsFull find docs saw → IsFull find docs (saw ++ hit.rank ∷ [])
+    pub record More (pages : Pages paging docs last saw held c) : Type 0 where
+      pub pages2 : Pages paging docs hit.rank.id (saw ++ hit.rank ∷ []) held2 c2
+      pub keeps : IsFull paging docs saw → (r : Rank) → IsPassed paging docs saw r → IsPassed paging docs (saw ++ hit.rank ∷ []) r
+      pub full : IsFull paging docs saw → IsFull paging docs (saw ++ hit.rank ∷ [])
 
-    judged_is : (o : Option Collapse) (k : Rank → List ℕ) (newest : List Rank) (v : Verdict) (c c2 : Option Collapsed) → CollapsesBy o find.order k newest c → SeesBy c c2 v hit → k hit.rank ≡ hit.key → All (λ (r : Rank). r.id ≢ hit.rank.id) newest
-        → Judges v find.order k hit.rank (kept find.order o k newest) (kept find.order o k (hit.rank ∷ newest)) × CollapsesBy o find.order k (hit.rank ∷ newest) c2
-    judged_is None k newest v None None h s own apart = (subst (λ u. Judges u find.order k hit.rank (best_first find.order newest) (place find.order hit.rank (best_first find.order newest))) (sym s) refl, tt)
+    judged_is : (o : Option Collapse) (k : Rank → List ℕ) (newest : List Rank) (v : Verdict) (c c2 : Option Collapsed) → CollapsesBy o paging.order k newest c → SeesBy c c2 v hit → k hit.rank ≡ hit.key → All (λ (r : Rank). r.id ≢ hit.rank.id) newest
+        → Judges v paging.order k hit.rank (kept paging.order o k newest) (kept paging.order o k (hit.rank ∷ newest)) × CollapsesBy o paging.order k (hit.rank ∷ newest) c2
+    judged_is None k newest v None None h s own apart = (subst (λ u. Judges u paging.order k hit.rank (best_first paging.order newest) (place paging.order hit.rank (best_first paging.order newest))) (sym s) refl, tt)
     judged_is None k newest v None (Some d) h s own apart = absurd s
     judged_is None k newest v (Some c) c2 h s own apart = absurd h
     judged_is (Some o) k newest v None c2 h s own apart = absurd h
     judged_is (Some o) k newest v (Some c) None h s own apart = absurd s
     judged_is (Some o) k newest v (Some c) (Some d) h s own apart =
         let both = s.2 k newest h.2 own apart in (
-          subst (λ m. Judges v find.order k hit.rank (kept_in find.order m k newest) (kept_in find.order m k (hit.rank ∷ newest))) h.1
+          subst (λ m. Judges v paging.order k hit.rank (kept_in paging.order m k newest) (kept_in paging.order m k (hit.rank ∷ newest))) h.1
               (subst (λ (p : Order). Judges v p k hit.rank (kept_in p c.most k newest) (kept_in p c.most k (hit.rank ∷ newest))) h.0 both.1),
           (s.0 ∙ h.0, s.1 ∙ h.1, both.0),
         )
 
-    pub page_offered : (pages : Pages find docs last saw held c) → last < hit.rank.id → hit.key ≡ key hit.rank → Offers held held2 c c2 hit → More pages
+    pub page_offered : (pages : Pages paging docs last saw held c) → last < hit.rank.id → hit.key ≡ key hit.rank → Offers held held2 c c2 hit → More pages
     page_offered pages later own offers =
-        let j = judged_is find.collapse key pages.newest offers.verdict c c2 pages.collapse offers.sees (sym own) (fresh last saw held c pages hit.rank later) in
+        let j = judged_is paging.collapse key pages.newest offers.verdict c c2 pages.collapse offers.sees (sym own) (fresh last saw held c pages hit.rank later) in
         record {
-          pages2 = subst (λ h. Pages find docs hit.rank.id (saw ++ hit.rank ∷ []) h c2) (sym offers.heap) (page_more last saw held c pages hit.rank later hit refl offers.verdict c2 own j.0 j.1);
+          pages2 = subst (λ h. Pages paging docs hit.rank.id (saw ++ hit.rank ∷ []) h c2) (sym offers.heap) (page_more last saw held c pages hit.rank later hit refl offers.verdict c2 own j.0 j.1);
           keeps = page_keeps last saw held c pages hit.rank later offers.verdict j.0;
           full = page_full last saw held c pages hit.rank later offers.verdict j.0;
         }
 
   -- behind a later id
-  pub page_later : (last later : ℕ) (saw : List Rank) (held : Held) (c : Option Collapsed) → last ≤ later → Pages find docs last saw held c → Pages find docs later saw held c
+  pub page_later : (last later : ℕ) (saw : List Rank) (held : Held) (c : Option Collapsed) → last ≤ later → Pages paging docs last saw held c → Pages paging docs later saw held c
   page_later last later saw held c up pages = record {
     newest = pages.newest;
     same = pages.same;
@@ -413,26 +413,26 @@ module _ (find : Find) (docs : Docs) where
 
   -- ---- what the heap's need says
 
-  module _ (last : ℕ) (saw : List Rank) (held : Held) (c : Option Collapsed) (pages : Pages find docs last saw held c) where
-    pub held_is : ranks_of held.hits ≡ held_by find docs saw
-    held_is = pages.hits ∙ ap (λ rs. take (page_end find) (kept_of find.collapse key rs)) (sym pages.same)
+  module _ (last : ℕ) (saw : List Rank) (held : Held) (c : Option Collapsed) (pages : Pages paging docs last saw held c) where
+    pub held_is : ranks_of held.hits ≡ held_by paging docs saw
+    held_is = pages.hits ∙ ap (λ rs. take (page_end paging) (kept_of paging.collapse key rs)) (sym pages.same)
 
     all_behind : (r : Rank) (hits : List Hit) → AllByRecursion (λ (h : Hit). is_before held.order h.rank r ≡ true) hits → is_behind held.order (ranks_of hits) r ≡ true
     all_behind r [] h = refl
     all_behind r (x ∷ hits) h = and_from (is_before held.order x.rank r) (is_behind held.order (ranks_of hits) r) h.0 (all_behind r hits h.1)
 
-    pub page_is_full : (n : ℕ) → need_of held ≡ Some n → 0 < n → IsFull find docs saw
+    pub page_is_full : (n : ℕ) → need_of held ≡ Some n → 0 < n → IsFull paging docs saw
     page_is_full n e some =
         let most : held.most ≤ length held.hits = full_by held n e some in
         let ranks : length (ranks_of held.hits) ≡ length held.hits = length-map held.hits (λ (h : Hit). h.rank) in
-        let same : length (ranks_of held.hits) ≡ length (held_by find docs saw) = ap length held_is in
-        let short : length (held_by find docs saw) ≡ min (page_end find) (length (kept_by find docs saw)) = length-take (page_end find) (kept_by find docs saw) in
+        let same : length (ranks_of held.hits) ≡ length (held_by paging docs saw) = ap length held_is in
+        let short : length (held_by paging docs saw) ≡ min (page_end paging) (length (kept_by paging docs saw)) = length-take (page_end paging) (kept_by paging docs saw) in
         omega (arith, most, ranks, same, short, pages.most)
 
-    pub page_passes : IsSortedBy (λ (x y : Hit). is_before held.order x.rank y.rank) held.hits → (n : ℕ) → need_of held ≡ Some n → (r : Rank) → r.weight < n → last < r.id → IsPassed find docs saw r
+    pub page_passes : IsSortedBy (λ (x y : Hit). is_before held.order x.rank y.rank) held.hits → (n : ℕ) → need_of held ≡ Some n → (r : Rank) → r.weight < n → last < r.id → IsPassed paging docs saw r
     page_passes sorted n e r less above =
         let after = need_keeps_out held n r sorted e less (All-from_recursion (λ (h : Hit). h.rank.id < r.id) held.hits (each_weaker (λ (h : Hit). h.rank.id ≤ last) (λ (h : Hit). h.rank.id < r.id) (λ h l. omega (arith, l, above)) held.hits pages.under)) in
-        subst (λ (rs : List Rank). is_behind find.order rs r ≡ true) held_is
+        subst (λ (rs : List Rank). is_behind paging.order rs r ≡ true) held_is
         (subst (λ (o : Order). is_behind o (ranks_of held.hits) r ≡ true) pages.order (all_behind r held.hits (recursion_from_All (λ (h : Hit). is_before held.order h.rank r ≡ true) held.hits after)))
 
     none_most : need_of held ≡ None → held.most ≡ 0
@@ -448,7 +448,7 @@ module _ (find : Find) (docs : Docs) where
         zero_is : (a : ℕ) → (a == 0) ≡ true → a ≡ 0
         zero_is a e = grind (arith, nat_tests)
 
-    pub page_of_none : need_of held ≡ None → IsFull find docs saw × ((r : Rank) → IsPassed find docs saw r)
+    pub page_of_none : need_of held ≡ None → IsFull paging docs saw × ((r : Rank) → IsPassed paging docs saw r)
     page_of_none e =
-        let none : page_end find ≡ 0 = sym pages.most ∙ none_most e in
-        (omega (arith, none), λ r. ap (λ n. is_behind find.order (take n (kept_by find docs saw)) r) none)
+        let none : page_end paging ≡ 0 = sym pages.most ∙ none_most e in
+        (omega (arith, none), λ r. ap (λ n. is_behind paging.order (take n (kept_by paging docs saw)) r) none)

@@ -3,7 +3,7 @@ use Rattle.std.proofs.Common.{◌≡◌, ◌≤◌, ◌+◌, ℕ, Bool, true, fa
 use Rattle.std.proofs.lemmas.Bool.{lt-leb}
 use Rattle.std.proofs.lemmas.List.{length-append}
 use Rattle.std.proofs.lemmas.List.Sums.{sum_by-cons}
-use Rattle.sk_base.specs.declared.find.Find.{Find}
+use Rattle.sk_base.specs.declared.find.Paging.{Paging}
 use Rattle.sk_base.specs.Documents.{has_term}
 use Rattle.sk_base.specs.Numbers.{Docs}
 use Rattle.sk_sorted.specs.Entries.{RiseAbove}
@@ -42,22 +42,22 @@ ups_none (t ∷ lists) docs rise = omega (arith, up_none t 0 docs rise, ups_none
 
 -- ---- within the sharp bound
 
-module _ (query : Tree) (find : Find) (docs : Docs) (give : ℕ → Option ℕ) (need : ℕ) (page : Page) (of : PageOf page query find docs give need) where
-  saw_few : length of.saw ≤ length (found_by query find docs)
+module _ (query : Tree) (paging : Paging) (docs : Docs) (give : ℕ → Option ℕ) (need : ℕ) (page : Page) (of : PageOf page query paging docs give need) where
+  saw_few : length of.saw ≤ length (found_by query paging docs)
   saw_few =
-      let beside = (shown_beside (is_behind find.order (held_by find docs of.saw)) (λ _. []) (λ _ _ _. refl) (found_by query find of.walk.before) of.saw of.walk.shown).long in
-      let all : length (found_by query find docs) ≡ length (found_by query find of.walk.before ++ found_by query find of.walk.rest) =
-      ap length (ap (found_by query find) of.walk.split ∙ found_append query find of.walk.before of.walk.rest) in
-      omega (arith, beside, all, length-append (found_by query find of.walk.before) (found_by query find of.walk.rest))
+      let beside = (shown_beside (is_behind paging.order (held_by paging docs of.saw)) (λ _. []) (λ _ _ _. refl) (found_by query paging of.walk.before) of.saw of.walk.shown).long in
+      let all : length (found_by query paging docs) ≡ length (found_by query paging of.walk.before ++ found_by query paging of.walk.rest) =
+      ap length (ap (found_by query paging) of.walk.split ∙ found_append query paging of.walk.before of.walk.rest) in
+      omega (arith, beside, all, length-append (found_by query paging of.walk.before) (found_by query paging of.walk.rest))
 
   -- at all times, whatever the number of hits
-  pub spent_sharp : (spent : ℕ) → IsSpent query find docs spent → (hits : ℕ) → spent + page.read ≤ sharp query find docs hits
+  pub spent_sharp : (spent : ℕ) → IsSpent query paging docs spent → (hits : ℕ) → spent + page.read ≤ sharp query paging docs hits
   spent_sharp spent lists hits =
       let list = lists.lists in
-      let keys = more_keys find.collapse (length of.saw) (length (found_by query find docs)) saw_few in
-      let values = more_values find.order.by (length of.saw) (length (found_by query find docs)) saw_few in
-      within_sharp query find docs hits (spent + page.read)
+      let keys = more_keys paging.collapse (length of.saw) (length (found_by query paging docs)) saw_few in
+      let values = more_values paging.order.by (length of.saw) (length (found_by query paging docs)) saw_few in
+      within_sharp query paging docs hits (spent + page.read)
       (omega (arith, of.read, list, keys, values))
-      (within_stop query find docs spent (length of.saw) hits (spent + page.read) lists (omega (arith, of.read)))
-      (within_rare query find docs spent (length (found_by query find docs)) hits (spent + page.read) lists (omega (arith, of.read, keys, values)))
-      (within_decay query find docs spent (length of.saw) hits (spent + page.read) lists (omega (arith, of.read)))
+      (within_stop query paging docs spent (length of.saw) hits (spent + page.read) lists (omega (arith, of.read)))
+      (within_rare query paging docs spent (length (found_by query paging docs)) hits (spent + page.read) lists (omega (arith, of.read, keys, values)))
+      (within_decay query paging docs spent (length of.saw) hits (spent + page.read) lists (omega (arith, of.read)))

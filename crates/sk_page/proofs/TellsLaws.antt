@@ -5,7 +5,7 @@ use Rattle.std.proofs.lemmas.List.{drop-take, length-append}
 use Rattle.std.proofs.Math.Seq.{take-append_seam}
 use Rattle.std.proofs.lemmas.List.Sorted.{sum_by-IsPermutation}
 use Rattle.sk_base.specs.declared.find.Collapse.{Collapse}
-use Rattle.sk_base.specs.declared.find.Find.{Find}
+use Rattle.sk_base.specs.declared.find.Paging.{Paging}
 use Rattle.sk_base.specs.declared.rank.Order.{Order}
 use Rattle.sk_base.specs.declared.rank.OrderBy.{OrderBy}
 use Rattle.sk_base.specs.declared.rank.Rank.{Rank}
@@ -59,23 +59,23 @@ more_values (OrderBy.Value key) m n h = h
 more_values (OrderBy.ValueThenRelevance key) m n h = h
 more_values (OrderBy.RelevanceThenValue key) m n h = h
 
-module _ (query : Tree) (find : Find) (docs : Docs) (saw : List Rank) (end : Ended query find docs saw) where
+module _ (query : Tree) (paging : Paging) (docs : Docs) (saw : List Rank) (end : Ended query paging docs saw) where
   abbrev key : Rank → List ℕ
-  key = key_of find.collapse docs
+  key = key_of paging.collapse docs
 
   abbrev all : List Rank
-  all = found_by query find docs
+  all = found_by query paging docs
 
   pub beside : Beside key all saw
-  beside = shown_beside _ key (key_by_id find.collapse docs) all saw end.shown
+  beside = shown_beside _ key (key_by_id paging.collapse docs) all saw end.shown
 
   -- the page is that of what was seen
-  same_front : (all ≡ saw) ⊎ IsFull find docs saw → take (page_end find) (kept_by find docs all) ≡ held_by find docs saw
-  same_front (inl e) = ap (λ rs. take (page_end find) (kept_by find docs rs)) e
-  same_front (inr full) = front_alike find.order find.collapse key (page_end find) all saw full end.shown
+  same_front : (all ≡ saw) ⊎ IsFull paging docs saw → take (page_end paging) (kept_by paging docs all) ≡ held_by paging docs saw
+  same_front (inl e) = ap (λ rs. take (page_end paging) (kept_by paging docs rs)) e
+  same_front (inr full) = front_alike paging.order paging.collapse key (page_end paging) all saw full end.shown
 
-  pub page_is : page_of query find docs ≡ drop find.options.first (held_by find docs saw)
-  page_is = sym (drop-take find.options.first find.options.size (kept_by find docs all)) ∙ ap (drop find.options.first) (same_front end.full)
+  pub page_is : page_of query paging docs ≡ drop paging.options.first (held_by paging docs saw)
+  page_is = sym (drop-take paging.options.first paging.options.size (kept_by paging docs all)) ∙ ap (drop paging.options.first) (same_front end.full)
 
   -- ---- how many were seen, and how many of them are kept
 
@@ -85,123 +85,123 @@ module _ (query : Tree) (find : Find) (docs : Docs) (saw : List Rank) (end : End
   saw_first : take (length saw) together ≡ saw
   saw_first = take-append_seam saw beside.extra
 
-  all_together : length (kept_by find docs all) ≡ length (kept_by find docs together)
-  all_together = kept_alike find.order find.order find.collapse key all together beside.counts
+  all_together : length (kept_by paging docs all) ≡ length (kept_by paging docs together)
+  all_together = kept_alike paging.order paging.order paging.collapse key all together beside.counts
 
-  fewer_kept : length (kept_by find docs saw) ≤ length (kept_by find docs all)
+  fewer_kept : length (kept_by paging docs saw) ≤ length (kept_by paging docs all)
   fewer_kept =
-      let front : length (kept_by find docs (take (length saw) together)) ≤ length (kept_by find docs together) = kept_front find.order find.collapse key (length saw) together in
-      let same : length (kept_by find docs (take (length saw) together)) ≡ length (kept_by find docs saw) = ap (λ rs. length (kept_by find docs rs)) saw_first in
+      let front : length (kept_by paging docs (take (length saw) together)) ≤ length (kept_by paging docs together) = kept_front paging.order paging.collapse key (length saw) together in
+      let same : length (kept_by paging docs (take (length saw) together)) ≡ length (kept_by paging docs saw) = ap (λ rs. length (kept_by paging docs rs)) saw_first in
       omega (arith, front, same, all_together)
 
-  others_kept : length (kept_by find docs all) ≤ length (kept_by find docs saw) + length beside.extra
+  others_kept : length (kept_by paging docs all) ≤ length (kept_by paging docs saw) + length beside.extra
   others_kept =
-      let others : length (kept_by find docs together) ≤ length (kept_by find docs (take (length saw) together)) + length (drop (length saw) together) = kept_others find.order find.collapse key (length saw) together in
-      let same : length (kept_by find docs (take (length saw) together)) ≡ length (kept_by find docs saw) = ap (λ rs. length (kept_by find docs rs)) saw_first in
+      let others : length (kept_by paging docs together) ≤ length (kept_by paging docs (take (length saw) together)) + length (drop (length saw) together) = kept_others paging.order paging.collapse key (length saw) together in
+      let same : length (kept_by paging docs (take (length saw) together)) ≡ length (kept_by paging docs saw) = ap (λ rs. length (kept_by paging docs rs)) saw_first in
       omega (arith, others, same, all_together, length-drop (length saw) together, length-append saw beside.extra)
 
   abbrev front : List Rank
-  front = take (wanted find) saw
+  front = take (wanted paging) saw
 
-  seen_is : seen find all ≡ front
+  seen_is : seen paging all ≡ front
   seen_is = end.first
 
   record Numbers : Type 0 where
     pub all_long : length all ≡ length saw + length beside.extra
-    pub front_fewer : length (kept_by find docs front) ≤ length (kept_by find docs saw)
-    pub front_others : length (kept_by find docs saw) ≤ length (kept_by find docs front) + length (drop (wanted find) saw)
-    pub front_few : length (kept_by find docs front) ≤ length front
-    pub saw_few : length (kept_by find docs saw) ≤ length saw
-    pub front_long : length front ≡ min (wanted find) (length saw)
-    pub rest_long : length (drop (wanted find) saw) ≡ length saw - wanted find
-    pub seen_kept : length (kept_by find docs (seen find all)) ≡ length (kept_by find docs front)
-    pub seen_long : length (seen find all) ≡ length front
+    pub front_fewer : length (kept_by paging docs front) ≤ length (kept_by paging docs saw)
+    pub front_others : length (kept_by paging docs saw) ≤ length (kept_by paging docs front) + length (drop (wanted paging) saw)
+    pub front_few : length (kept_by paging docs front) ≤ length front
+    pub saw_few : length (kept_by paging docs saw) ≤ length saw
+    pub front_long : length front ≡ min (wanted paging) (length saw)
+    pub rest_long : length (drop (wanted paging) saw) ≡ length saw - wanted paging
+    pub seen_kept : length (kept_by paging docs (seen paging all)) ≡ length (kept_by paging docs front)
+    pub seen_long : length (seen paging all) ≡ length front
 
   numbers : Numbers
   numbers = record {
     all_long = beside.long;
-    front_fewer = kept_front find.order find.collapse key (wanted find) saw;
-    front_others = kept_others find.order find.collapse key (wanted find) saw;
-    front_few = kept_few find.order find.collapse key front;
-    saw_few = kept_few find.order find.collapse key saw;
-    front_long = length-take (wanted find) saw;
-    rest_long = length-drop (wanted find) saw;
-    seen_kept = ap (λ rs. length (kept_by find docs rs)) seen_is;
+    front_fewer = kept_front paging.order paging.collapse key (wanted paging) saw;
+    front_others = kept_others paging.order paging.collapse key (wanted paging) saw;
+    front_few = kept_few paging.order paging.collapse key front;
+    saw_few = kept_few paging.order paging.collapse key saw;
+    front_long = length-take (wanted paging) saw;
+    rest_long = length-drop (wanted paging) saw;
+    seen_kept = ap (λ rs. length (kept_by paging docs rs)) seen_is;
     seen_long = ap length seen_is;
   }
 
   -- where all must be seen, all was seen as it is
-  exactly : (upper : ℕ) → AllSeen find all (ceil query find.options.scheme 1 docs) → IsUpper query find docs saw upper → all ≡ saw
+  exactly : (upper : ℕ) → AllSeen paging all (ceil query paging.options.scheme 1 docs) → IsUpper query paging docs saw upper → all ≡ saw
   exactly upper (inl few) is = end.exact few
   exactly upper (inr low) (inl is) = is.0
   exactly upper (inr low) (inr is) = let most = is.1 in absurd (omega (arith, low, most))
 
-  upper_exact : (upper : ℕ) → AllSeen find all (ceil query find.options.scheme 1 docs) → IsUpper query find docs saw upper → upper ≡ length (kept_by find docs all)
-  upper_exact upper seen_all (inl is) = is.1 ∙ ap (λ rs. length (kept_by find docs rs)) (sym is.0)
+  upper_exact : (upper : ℕ) → AllSeen paging all (ceil query paging.options.scheme 1 docs) → IsUpper query paging docs saw upper → upper ≡ length (kept_by paging docs all)
+  upper_exact upper seen_all (inl is) = is.1 ∙ ap (λ rs. length (kept_by paging docs rs)) (sym is.0)
   upper_exact upper (inl few) (inr is) = let many = is.0 in let n = numbers in absurd (omega (arith, few, many, n.all_long))
   upper_exact upper (inr low) (inr is) = let most = is.1 in absurd (omega (arith, low, most))
 
   module _ (static upper : ℕ) (within : length all ≤ static) where
-    upper_most : ((all ≡ saw) × (upper ≡ length (kept_by find docs saw))) ⊎ (upper ≡ static - duplicates find docs saw) → length (kept_by find docs all) ≤ upper
-    upper_most (inl is) = let same : length (kept_by find docs all) ≡ length (kept_by find docs saw) = ap (λ rs. length (kept_by find docs rs)) is.0 in let up = is.1 in omega (arith, same, up)
+    upper_most : ((all ≡ saw) × (upper ≡ length (kept_by paging docs saw))) ⊎ (upper ≡ static - duplicates paging docs saw) → length (kept_by paging docs all) ≤ upper
+    upper_most (inl is) = let same : length (kept_by paging docs all) ≡ length (kept_by paging docs saw) = ap (λ rs. length (kept_by paging docs rs)) is.0 in let up = is.1 in omega (arith, same, up)
     upper_most (inr up) = let n = numbers in omega (arith, within, up, others_kept, n.all_long, n.saw_few)
 
-    upper_static : ((all ≡ saw) × (upper ≡ length (kept_by find docs saw))) ⊎ (upper ≡ static - duplicates find docs saw) → upper ≤ static - duplicates find docs (seen find all)
+    upper_static : ((all ≡ saw) × (upper ≡ length (kept_by paging docs saw))) ⊎ (upper ≡ static - duplicates paging docs saw) → upper ≤ static - duplicates paging docs (seen paging all)
     upper_static (inl is) = let up = is.1 in let n = numbers in omega (arith, within, up, n.all_long, n.front_others, n.front_few, n.front_long, n.rest_long, n.seen_kept, n.seen_long)
     upper_static (inr up) = let n = numbers in omega (arith, up, n.front_others, n.front_few, n.saw_few, n.front_long, n.rest_long, n.seen_kept, n.seen_long)
 
-  upper_of : (upper : ℕ) → IsUpper query find docs saw upper → ((all ≡ saw) × (upper ≡ length (kept_by find docs saw))) ⊎ (upper ≡ static_count query docs - duplicates find docs saw)
+  upper_of : (upper : ℕ) → IsUpper query paging docs saw upper → ((all ≡ saw) × (upper ≡ length (kept_by paging docs saw))) ⊎ (upper ≡ static_count query docs - duplicates paging docs saw)
   upper_of upper (inl is) = inl is
   upper_of upper (inr is) = inr is.2
 
-  pub counts_told : (above lower upper : ℕ) → is_sound above query ≡ true → lower ≡ length (kept_by find docs saw) → IsUpper query find docs saw upper
-      → Counts find docs all (ceil query find.options.scheme 1 docs) (static_count query docs) lower upper
+  pub counts_told : (above lower upper : ℕ) → is_sound above query ≡ true → lower ≡ length (kept_by paging docs saw) → IsUpper query paging docs saw upper
+      → Counts paging docs all (ceil query paging.options.scheme 1 docs) (static_count query docs) lower upper
   counts_told above lower upper sound low high =
       let n = numbers in
-      let within : length all ≤ static_count query docs = found_within query find above docs sound in
+      let within : length all ≤ static_count query docs = found_within query paging above docs sound in
       record {
         of_seen = omega (arith, low, n.front_fewer, n.seen_kept);
         at_least = omega (arith, low, fewer_kept);
         at_most = upper_most (static_count query docs) upper within (upper_of upper high);
         of_static = upper_static (static_count query docs) upper within (upper_of upper high);
-        exact_lower = λ is. low ∙ ap (λ rs. length (kept_by find docs rs)) (sym (exactly upper is high));
+        exact_lower = λ is. low ∙ ap (λ rs. length (kept_by paging docs rs)) (sym (exactly upper is high));
         exact_upper = λ is. upper_exact upper is high;
       }
 
   -- what is dropped of a key
-  collapse_told : (k : List ℕ) (collapsed : ℕ) → collapsed ≡ dropped_by find docs k saw → CollapseCount find docs all k collapsed
+  collapse_told : (k : List ℕ) (collapsed : ℕ) → collapsed ≡ dropped_by paging docs k saw → CollapseCount paging docs all k collapsed
   collapse_told k collapsed is =
-      let seen_dropped : dropped_by find docs k (seen find all) ≡ dropped_by find docs k front = ap (dropped_by find docs k) seen_is in
-      let front_dropped : dropped_by find docs k front ≤ dropped_by find docs k saw = dropped_front find.order find.collapse key k (wanted find) saw in
-      let saw_dropped : dropped_by find docs k (take (length saw) together) ≤ dropped_by find docs k together = dropped_front find.order find.collapse key k (length saw) together in
-      let saw_is : dropped_by find docs k (take (length saw) together) ≡ dropped_by find docs k saw = ap (dropped_by find docs k) saw_first in
-      let all_is : dropped_by find docs k all ≡ dropped_by find docs k together = dropped_alike find.order find.collapse key k all together (beside.counts k) in
+      let seen_dropped : dropped_by paging docs k (seen paging all) ≡ dropped_by paging docs k front = ap (dropped_by paging docs k) seen_is in
+      let front_dropped : dropped_by paging docs k front ≤ dropped_by paging docs k saw = dropped_front paging.order paging.collapse key k (wanted paging) saw in
+      let saw_dropped : dropped_by paging docs k (take (length saw) together) ≤ dropped_by paging docs k together = dropped_front paging.order paging.collapse key k (length saw) together in
+      let saw_is : dropped_by paging docs k (take (length saw) together) ≡ dropped_by paging docs k saw = ap (dropped_by paging docs k) saw_first in
+      let all_is : dropped_by paging docs k all ≡ dropped_by paging docs k together = dropped_alike paging.order paging.collapse key k all together (beside.counts k) in
       record { at_least = omega (arith, is, seen_dropped, front_dropped); at_most = omega (arith, is, saw_dropped, saw_is, all_is) }
 
-  hits_told : (ranks : List Rank) (hits : List Ranked) → AllZip (TellsHit find docs saw) ranks hits → AllZip (IsHit query find docs) ranks hits
+  hits_told : (ranks : List Rank) (hits : List Ranked) → AllZip (TellsHit paging docs saw) ranks hits → AllZip (IsHit query paging docs) ranks hits
   hits_told [] [] h = tt
   hits_told [] (hit ∷ hits) h = h
   hits_told (rank ∷ ranks) [] h = h
   hits_told (rank ∷ ranks) (hit ∷ hits) h = (
-    record { id = h.0.id; weight = h.0.weight; payload = h.0.payload; collapsed = collapse_told (key_of find.collapse docs rank) hit.collapsed h.0.collapsed },
+    record { id = h.0.id; weight = h.0.weight; payload = h.0.payload; collapsed = collapse_told (key_of paging.collapse docs rank) hit.collapsed h.0.collapsed },
     hits_told ranks hits h.1,
   )
 
-  pub told : (above : ℕ) (report : Report) → is_sound above query ≡ true → Tells query find docs saw report → ReportsFor query find docs report
+  pub told : (above : ℕ) (report : Report) → is_sound above query ≡ true → Tells query paging docs saw report → ReportsFor query paging docs report
   told above report sound tells =
       let n = numbers in
       let fewer : length saw ≤ length all = omega (arith, n.all_long) in
       record {
-        hits = hits_told (page_of query find docs) report.hits (subst (λ ranks. AllZip (TellsHit find docs saw) ranks report.hits) (sym page_is) tells.hits);
+        hits = hits_told (page_of query paging docs) report.hits (subst (λ ranks. AllZip (TellsHit paging docs saw) ranks report.hits) (sym page_is) tells.hits);
         counts = counts_told above report.lower report.upper sound tells.lower tells.upper;
         estimate = tells.estimate;
         greatest = tells.greatest;
         least_steps = tells.least_steps;
         most_steps =
             let lists = tells.within.lists in
-            within_sharp query find docs (length report.hits) report.steps
-            (omega (arith, tells.most_steps, lists, more_keys find.collapse (length saw) (length all) fewer, more_values find.order.by (length saw) (length all) fewer))
-            (within_stop query find docs tells.spent (length saw) (length report.hits) report.steps tells.within tells.most_steps)
-            (within_rare query find docs tells.spent (length all) (length report.hits) report.steps tells.within (omega (arith, tells.most_steps, more_keys find.collapse (length saw) (length all) fewer, more_values find.order.by (length saw) (length all) fewer)))
-            (within_decay query find docs tells.spent (length saw) (length report.hits) report.steps tells.within tells.most_steps);
+            within_sharp query paging docs (length report.hits) report.steps
+            (omega (arith, tells.most_steps, lists, more_keys paging.collapse (length saw) (length all) fewer, more_values paging.order.by (length saw) (length all) fewer))
+            (within_stop query paging docs tells.spent (length saw) (length report.hits) report.steps tells.within tells.most_steps)
+            (within_rare query paging docs tells.spent (length all) (length report.hits) report.steps tells.within (omega (arith, tells.most_steps, more_keys paging.collapse (length saw) (length all) fewer, more_values paging.order.by (length saw) (length all) fewer)))
+            (within_decay query paging docs tells.spent (length saw) (length report.hits) report.steps tells.within tells.most_steps);
       }

@@ -6,7 +6,7 @@ use Rattle.std.proofs.lemmas.List.{take-append-le}
 use Rattle.std.proofs.lemmas.List.Elements.{filter_map-append, filter-append}
 use Rattle.std.proofs.lemmas.Bool.{le-leb, leb-false, leb-true}
 use Rattle.sk_model.proofs.HeldLaws.{each_weaker}
-use Rattle.sk_base.specs.declared.find.Find.{Find}
+use Rattle.sk_base.specs.declared.find.Paging.{Paging}
 use Rattle.sk_base.specs.declared.rank.Rank.{Rank}
 use Rattle.sk_base.specs.Numbers.{Docs}
 use Rattle.sk_sorted.specs.Entries.{RiseAbove, first_id}
@@ -115,37 +115,37 @@ all_quiet give (d ∷ more) none = quiet_step give d more (give d.0) refl none (
 
 -- ---- matches among documents
 
-module _ (query : Tree) (find : Find) where
+module _ (query : Tree) (paging : Paging) where
   abbrev cutoff : ℕ
-  cutoff = find.options.cutoff
+  cutoff = paging.options.cutoff
 
   abbrev pub scores : ℕ × Document → Option ℕ
-  scores one = score query find.options.scheme 1 one.1
+  scores one = score query paging.options.scheme 1 one.1
 
   abbrev pub ranked : ℕ × Document → ℕ → Rank
-  ranked one w = record { weight = w; value = value_for find.order one.1; id = one.0 }
+  ranked one w = record { weight = w; value = value_for paging.order one.1; id = one.0 }
 
   -- a document with what it scores, where it is no less than the cutoff
   abbrev pub taken : ℕ × Document → Option ℕ → List Rank
   taken one None = []
   taken one (Some w) = cond (nat_le cutoff w) (ranked one w ∷ []) []
 
-  pub found_append : (xs ys : Docs) → found_by query find (xs ++ ys) ≡ found_by query find xs ++ found_by query find ys
+  pub found_append : (xs ys : Docs) → found_by query paging (xs ++ ys) ≡ found_by query paging xs ++ found_by query paging ys
   found_append xs ys =
-      ap (at_least cutoff) (filter_map-append (rank_of query find.options.scheme find.order) xs ys)
-      ∙ filter-append (λ (r : Rank). nat_le cutoff r.weight) (matches query find.options.scheme find.order xs) (matches query find.options.scheme find.order ys)
+      ap (at_least cutoff) (filter_map-append (rank_of query paging.options.scheme paging.order) xs ys)
+      ∙ filter-append (λ (r : Rank). nat_le cutoff r.weight) (matches query paging.options.scheme paging.order xs) (matches query paging.options.scheme paging.order ys)
 
   onto : (b : Bool) (r : Rank) (rs : List Rank) → cond b (r ∷ rs) rs ≡ cond b (r ∷ []) [] ++ rs
   onto true r rs = refl
   onto false r rs = refl
 
-  pub found_step : (one : ℕ × Document) (more : Docs) (o : Option ℕ) → scores one ≡ o → found_by query find (one ∷ more) ≡ taken one o ++ found_by query find more
-  found_step one more None e = ap (λ o. at_least cutoff (cons_option (option_map (ranked one) o) (matches query find.options.scheme find.order more))) e
+  pub found_step : (one : ℕ × Document) (more : Docs) (o : Option ℕ) → scores one ≡ o → found_by query paging (one ∷ more) ≡ taken one o ++ found_by query paging more
+  found_step one more None e = ap (λ o. at_least cutoff (cons_option (option_map (ranked one) o) (matches query paging.options.scheme paging.order more))) e
   found_step one more (Some w) e =
-      ap (λ o. at_least cutoff (cons_option (option_map (ranked one) o) (matches query find.options.scheme find.order more))) e
-      ∙ onto (nat_le cutoff w) (ranked one w) (found_by query find more)
+      ap (λ o. at_least cutoff (cons_option (option_map (ranked one) o) (matches query paging.options.scheme paging.order more))) e
+      ∙ onto (nat_le cutoff w) (ranked one w) (found_by query paging more)
 
-  found_one : (one : ℕ × Document) (o : Option ℕ) → scores one ≡ o → found_by query find (one ∷ []) ≡ taken one o
+  found_one : (one : ℕ × Document) (o : Option ℕ) → scores one ≡ o → found_by query paging (one ∷ []) ≡ taken one o
   found_one one o e = found_step one [] o e ∙ append-nil (taken one o)
 
   -- ---- documents that are passed over
@@ -164,11 +164,11 @@ module _ (query : Tree) (find : Find) where
 
     pub passed : (give : ℕ → Option ℕ) (last need : ℕ) (docs : Docs) → PassesBelow last need → AllByRecursion (λ (d : ℕ × Document). last < d.0) docs
         → AllByRecursion (λ (d : ℕ × Document). give d.0 ≡ None) docs → AllByRecursion (λ (d : ℕ × Document). CoversAt (scores d) (give d.0) need) docs
-        → Shown is (found_by query find docs) []
+        → Shown is (found_by query paging docs) []
     passed give last need [] pass above quiet covers = refl
     passed give last need (d ∷ docs) pass above quiet covers =
         subst (λ rs. Shown is rs []) (sym (found_step d docs (scores d) refl))
-        (shown_append is (taken d (scores d)) [] (found_by query find docs) []
+        (shown_append is (taken d (scores d)) [] (found_by query paging docs) []
         (taken_passed d (scores d) last need pass above.0 (subst (λ o. CoversAt (scores d) o need) quiet.0 covers.0))
         (passed give last need docs pass above.1 quiet.1 covers.1))
 
@@ -223,11 +223,11 @@ module _ (query : Tree) (find : Find) where
 
 -- ---- a search at its start, as it goes on, and at its end
 
-module _ (query : Tree) (find : Find) (docs : Docs) where
+module _ (query : Tree) (paging : Paging) (docs : Docs) where
   abbrev covered : (ℕ → Option ℕ) → ℕ → ℕ × Document → Type 0
-  covered give need one = CoversAt (scores query find one) (give one.0) need
+  covered give need one = CoversAt (scores query paging one) (give one.0) need
 
-  pub started : (give : ℕ → Option ℕ) → RiseAbove 0 docs → AllByRecursion (λ (one : ℕ × Document). give one.0 ≡ scores query find one) docs → Walk query find docs give 0 []
+  pub started : (give : ℕ → Option ℕ) → RiseAbove 0 docs → AllByRecursion (λ (one : ℕ × Document). give one.0 ≡ scores query paging one) docs → Walk query paging docs give 0 []
   started give up same = record {
     last = 0;
     before = [];
@@ -241,7 +241,7 @@ module _ (query : Tree) (find : Find) (docs : Docs) where
     low = tt;
     under = tt;
     rises = up;
-    covers = each_weaker (λ (one : ℕ × Document). give one.0 ≡ scores query find one) (covered give 0) (λ one e. subst (λ o. CoversAt (scores query find one) o 0) (sym e) (itself (scores query find one))) docs same;
+    covers = each_weaker (λ (one : ℕ × Document). give one.0 ≡ scores query paging one) (covered give 0) (λ one e. subst (λ o. CoversAt (scores query paging one) o 0) (sym e) (itself (scores query paging one))) docs same;
     right = inl (omega arith);
   }
     where
@@ -249,9 +249,9 @@ module _ (query : Tree) (find : Find) (docs : Docs) where
       itself None = tt
       itself (Some w) = (omega arith, λ _. refl)
 
-  module _ (give : ℕ → Option ℕ) (need : ℕ) (seen : List Rank) (walk : Walk query find docs give need seen) where
+  module _ (give : ℕ → Option ℕ) (need : ℕ) (seen : List Rank) (walk : Walk query paging docs give need seen) where
     -- below the need nothing that is a match enters the page
-    passes : IsFull find docs seen × ((r : Rank) → r.weight < need → walk.last < r.id → IsPassed find docs seen r) → (r : Rank) → r.weight < need → find.options.cutoff ≤ r.weight → walk.last < r.id → IsPassed find docs seen r
+    passes : IsFull paging docs seen × ((r : Rank) → r.weight < need → walk.last < r.id → IsPassed paging docs seen r) → (r : Rank) → r.weight < need → paging.options.cutoff ≤ r.weight → walk.last < r.id → IsPassed paging docs seen r
     passes full r less most above = full.1 r less above
 
     -- the documents up to the head
@@ -260,7 +260,7 @@ module _ (query : Tree) (find : Find) (docs : Docs) where
 
     module _ (head weight : ℕ) (at : AtHead give walk.last head weight walk.rest) where
       abbrev more : List Rank
-      more = taken query find at.one (Some weight)
+      more = taken query paging at.one (Some weight)
 
       abbrev up_to : Docs
       up_to = (walk.before ++ at.skipped) ++ at.one ∷ []
@@ -272,39 +272,39 @@ module _ (query : Tree) (find : Find) (docs : Docs) where
       covers_skipped [] ys h = (tt, h)
       covers_skipped (x ∷ xs) ys h = let rest = covers_skipped xs ys h.1 in ((h.0, rest.0), rest.1)
 
-      found_up_to : found_by query find up_to ≡ found_by query find walk.before ++ (found_by query find at.skipped ++ taken query find at.one (scores query find at.one))
+      found_up_to : found_by query paging up_to ≡ found_by query paging walk.before ++ (found_by query paging at.skipped ++ taken query paging at.one (scores query paging at.one))
       found_up_to =
-          found_append query find (walk.before ++ at.skipped) (at.one ∷ [])
-          ∙ ap (λ rs. rs ++ found_by query find (at.one ∷ [])) (found_append query find walk.before at.skipped)
-          ∙ append_assoc (found_by query find walk.before) (found_by query find at.skipped) (found_by query find (at.one ∷ []))
-          ∙ ap (λ rs. found_by query find walk.before ++ (found_by query find at.skipped ++ rs)) (found_one query find at.one (scores query find at.one) refl)
+          found_append query paging (walk.before ++ at.skipped) (at.one ∷ [])
+          ∙ ap (λ rs. rs ++ found_by query paging (at.one ∷ [])) (found_append query paging walk.before at.skipped)
+          ∙ append_assoc (found_by query paging walk.before) (found_by query paging at.skipped) (found_by query paging (at.one ∷ []))
+          ∙ ap (λ rs. found_by query paging walk.before ++ (found_by query paging at.skipped ++ rs)) (found_one query paging at.one (scores query paging at.one) refl)
 
       -- what stands between, under any test that what is passed over meets
-      between : (is : Rank → Bool) → ((r : Rank) → r.weight < need → find.options.cutoff ≤ r.weight → walk.last < r.id → is r ≡ true)
-          → Shown is (found_by query find at.skipped ++ taken query find at.one (scores query find at.one)) more
+      between : (is : Rank → Bool) → ((r : Rank) → r.weight < need → paging.options.cutoff ≤ r.weight → walk.last < r.id → is r ≡ true)
+          → Shown is (found_by query paging at.skipped ++ taken query paging at.one (scores query paging at.one)) more
       between is pass =
           let both = covers_skipped at.skipped (at.one ∷ at.later) covers_rest in
-          shown_append is (found_by query find at.skipped) [] (taken query find at.one (scores query find at.one)) more
-          (passed query find is give walk.last need at.skipped pass at.above at.quiet both.0)
-          (met query find is at.one (scores query find at.one) weight walk.last need pass (omega (arith, at.higher, at.id)) (subst (λ o. CoversAt (scores query find at.one) o need) at.gives both.1.0))
+          shown_append is (found_by query paging at.skipped) [] (taken query paging at.one (scores query paging at.one)) more
+          (passed query paging is give walk.last need at.skipped pass at.above at.quiet both.0)
+          (met query paging is at.one (scores query paging at.one) weight walk.last need pass (omega (arith, at.higher, at.id)) (subst (λ o. CoversAt (scores query paging at.one) o need) at.gives both.1.0))
 
       -- where all is asked for, all is seen as it is
-      seen_exactly : need ≤ find.options.cutoff → found_by query find up_to ≡ seen ++ more
+      seen_exactly : need ≤ paging.options.cutoff → found_by query paging up_to ≡ seen ++ more
       seen_exactly low =
           found_up_to
-          ∙ ap (λ rs. rs ++ (found_by query find at.skipped ++ taken query find at.one (scores query find at.one))) (walk.exact low)
-          ∙ ap (λ rs. seen ++ rs) (nothing_shown query find (found_by query find at.skipped ++ taken query find at.one (scores query find at.one)) more (between (λ _. false) (no_need query find (λ _. false) walk.last need low)))
+          ∙ ap (λ rs. rs ++ (found_by query paging at.skipped ++ taken query paging at.one (scores query paging at.one))) (walk.exact low)
+          ∙ ap (λ rs. seen ++ rs) (nothing_shown query paging (found_by query paging at.skipped ++ taken query paging at.one (scores query paging at.one)) more (between (λ _. false) (no_need query paging (λ _. false) walk.last need low)))
 
-      shown_on : (is : Rank → Bool) → IsNeed find docs seen walk.last need → (IsFull find docs seen → (r : Rank) → IsPassed find docs seen r → is r ≡ true) → Shown is (found_by query find up_to) (seen ++ more)
+      shown_on : (is : Rank → Bool) → IsNeed paging docs seen walk.last need → (IsFull paging docs seen → (r : Rank) → IsPassed paging docs seen r → is r ≡ true) → Shown is (found_by query paging up_to) (seen ++ more)
       shown_on is (inl low) keeps = subst (λ rs. Shown is rs (seen ++ more)) (sym (seen_exactly low)) (shown_same is (seen ++ more))
       shown_on is (inr full) keeps =
           subst (λ rs. Shown is rs (seen ++ more)) (sym found_up_to)
-          (shown_append is (found_by query find walk.before) seen (found_by query find at.skipped ++ taken query find at.one (scores query find at.one)) more
-          (shown_weaker (is_behind find.order (held_by find docs seen)) is (keeps full.0) (found_by query find walk.before) seen walk.shown)
+          (shown_append is (found_by query paging walk.before) seen (found_by query paging at.skipped ++ taken query paging at.one (scores query paging at.one)) more
+          (shown_weaker (is_behind paging.order (held_by paging docs seen)) is (keeps full.0) (found_by query paging walk.before) seen walk.shown)
           (between is (λ r less most above. keeps full.0 r (full.1 r less above))))
 
-      enough : (length seen < wanted find) ⊎ (wanted find ≤ length seen)
-      enough = either (wanted find) (length seen)
+      enough : (length seen < wanted paging) ⊎ (wanted paging ≤ length seen)
+      enough = either (wanted paging) (length seen)
         where
           either : (n m : ℕ) → (m < n) ⊎ (n ≤ m)
           either n m =
@@ -313,14 +313,14 @@ module _ (query : Tree) (find : Find) (docs : Docs) where
                 | false ↦ λ e. inl (leb-false n m e)
               ] refl
 
-      first_on : (length seen < wanted find) ⊎ (wanted find ≤ length seen) → take (wanted find) (found_by query find up_to) ≡ take (wanted find) (seen ++ more)
-      first_on (inl few) = ap (take (wanted find)) (seen_exactly (walk.few few))
+      first_on : (length seen < wanted paging) ⊎ (wanted paging ≤ length seen) → take (wanted paging) (found_by query paging up_to) ≡ take (wanted paging) (seen ++ more)
+      first_on (inl few) = ap (take (wanted paging)) (seen_exactly (walk.few few))
       first_on (inr many) =
-          let long = (shown_beside (is_behind find.order (held_by find docs seen)) (λ _. []) (λ _ _ _. refl) (found_by query find walk.before) seen walk.shown).long in
-          ap (take (wanted find)) found_up_to
-          ∙ take-append-le (wanted find) (found_by query find walk.before) (found_by query find at.skipped ++ taken query find at.one (scores query find at.one)) (omega (arith, many, long))
+          let long = (shown_beside (is_behind paging.order (held_by paging docs seen)) (λ _. []) (λ _ _ _. refl) (found_by query paging walk.before) seen walk.shown).long in
+          ap (take (wanted paging)) found_up_to
+          ∙ take-append-le (wanted paging) (found_by query paging walk.before) (found_by query paging at.skipped ++ taken query paging at.one (scores query paging at.one)) (omega (arith, many, long))
           ∙ walk.first
-          ∙ sym (take-append-le (wanted find) seen more many)
+          ∙ sym (take-append-le (wanted paging) seen more many)
 
       splits : docs ≡ up_to ++ at.later
       splits =
@@ -358,7 +358,7 @@ module _ (query : Tree) (find : Find) (docs : Docs) where
         covers_later : (low : ℕ) (ds : Docs) → head ≤ low → need ≤ need2 → RiseAbove low ds → AllByRecursion (covered give need) ds → AllByRecursion over_at ds → AllByRecursion (covered give2 need2) ds
         covers_later low [] from rise up h here = tt
         covers_later low (d ∷ ds) from rise up h here = (
-          covers_then (scores query find d) (give d.0) (give2 d.0) need need2 rise h.0 (subst (λ (b : Bool). CoversAt (cond b (give d.0) None) (give2 d.0) need2) (le-leb (head + 1) d.0 (omega (arith, from, up.0))) here.0),
+          covers_then (scores query paging d) (give d.0) (give2 d.0) need need2 rise h.0 (subst (λ (b : Bool). CoversAt (cond b (give d.0) None) (give2 d.0) need2) (le-leb (head + 1) d.0 (omega (arith, from, up.0))) here.0),
           covers_later d.0 ds (omega (arith, from, up.0)) rise up.1 h.1 here.1,
         )
 
@@ -370,21 +370,21 @@ module _ (query : Tree) (find : Find) (docs : Docs) where
             (each_weaker (λ (d : ℕ × Document). d.0 < head) (λ (d : ℕ × Document). d.0 ≤ head) (λ d l. omega (arith, l)) at.skipped at.low))
             (omega (arith, at.id), tt)
 
-        under_more : (b : Bool) → AllByRecursion (λ (s : Rank). s.id ≤ head) (cond b (ranked query find at.one weight ∷ []) [])
+        under_more : (b : Bool) → AllByRecursion (λ (s : Rank). s.id ≤ head) (cond b (ranked query paging at.one weight ∷ []) [])
         under_more true = (omega (arith, at.id), tt)
         under_more false = tt
 
         walked_here : need ≤ need2
-            → (IsFull find docs seen → (r : Rank) → IsPassed find docs seen r → IsPassed find docs (seen ++ more) r)
-            → (length (seen ++ more) < wanted find → need2 ≤ find.options.cutoff)
-            → IsNeed find docs (seen ++ more) head need2
-            → Walk query find docs give2 need2 (seen ++ more)
+            → (IsFull paging docs seen → (r : Rank) → IsPassed paging docs seen r → IsPassed paging docs (seen ++ more) r)
+            → (length (seen ++ more) < wanted paging → need2 ≤ paging.options.cutoff)
+            → IsNeed paging docs (seen ++ more) head need2
+            → Walk query paging docs give2 need2 (seen ++ more)
         walked_here rise keeps few right = record {
           last = head;
           before = up_to;
           rest = at.later;
           split = splits;
-          shown = shown_on (is_behind find.order (held_by find docs (seen ++ more))) walk.right keeps;
+          shown = shown_on (is_behind paging.order (held_by paging docs (seen ++ more))) walk.right keeps;
           first = first_on enough;
           exact = λ low. seen_exactly (omega (arith, low, rise));
           few = few;
@@ -393,7 +393,7 @@ module _ (query : Tree) (find : Find) (docs : Docs) where
           under =
               all_append (λ (s : Rank). s.id ≤ head) seen more
               (each_weaker (λ (s : Rank). s.id ≤ walk.last) (λ (s : Rank). s.id ≤ head) (λ s l. omega (arith, l, at.higher)) seen walk.under)
-              (under_more (nat_le find.options.cutoff weight));
+              (under_more (nat_le paging.options.cutoff weight));
           rises = at.rises;
           covers = covers_later head at.later (omega arith) rise at.rises (covers_skipped at.skipped (at.one ∷ at.later) covers_rest).1.1 over_both.1;
           right = right;
@@ -401,83 +401,83 @@ module _ (query : Tree) (find : Find) (docs : Docs) where
 
         -- it saw these, and stands at the head
         pub walked : (saw : List Rank) → seen ++ more ≡ saw → need ≤ need2
-            → (IsFull find docs seen → (r : Rank) → IsPassed find docs seen r → IsPassed find docs saw r)
-            → (length saw < wanted find → need2 ≤ find.options.cutoff)
-            → IsNeed find docs saw head need2
-            → (walk2 : Walk query find docs give2 need2 saw) × (walk2.last ≡ head)
+            → (IsFull paging docs seen → (r : Rank) → IsPassed paging docs seen r → IsPassed paging docs saw r)
+            → (length saw < wanted paging → need2 ≤ paging.options.cutoff)
+            → IsNeed paging docs saw head need2
+            → (walk2 : Walk query paging docs give2 need2 saw) × (walk2.last ≡ head)
         unfolding walked_here
         walked saw is = subst (λ (all : List Rank). need ≤ need2
-            → (IsFull find docs seen → (r : Rank) → IsPassed find docs seen r → IsPassed find docs all r)
-            → (length all < wanted find → need2 ≤ find.options.cutoff)
-            → IsNeed find docs all head need2
-            → (walk2 : Walk query find docs give2 need2 all) × (walk2.last ≡ head)) is (λ rise keeps few right. (walked_here rise keeps few right, refl))
+            → (IsFull paging docs seen → (r : Rank) → IsPassed paging docs seen r → IsPassed paging docs all r)
+            → (length all < wanted paging → need2 ≤ paging.options.cutoff)
+            → IsNeed paging docs all head need2
+            → (walk2 : Walk query paging docs give2 need2 all) × (walk2.last ≡ head)) is (λ rise keeps few right. (walked_here rise keeps few right, refl))
 
     -- ---- its end
 
-    abbrev whole : found_by query find docs ≡ found_by query find walk.before ++ found_by query find walk.rest
-    whole = ap (found_by query find) walk.split ∙ found_append query find walk.before walk.rest
+    abbrev whole : found_by query paging docs ≡ found_by query paging walk.before ++ found_by query paging walk.rest
+    whole = ap (found_by query paging) walk.split ∙ found_append query paging walk.before walk.rest
 
     -- where what is left is passed over
-    end_with : (full : (find.options.cutoff < need) → IsFull find docs seen)
-        → Shown (is_behind find.order (held_by find docs seen)) (found_by query find walk.rest) []
-        → (need ≤ find.options.cutoff → (found_by query find walk.rest ≡ []) ⊎ (wanted find ≤ length seen × IsFull find docs seen))
-        → Ended query find docs seen
-    end_with full rest none = ends (nat_le need find.options.cutoff) refl
+    end_with : (full : (paging.options.cutoff < need) → IsFull paging docs seen)
+        → Shown (is_behind paging.order (held_by paging docs seen)) (found_by query paging walk.rest) []
+        → (need ≤ paging.options.cutoff → (found_by query paging walk.rest ≡ []) ⊎ (wanted paging ≤ length seen × IsFull paging docs seen))
+        → Ended query paging docs seen
+    end_with full rest none = ends (nat_le need paging.options.cutoff) refl
       where
         all_of : List Rank
-        all_of = found_by query find walk.before ++ found_by query find walk.rest
+        all_of = found_by query paging walk.before ++ found_by query paging walk.rest
 
-        shown_all : Shown (is_behind find.order (held_by find docs seen)) (found_by query find docs) seen
+        shown_all : Shown (is_behind paging.order (held_by paging docs seen)) (found_by query paging docs) seen
         shown_all =
-            subst (λ rs. Shown (is_behind find.order (held_by find docs seen)) rs seen) (sym whole)
-            (subst (Shown (is_behind find.order (held_by find docs seen)) all_of) (append-nil seen)
-            (shown_append (is_behind find.order (held_by find docs seen)) (found_by query find walk.before) seen (found_by query find walk.rest) [] walk.shown rest))
+            subst (λ rs. Shown (is_behind paging.order (held_by paging docs seen)) rs seen) (sym whole)
+            (subst (Shown (is_behind paging.order (held_by paging docs seen)) all_of) (append-nil seen)
+            (shown_append (is_behind paging.order (held_by paging docs seen)) (found_by query paging walk.before) seen (found_by query paging walk.rest) [] walk.shown rest))
 
-        long_all : length seen ≤ length (found_by query find docs)
+        long_all : length seen ≤ length (found_by query paging docs)
         long_all =
-            let long = (shown_beside (is_behind find.order (held_by find docs seen)) (λ _. []) (λ _ _ _. refl) (found_by query find docs) seen shown_all).long in
+            let long = (shown_beside (is_behind paging.order (held_by paging docs seen)) (λ _. []) (λ _ _ _. refl) (found_by query paging docs) seen shown_all).long in
             omega (arith, long)
 
-        long_before : length seen ≤ length (found_by query find walk.before)
+        long_before : length seen ≤ length (found_by query paging walk.before)
         long_before =
-            let long = (shown_beside (is_behind find.order (held_by find docs seen)) (λ _. []) (λ _ _ _. refl) (found_by query find walk.before) seen walk.shown).long in
+            let long = (shown_beside (is_behind paging.order (held_by paging docs seen)) (λ _. []) (λ _ _ _. refl) (found_by query paging walk.before) seen walk.shown).long in
             omega (arith, long)
 
-        first_many : wanted find ≤ length seen → take (wanted find) (found_by query find docs) ≡ take (wanted find) seen
+        first_many : wanted paging ≤ length seen → take (wanted paging) (found_by query paging docs) ≡ take (wanted paging) seen
         first_many many =
-            ap (take (wanted find)) whole
-            ∙ take-append-le (wanted find) (found_by query find walk.before) (found_by query find walk.rest) (omega (arith, many, long_before))
+            ap (take (wanted paging)) whole
+            ∙ take-append-le (wanted paging) (found_by query paging walk.before) (found_by query paging walk.rest) (omega (arith, many, long_before))
             ∙ walk.first
 
-        all_exactly : need ≤ find.options.cutoff → found_by query find walk.rest ≡ [] → found_by query find docs ≡ seen
-        all_exactly low none = whole ∙ ap (λ rs. found_by query find walk.before ++ rs) none ∙ append-nil (found_by query find walk.before) ∙ walk.exact low
+        all_exactly : need ≤ paging.options.cutoff → found_by query paging walk.rest ≡ [] → found_by query paging docs ≡ seen
+        all_exactly low none = whole ∙ ap (λ rs. found_by query paging walk.before ++ rs) none ∙ append-nil (found_by query paging walk.before) ∙ walk.exact low
 
-        many_of : find.options.cutoff < need → wanted find ≤ length seen
+        many_of : paging.options.cutoff < need → wanted paging ≤ length seen
         many_of high =
-            elim (nat_le (wanted find) (length seen)) as (λ b. nat_le (wanted find) (length seen) ≡ b → wanted find ≤ length seen) [
-              | true ↦ λ e. leb-true (wanted find) (length seen) e
-              | false ↦ λ e. let low = walk.few (leb-false (wanted find) (length seen) e) in absurd (omega (arith, low, high))
+            elim (nat_le (wanted paging) (length seen)) as (λ b. nat_le (wanted paging) (length seen) ≡ b → wanted paging ≤ length seen) [
+              | true ↦ λ e. leb-true (wanted paging) (length seen) e
+              | false ↦ λ e. let low = walk.few (leb-false (wanted paging) (length seen) e) in absurd (omega (arith, low, high))
             ] refl
 
-        all_there : found_by query find docs ≡ seen → Ended query find docs seen
-        all_there same = record { shown = shown_all; first = ap (take (wanted find)) same; full = inl same; exact = λ _. same }
+        all_there : found_by query paging docs ≡ seen → Ended query paging docs seen
+        all_there same = record { shown = shown_all; first = ap (take (wanted paging)) same; full = inl same; exact = λ _. same }
 
-        some_there : wanted find ≤ length seen → IsFull find docs seen → Ended query find docs seen
+        some_there : wanted paging ≤ length seen → IsFull paging docs seen → Ended query paging docs seen
         some_there many full = record { shown = shown_all; first = first_many many; full = inr full; exact = λ few. absurd (omega (arith, few, many, long_all)) }
 
-        either : need ≤ find.options.cutoff → (found_by query find walk.rest ≡ []) ⊎ (wanted find ≤ length seen × IsFull find docs seen) → Ended query find docs seen
+        either : need ≤ paging.options.cutoff → (found_by query paging walk.rest ≡ []) ⊎ (wanted paging ≤ length seen × IsFull paging docs seen) → Ended query paging docs seen
         either low (inl none) = all_there (all_exactly low none)
         either low (inr both) = some_there both.0 both.1
 
-        ends : (b : Bool) → nat_le need find.options.cutoff ≡ b → Ended query find docs seen
-        ends true e = let low = leb-true need find.options.cutoff e in either low (none low)
-        ends false e = let high = leb-false need find.options.cutoff e in some_there (many_of high) (full high)
+        ends : (b : Bool) → nat_le need paging.options.cutoff ≡ b → Ended query paging docs seen
+        ends true e = let low = leb-true need paging.options.cutoff e in either low (none low)
+        ends false e = let high = leb-false need paging.options.cutoff e in some_there (many_of high) (full high)
 
-    full_of : IsNeed find docs seen walk.last need → find.options.cutoff < need → IsFull find docs seen
+    full_of : IsNeed paging docs seen walk.last need → paging.options.cutoff < need → IsFull paging docs seen
     full_of (inl low) high = absurd (omega (arith, low, high))
     full_of (inr full) high = full.0
 
-    passes_of : IsNeed find docs seen walk.last need → (r : Rank) → r.weight < need → find.options.cutoff ≤ r.weight → walk.last < r.id → is_behind find.order (held_by find docs seen) r ≡ true
+    passes_of : IsNeed paging docs seen walk.last need → (r : Rank) → r.weight < need → paging.options.cutoff ≤ r.weight → walk.last < r.id → is_behind paging.order (held_by paging docs seen) r ≡ true
     passes_of (inl low) r less most above = absurd (omega (arith, low, less, most))
     passes_of (inr full) r less most above = full.1 r less above
 
@@ -489,78 +489,78 @@ module _ (query : Tree) (find : Find) (docs : Docs) where
     quiet_rest : weighed give docs ≡ [] → AllByRecursion (λ (d : ℕ × Document). give d.0 ≡ None) walk.rest
     quiet_rest none = all_quiet give walk.rest (sym (ap (weighed give) walk.split ∙ weighed_behind give walk.before walk.rest walk.quiet) ∙ none)
 
-    rest_exactly : weighed give docs ≡ [] → need ≤ find.options.cutoff → found_by query find walk.rest ≡ []
+    rest_exactly : weighed give docs ≡ [] → need ≤ paging.options.cutoff → found_by query paging walk.rest ≡ []
     rest_exactly none low =
-        nothing_shown query find (found_by query find walk.rest) []
-        (passed query find (λ _. false) give walk.last need walk.rest (no_need query find (λ _. false) walk.last need low)
+        nothing_shown query paging (found_by query paging walk.rest) []
+        (passed query paging (λ _. false) give walk.last need walk.rest (no_need query paging (λ _. false) walk.last need low)
         (above_all walk.last walk.rest (omega arith) walk.rises) (quiet_rest none) walk.covers)
 
-    pub ended_at_end : weighed give docs ≡ [] → Ended query find docs seen
+    pub ended_at_end : weighed give docs ≡ [] → Ended query paging docs seen
     ended_at_end none =
         end_with (full_of walk.right)
-        (passed query find (is_behind find.order (held_by find docs seen)) give walk.last need walk.rest (passes_of walk.right)
+        (passed query paging (is_behind paging.order (held_by paging docs seen)) give walk.last need walk.rest (passes_of walk.right)
         (above_all walk.last walk.rest (omega arith) walk.rises) (quiet_rest none) walk.covers)
         (λ low. inl (rest_exactly none low))
 
     -- all was asked for, and nothing is given any more: all was seen as it is
-    pub all_at_end : weighed give docs ≡ [] → need ≤ find.options.cutoff → found_by query find docs ≡ seen
-    all_at_end none low = whole ∙ ap (λ rs. found_by query find walk.before ++ rs) (rest_exactly none low) ∙ append-nil (found_by query find walk.before) ∙ walk.exact low
+    pub all_at_end : weighed give docs ≡ [] → need ≤ paging.options.cutoff → found_by query paging docs ≡ seen
+    all_at_end none low = whole ∙ ap (λ rs. found_by query paging walk.before ++ rs) (rest_exactly none low) ∙ append-nil (found_by query paging walk.before) ∙ walk.exact low
 
     -- nothing that is given weighs more than the ceiling
     module _ (ceiling : ℕ) (most : (id : ℕ) → unwrap_or (give id) 0 ≤ ceiling) where
-      module _ (is : Rank → Bool) (light : (r : Rank) → r.weight < need → find.options.cutoff ≤ r.weight → walk.last < r.id → is r ≡ true)
-          (under : (r : Rank) → r.weight ≤ ceiling → find.options.cutoff ≤ r.weight → walk.last < r.id → is r ≡ true) where
-        taken_under : (one : ℕ × Document) (v : ℕ) → walk.last < one.0 → (v ≤ ceiling) ⊎ (v < need) → Shown is (taken query find one (Some v)) []
+      module _ (is : Rank → Bool) (light : (r : Rank) → r.weight < need → paging.options.cutoff ≤ r.weight → walk.last < r.id → is r ≡ true)
+          (under : (r : Rank) → r.weight ≤ ceiling → paging.options.cutoff ≤ r.weight → walk.last < r.id → is r ≡ true) where
+        taken_under : (one : ℕ × Document) (v : ℕ) → walk.last < one.0 → (v ≤ ceiling) ⊎ (v < need) → Shown is (taken query paging one (Some v)) []
         taken_under one v above h =
-            elim (nat_le find.options.cutoff v) as (λ b. nat_le find.options.cutoff v ≡ b → Shown is (cond b (ranked query find one v ∷ []) []) []) [
-              | true ↦ λ e. inl (by h (leb-true find.options.cutoff v e), refl)
+            elim (nat_le paging.options.cutoff v) as (λ b. nat_le paging.options.cutoff v ≡ b → Shown is (cond b (ranked query paging one v ∷ []) []) []) [
+              | true ↦ λ e. inl (by h (leb-true paging.options.cutoff v e), refl)
               | false ↦ λ e. refl
             ] refl
           where
-            by : (v ≤ ceiling) ⊎ (v < need) → find.options.cutoff ≤ v → is (ranked query find one v) ≡ true
-            by (inl low) cut = under (ranked query find one v) low cut above
-            by (inr less) cut = light (ranked query find one v) less cut above
+            by : (v ≤ ceiling) ⊎ (v < need) → paging.options.cutoff ≤ v → is (ranked query paging one v) ≡ true
+            by (inl low) cut = under (ranked query paging one v) low cut above
+            by (inr less) cut = light (ranked query paging one v) less cut above
 
         which : (v : ℕ) (o : Option ℕ) → CoversAt (Some v) o need → unwrap_or o 0 ≤ ceiling → (need ≤ v) ⊎ (v < need) → (v ≤ ceiling) ⊎ (v < need)
         which v None covers low h = inr covers
         which v (Some w) covers low (inl heavy) = let same = covers.1 heavy in inl (omega (arith, same, low))
         which v (Some w) covers low (inr less) = inr less
 
-        taken_any : (one : ℕ × Document) (o : Option ℕ) → walk.last < one.0 → CoversAt o (give one.0) need → Shown is (taken query find one o) []
+        taken_any : (one : ℕ × Document) (o : Option ℕ) → walk.last < one.0 → CoversAt o (give one.0) need → Shown is (taken query paging one o) []
         taken_any one None above covers = refl
-        taken_any one (Some v) above covers = taken_under one v above (which v (give one.0) covers (most one.0) (split_need query find is v need))
+        taken_any one (Some v) above covers = taken_under one v above (which v (give one.0) covers (most one.0) (split_need query paging is v need))
 
-        all_under : (ds : Docs) → AllByRecursion (λ (d : ℕ × Document). walk.last < d.0) ds → AllByRecursion (covered give need) ds → Shown is (found_by query find ds) []
+        all_under : (ds : Docs) → AllByRecursion (λ (d : ℕ × Document). walk.last < d.0) ds → AllByRecursion (covered give need) ds → Shown is (found_by query paging ds) []
         all_under [] above covers = refl
         all_under (d ∷ ds) above covers =
-            subst (λ rs. Shown is rs []) (sym (found_step query find d ds (scores query find d) refl))
-            (shown_append is (taken query find d (scores query find d)) [] (found_by query find ds) [] (taken_any d (scores query find d) above.0 covers.0) (all_under ds above.1 covers.1))
+            subst (λ rs. Shown is rs []) (sym (found_step query paging d ds (scores query paging d) refl))
+            (shown_append is (taken query paging d (scores query paging d)) [] (found_by query paging ds) [] (taken_any d (scores query paging d) above.0 covers.0) (all_under ds above.1 covers.1))
 
       -- nothing can weigh as much as the cutoff
-      pub ended_below : ceiling < find.options.cutoff → Ended query find docs seen
+      pub ended_below : ceiling < paging.options.cutoff → Ended query paging docs seen
       ended_below low =
           end_with (full_of walk.right)
-          (all_under (is_behind find.order (held_by find docs seen)) (passes_of walk.right) (λ r at cut above. absurd (omega (arith, low, at, cut)))
+          (all_under (is_behind paging.order (held_by paging docs seen)) (passes_of walk.right) (λ r at cut above. absurd (omega (arith, low, at, cut)))
           walk.rest (above_all walk.last walk.rest (omega arith) walk.rises) walk.covers)
-          (λ free. inl (nothing_shown query find (found_by query find walk.rest) []
-          (all_under (λ _. false) (no_need query find (λ _. false) walk.last need free) (λ r at cut above. absurd (omega (arith, low, at, cut)))
+          (λ free. inl (nothing_shown query paging (found_by query paging walk.rest) []
+          (all_under (λ _. false) (no_need query paging (λ _. false) walk.last need free) (λ r at cut above. absurd (omega (arith, low, at, cut)))
           walk.rest (above_all walk.last walk.rest (omega arith) walk.rises) walk.covers)))
 
       -- and all was asked for: all was seen as it is
-      pub all_below : ceiling < find.options.cutoff → need ≤ find.options.cutoff → found_by query find docs ≡ seen
+      pub all_below : ceiling < paging.options.cutoff → need ≤ paging.options.cutoff → found_by query paging docs ≡ seen
       all_below low free =
           whole
-          ∙ ap (λ rs. found_by query find walk.before ++ rs)
-          (nothing_shown query find (found_by query find walk.rest) []
-          (all_under (λ _. false) (no_need query find (λ _. false) walk.last need free) (λ r at cut above. absurd (omega (arith, low, at, cut)))
+          ∙ ap (λ rs. found_by query paging walk.before ++ rs)
+          (nothing_shown query paging (found_by query paging walk.rest) []
+          (all_under (λ _. false) (no_need query paging (λ _. false) walk.last need free) (λ r at cut above. absurd (omega (arith, low, at, cut)))
           walk.rest (above_all walk.last walk.rest (omega arith) walk.rises) walk.covers))
-          ∙ append-nil (found_by query find walk.before)
+          ∙ append-nil (found_by query paging walk.before)
           ∙ walk.exact free
 
       -- enough was seen, and nothing can enter the page
-      pub ended_settled : wanted find ≤ length seen → IsFull find docs seen → ((r : Rank) → r.weight ≤ ceiling → walk.last < r.id → IsPassed find docs seen r) → Ended query find docs seen
+      pub ended_settled : wanted paging ≤ length seen → IsFull paging docs seen → ((r : Rank) → r.weight ≤ ceiling → walk.last < r.id → IsPassed paging docs seen r) → Ended query paging docs seen
       ended_settled many full under =
           end_with (full_of walk.right)
-          (all_under (is_behind find.order (held_by find docs seen)) (passes_of walk.right) (λ r at cut above. under r at above)
+          (all_under (is_behind paging.order (held_by paging docs seen)) (passes_of walk.right) (λ r at cut above. under r at above)
           walk.rest (above_all walk.last walk.rest (omega arith) walk.rises) walk.covers)
           (λ free. inr (many, full))

@@ -3,7 +3,7 @@
 use Rattle.std.specs.Prelude.{◌≡◌, ◌≢◌, ◌≤◌, ℕ, List, AllPairs, Option, None, Some}
 use Rattle.std.specs.List.{AllByRecursion}
 use Rattle.sk_base.specs.declared.find.Collapse.{Collapse}
-use Rattle.sk_base.specs.declared.find.Find.{Find}
+use Rattle.sk_base.specs.declared.find.Paging.{Paging}
 use Rattle.sk_base.specs.declared.rank.Order.{Order}
 use Rattle.sk_base.specs.declared.rank.Rank.{Rank}
 use Rattle.sk_base.specs.Numbers.{Docs}
@@ -43,16 +43,16 @@ pub record Offers (held held2 : Held) (c c2 : Option Collapsed) (hit : Hit) : Ty
   pub sees : SeesBy c c2 verdict hit
 
 -- Of the matches that were seen, none behind this id, the heap holds the kept ones up to the end of the page, each with its key.
-pub record Pages (find : Find) (docs : Docs) (last : ℕ) (saw : List Rank) (held : Held) (c : Option Collapsed) : Type 0 where
+pub record Pages (paging : Paging) (docs : Docs) (last : ℕ) (saw : List Rank) (held : Held) (c : Option Collapsed) : Type 0 where
   -- The same matches, the newest first.
   pub newest : List Rank
-  pub same : best_first find.order saw ≡ best_first find.order newest
+  pub same : best_first paging.order saw ≡ best_first paging.order newest
   pub differ : AllPairs (λ x y. x.id ≢ y.id) newest
   pub low : AllByRecursion (λ r. r.id ≤ last) newest
-  pub order : held.order ≡ find.order
-  pub most : held.most ≡ page_end find
-  pub room : held.room ≡ page_end find
-  pub hits : ranks_of held.hits ≡ held_by find docs newest
-  pub keys : AllByRecursion (λ hit. hit.key ≡ key_of find.collapse docs hit.rank) held.hits
+  pub order : held.order ≡ paging.order
+  pub most : held.most ≡ page_end paging
+  pub room : held.room ≡ page_end paging
+  pub hits : ranks_of held.hits ≡ held_by paging docs newest
+  pub keys : AllByRecursion (λ hit. hit.key ≡ key_of paging.collapse docs hit.rank) held.hits
   pub under : AllByRecursion (λ hit. hit.rank.id ≤ last) held.hits
-  pub collapse : CollapsesBy find.collapse find.order (key_of find.collapse docs) newest c
+  pub collapse : CollapsesBy paging.collapse paging.order (key_of paging.collapse docs) newest c

@@ -1,7 +1,7 @@
 -- A page: what one is that was opened, that saw a match, and that is reported.
 -- Source: Own.
 use Rattle.std.specs.Prelude.{◌≡◌, ◌≢◌, ◌≤◌, ◌<◌, ◌+◌, ◌-◌, ◌/◌, ◌^◌, ℕ, Bool, true, List, [], length, drop, map, All, IfSome, Option, if◌then◌else◌}
-use Rattle.sk_base.specs.declared.find.Find.{Find}
+use Rattle.sk_base.specs.declared.find.Paging.{Paging}
 use Rattle.sk_base.specs.declared.rank.Rank.{Rank}
 use Rattle.sk_base.specs.declared.report.Report.{Report}
 use Rattle.sk_base.specs.Numbers.{Docs}
@@ -21,26 +21,26 @@ use Rattle.sk_page.specs.declared.page.Page.{Page}
 use Rattle.sk_page.specs.declared.page.Bounds.{Bounds}
 
 -- A page of this find that saw nothing.
-pub record Opens (find : Find) (page : Page) : Type 0 where
-  pub options : page.options ≡ find.options
-  pub order : page.order ≡ find.order
-  pub collapse : page.collapse ≡ find.collapse
-  pub heap : page.heap ≡ record { order = find.order; most = page_end find; room = page_end find; hits = [] }
-  pub collapser : (key : Rank → List ℕ) → CollapsesBy find.collapse find.order key [] page.collapser
+pub record Opens (paging : Paging) (page : Page) : Type 0 where
+  pub options : page.options ≡ paging.options
+  pub order : page.order ≡ paging.order
+  pub collapse : page.collapse ≡ paging.collapse
+  pub heap : page.heap ≡ record { order = paging.order; most = page_end paging; room = page_end paging; hits = [] }
+  pub collapser : (key : Rank → List ℕ) → CollapsesBy paging.collapse paging.order key [] page.collapser
   pub seen : page.seen ≡ 0
   pub read : page.read ≡ 0
 
 -- A page is that of this find over documents of which it saw some; a search that goes on is given what covers the others, under the need.
-pub record PageOf (page : Page) (query : Tree) (find : Find) (docs : Docs) (give : ℕ → Option ℕ) (need : ℕ) : Type 0 where
-  pub options : page.options ≡ find.options
-  pub order : page.order ≡ find.order
-  pub collapse : page.collapse ≡ find.collapse
+pub record PageOf (page : Page) (query : Tree) (paging : Paging) (docs : Docs) (give : ℕ → Option ℕ) (need : ℕ) : Type 0 where
+  pub options : page.options ≡ paging.options
+  pub order : page.order ≡ paging.order
+  pub collapse : page.collapse ≡ paging.collapse
   pub saw : List Rank
   pub seen : page.seen ≡ length saw
-  pub walk : Walk query find docs give need saw
-  pub pages : Pages find docs walk.last saw page.heap page.collapser
-  pub read : page.read ≤ key_readings find.collapse (length saw) + value_readings find.order.by (length saw)
-  pub calm : is_plain find ≡ true → IsCalm query find docs (stop_point query find docs) walk.last need
+  pub walk : Walk query paging docs give need saw
+  pub pages : Pages paging docs walk.last saw page.heap page.collapser
+  pub read : page.read ≤ key_readings paging.collapse (length saw) + value_readings paging.order.by (length saw)
+  pub calm : is_plain paging ≡ true → IsCalm query paging docs (stop_point query paging docs) walk.last need
 
 -- A page may see a match of this id and weight: behind all that it saw, which are few.
 pub record MaySee (page : Page) (id weight : ℕ) : Type 0 where

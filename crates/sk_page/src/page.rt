@@ -1,6 +1,6 @@
 //! What a search keeps of the matches that it saw.
 ghost use Rattle.std.specs.Prelude.{◌≡◌, ◌≤◌, ◌<◌, ◌+◌, ◌^◌, ℕ, List, [], true, IfOk, IsOk, OnOk, IfSome, None};
-ghost use Rattle.sk_base.specs.Records.{FitsFind};
+ghost use Rattle.sk_base.specs.Finds.{FitsPaging};
 ghost use Rattle.sk_base.specs.declared.rank.OrderBy.TheVariants as OrderBy;
 ghost use Rattle.sk_base.specs.declared.rank.Rank as RankView;
 ghost use Rattle.sk_model.specs.Allowance.{key_readings, value_readings};
@@ -12,7 +12,7 @@ ghost use Rattle.sk_page.specs.Views.{Opens, MaySee, Sees, MayReport, Reports};
 use crate::hits::hits_of;
 use crate::offer::show;
 use crate::reader::{Reader, key_of, value_of};
-use sk_base::{Collapse, DocId, Find, Options, Order, OrderBy, Report, Weight};
+use sk_base::{Collapse, DocId, Paging, Options, Order, OrderBy, Report, Weight};
 use sk_collapse::Collapser;
 use sk_heap::ResultHeap;
 use sk_steps::Steps;
@@ -45,18 +45,18 @@ pub struct Bounds {
 
 impl Page {
     /// A page that saw nothing. It has all the room for hits that it ever needs.
-    pub fn open(alloc: Global, find: &Find) -> Result<Page, AllocError>
-        requires { FitsFind find.now }
-        ensures { IfOk result (Opens find.now) }
+    pub fn open(alloc: Global, paging: &Paging) -> Result<Page, AllocError>
+        requires { FitsPaging paging.now }
+        ensures { IfOk result (Opens paging.now) }
     {
-        let options = find.options;
+        let options = paging.options;
         Ok(Page {
             alloc,
             options,
-            order: find.order,
-            collapse: find.collapse,
-            heap: ResultHeap::reserve(alloc, options.first + options.size, find.order)?,
-            collapser: collapser_of(alloc, find.collapse, find.order),
+            order: paging.order,
+            collapse: paging.collapse,
+            heap: ResultHeap::reserve(alloc, options.first + options.size, paging.order)?,
+            collapser: collapser_of(alloc, paging.collapse, paging.order),
             seen: 0,
             read: 0,
         })

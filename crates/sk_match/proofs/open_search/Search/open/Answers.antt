@@ -6,7 +6,7 @@ use Rattle.sk_match.proofs.open_search.Search.open.Goals as goal
 
 pub returns-clause-stands : goal.returns-clause-stands
 returns-clause-stands g c =
-    opened c.args.index.now _ c.args.find.now (query_view c.args.query.now) c.requires.fits c.in_ok-tree.ensures.built c.in_ok-tree.ensures.left c.in_ok-tree.ensures.need refl c.in_ok-page.ensures
+    opened c.args.index.now _ c.args.paging.now (query_view c.args.query.now) c.requires.fits c.in_ok-tree.ensures.built c.in_ok-tree.ensures.left c.in_ok-tree.ensures.need refl c.in_ok-page.ensures
     (λ j. record { greatest = c.ceil.ensures j; most = c.static_count.ensures j })
     c.in_ok-tree.ensures.stops c.in_ok-tree.ensures.rare c.in_ok-tree.ensures.decays
 
