@@ -1,6 +1,6 @@
 -- A search at its end.
-use Rattle.std.proofs.Common.{◌≡◌, ◌≤◌, ◌||◌, ℕ, Bool, true, false, min, List, length, Option, None, Some, is_none, unwrap_or, refl, sym, ap, ◌∙◌, subst, arith}
-use Rattle.sk_base.specs.declared.find.Find.{Find}
+use Rattle.std.proofs.Common.{◌≡◌, ◌≤◌, ◌||◌, ℕ, Bool, true, false, min, length, None, is_none, unwrap_or, refl, sym, ap, ◌∙◌, subst, arith}
+use Rattle.sk_base.specs.declared.find.Paging.{Paging}
 use Rattle.sk_base.specs.declared.report.Report.{Report}
 use Rattle.sk_base.specs.Numbers.{Docs}
 use Rattle.sk_sorted.specs.Entries.{first_id}
@@ -16,10 +16,10 @@ use Rattle.sk_nodes.specs.Stops.{Stops}
 use Rattle.sk_nodes.specs.Rare.{Rare}
 use Rattle.sk_nodes.specs.Decays.{Decays}
 use Rattle.sk_nodes.specs.Built.{gives, left}
-use Rattle.sk_seen.specs.Needs.{is_settled, is_whole}
-use Rattle.sk_seen.specs.Tells.{IsSpent}
-use Rattle.sk_seen.specs.Views.{MayReport, Reports}
-use Rattle.sk_seen.proofs.EndLaws as Ends
+use Rattle.sk_page.specs.Needs.{is_settled, is_whole}
+use Rattle.sk_page.specs.Tells.{IsSpent}
+use Rattle.sk_page.specs.Views.{MayReport, Reports}
+use Rattle.sk_page.proofs.EndLaws as Ends
 use Rattle.sk_match.specs.Searches.{Stands, is_done}
 use Rattle.sk_match.specs.declared.open_search.Search.{Search}
 
@@ -41,15 +41,15 @@ pub record IsSpentBy (i : Indexed) (s : Search) (query : Query.Tree) (spent : �
   pub rare : (most : ℕ) → Rare i s.tree most → spent ≤ most
   pub decays : (point greatest most : ℕ) → Decays i s.tree point greatest most → spent ≤ most
 
-module _ (i : Indexed) (s : Search) (find : Find) (query : Query.Tree) (stands : Stands s i find query) where
+module _ (i : Indexed) (s : Search) (paging : Paging) (query : Query.Tree) (stands : Stands s i paging query) where
   abbrev docs : Docs
   docs = i.live.documents
 
-  pub lists_spent : (spent : ℕ) → IsSpentBy i s query spent → IsSpent query find docs spent
+  pub lists_spent : (spent : ℕ) → IsSpentBy i s query spent → IsSpent query paging docs spent
   lists_spent spent by = record {
     lists = by.within;
     rare = λ lists m is. by.rare (rare_readings lists m docs) (stands.accounts.rare lists m is);
-    stop = λ plain lists flat. by.stops (stop_point query find docs) (ups lists (stop_point query find docs) docs) (stands.accounts.stops plain lists flat);
+    stop = λ plain lists flat. by.stops (stop_point query paging docs) (ups lists (stop_point query paging docs) docs) (stands.accounts.stops plain lists flat);
     decay = λ plain ts a b is terms. let both = stands.accounts.decays plain ts a b is terms in (by.decays _ _ _ both.0, by.decays _ _ _ both.1);
   }
 
@@ -58,16 +58,16 @@ module _ (i : Indexed) (s : Search) (find : Find) (query : Query.Tree) (stands :
     done_there = subst (λ n. (is_none (first_id (left i s.tree)) || is_settled s.page.options s.page.seen s.page.heap n) ≡ true) (sym is) done
 
     -- as many were seen as are wanted, or all
-    pub seen_enough : min (wanted find) (length (found_by query find docs)) ≤ s.page.seen
-    seen_enough = Ends.seen_enough query find docs (gives i s.tree) s.need s.page stands.page ceiling most done_there
+    pub seen_enough : min (wanted paging) (length (found_by query paging docs)) ≤ s.page.seen
+    seen_enough = Ends.seen_enough query paging docs (gives i s.tree) s.need s.page stands.page ceiling most done_there
 
     module _ (whole : Bool) (tells : whole ≡ is_whole s.page.options s.need (is_none (first_id (left i s.tree))) ceiling) where
       pub may_report : MayReport s.page s.bounds.most whole
       may_report =
           subst (λ b. MayReport s.page b.most whole) (sym stands.bounds)
-          (Ends.may_report query find docs (gives i s.tree) s.need s.page stands.page ceiling most done_there (omega (arith, is, stands.built.ceiling)) stands.low stands.sound stands.built.tree.documents whole (sym tells))
+          (Ends.may_report query paging docs (gives i s.tree) s.need s.page stands.page ceiling most done_there (omega (arith, is, stands.built.ceiling)) stands.low stands.sound stands.built.tree.documents whole (sym tells))
 
-      pub finished : (spent : ℕ) → IsSpentBy i s query spent → (report : Report) → Reports docs s.page s.bounds whole spent report → ReportsFor query find docs report
+      pub finished : (spent : ℕ) → IsSpentBy i s query spent → (report : Report) → Reports docs s.page s.bounds whole spent report → ReportsFor query paging docs report
       finished spent by report reports =
-          Ends.reported query find docs (gives i s.tree) s.need s.page stands.page ceiling most done_there (omega (arith, is, stands.built.ceiling)) stands.low stands.sound whole (sym tells) spent (lists_spent spent by) report
+          Ends.reported query paging docs (gives i s.tree) s.need s.page stands.page ceiling most done_there (omega (arith, is, stands.built.ceiling)) stands.low stands.sound whole (sym tells) spent (lists_spent spent by) report
           (subst (λ b. Reports docs s.page b whole spent report) stands.bounds reports)

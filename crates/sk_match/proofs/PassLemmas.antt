@@ -10,7 +10,7 @@ use Rattle.sk_index.specs.Indexed.{Indexed}
 use Rattle.sk_nodes.specs.Built.{gives, left}
 use Rattle.sk_nodes.specs.Left.{from_on}
 use Rattle.sk_nodes.specs.declared.tree.Tree.{Tree}
-use Rattle.sk_seen.proofs.WalkLaws.{all_quiet}
+use Rattle.sk_page.proofs.WalkLaws.{all_quiet}
 use Rattle.sk_match.specs.Searches.{PassesOver}
 
 each : (P : ℕ × Document → Type 0) → ((d : ℕ × Document) → P d) → (docs : Docs) → AllByRecursion P docs

@@ -1,10 +1,9 @@
 -- A search that is opened, and that moves past a document.
-use Rattle.std.proofs.Common.{◌≡◌, ◌≤◌, ◌<◌, ◌+◌, ◌⊎◌, ◌^◌, ℕ, suc, Bool, true, false, cond, ◌&&◌, ◌||◌, nat_le, nat_lt, max, List, [], ◌∷◌, length, drop, filter, Option, None, Some, option_map, is_some, unwrap_or, refl, sym, ap, ◌∙◌, subst, arith, inl, inr, true≢false}
+use Rattle.std.proofs.Common.{◌≡◌, ◌≤◌, ◌<◌, ◌+◌, ◌⊎◌, ℕ, suc, Bool, true, false, cond, ◌&&◌, ◌||◌, nat_le, nat_lt, max, List, [], ◌∷◌, length, drop, filter, Option, None, Some, option_map, is_some, unwrap_or, refl, sym, ap, ◌∙◌, subst, arith, inl, inr, true≢false}
 use Rattle.std.specs.List.{AllByRecursion, cons_option}
 use Rattle.std.proofs.lemmas.Bool.{and_parts, le-leb, lt-leb, ltb-false, ltb-true}
-use Rattle.sk_base.specs.declared.find.Find.{Find}
+use Rattle.sk_base.specs.declared.find.Paging.{Paging}
 use Rattle.sk_base.specs.declared.find.Options.{Options}
-use Rattle.sk_base.specs.declared.rank.OrderBy.{OrderBy}
 use Rattle.sk_base.specs.declared.rank.Rank.{Rank}
 use Rattle.sk_base.specs.declared.find.Collapse.{Collapse}
 use Rattle.sk_base.specs.Numbers.{Docs}
@@ -30,16 +29,16 @@ use Rattle.sk_nodes.specs.Decays.{MayFall, DecaysBoth}
 use Rattle.sk_nodes.specs.declared.tree.Tree.{Tree}
 use Rattle.sk_heap.specs.Held.{need_of}
 use Rattle.sk_collapse.specs.Collapsed.{Collapsed}
-use Rattle.sk_seen.specs.Pages.{CollapsesBy}
-use Rattle.sk_seen.specs.Needs.{wanted_by, is_above, is_settled, need_for}
-use Rattle.sk_seen.specs.Views.{Opens, PageOf, MaySee, Sees}
-use Rattle.sk_seen.specs.declared.page.Page.{Page}
-use Rattle.sk_seen.proofs.WalkLaws as Walks
-use Rattle.sk_seen.proofs.WalkLaws.{weighed, scores}
-use Rattle.sk_seen.proofs.SeeLaws.{page_opened, may_see, at_last, Looked, passed_by, looked_at, gone_on, wanted_before, asked_behind, head_early}
-use Rattle.sk_seen.specs.Paces.{reached_by}
-use Rattle.sk_seen.proofs.PaceLaws.{no_cutoff, reached_on}
-use Rattle.sk_match.specs.Searches.{IsOn, Accounts, Stands, PassesOver, Passes, AsksBehind, left_to_stop}
+use Rattle.sk_page.specs.Pages.{CollapsesBy}
+use Rattle.sk_page.specs.Needs.{wanted_by, is_above, is_settled, need_for}
+use Rattle.sk_page.specs.Views.{Opens, PageOf, MaySee, Sees}
+use Rattle.sk_page.specs.declared.page.Page.{Page}
+use Rattle.sk_page.proofs.WalkLaws as Walks
+use Rattle.sk_page.proofs.WalkLaws.{weighed, scores}
+use Rattle.sk_page.proofs.SeeLaws.{page_opened, may_see, at_last, Looked, passed_by, looked_at, gone_on, wanted_before, asked_behind, head_early}
+use Rattle.sk_page.specs.Paces.{reached_by}
+use Rattle.sk_page.proofs.PaceLaws.{no_cutoff, reached_on}
+use Rattle.sk_match.specs.Searches.{IsOn, Stands, PassesOver, Passes, AsksBehind}
 use Rattle.sk_match.specs.declared.open_search.Search.{Search}
 
 -- ---- a search that was opened
@@ -72,30 +71,30 @@ same_given f g low (one ∷ docs) up e = step (f one) (g one) refl refl e (rises
     step (Some v) None a b e up down rest = absurd (not_first one.0 v (weighed_ids g docs) (weighed_ids f docs) down (sym e))
     step (Some v) (Some w) a b e up down rest = (a ∙ ap Some (ap (λ (rs : List (ℕ × ℕ)). Nodes.first_weight rs) e) ∙ sym b, rest (ap (drop 1) e))
 
-pub opened : (i : Indexed) (s : Search) (find : Find) (query : Query.Tree) → fits_tree query ≡ true
-    → Built s.tree i query find.options.scheme
-    → left i s.tree ≡ scored query find.options.scheme 1 i.live.documents
-    → s.tree.need ≡ 0 → s.need ≡ 0 → Opens find s.page
-    → s.bounds ≡ record { greatest = ceil query find.options.scheme 1 i.live.documents; most = static_count query i.live.documents }
+pub opened : (i : Indexed) (s : Search) (paging : Paging) (query : Query.Tree) → fits_tree query ≡ true
+    → Built s.tree i query paging.options.scheme
+    → left i s.tree ≡ scored query paging.options.scheme 1 i.live.documents
+    → s.tree.need ≡ 0 → s.need ≡ 0 → Opens paging s.page
+    → s.bounds ≡ record { greatest = ceil query paging.options.scheme 1 i.live.documents; most = static_count query i.live.documents }
     → ((lists : List (List ℕ)) → flat_lists query i.live.documents ≡ Some lists → (point : ℕ) → Stops i s.tree point (ups lists point i.live.documents))
     → ((lists : List (List ℕ)) (m : ℕ) → rare_lists query i.live.documents ≡ Some (lists, m) → Rare i s.tree (rare_readings lists m i.live.documents))
-    → ((ts : Query.Trees) (a b : List ℕ) → query ≡ Query.parts Form.Or ts → terms_in ts ≡ Some (a ∷ b ∷ []) → (point : ℕ) → DecaysBoth i s.tree find.options.scheme point a b)
-    → Stands s i find query
-opened i s find query fits built all none need opens bounds stops rare decays =
+    → ((ts : Query.Trees) (a b : List ℕ) → query ≡ Query.parts Form.Or ts → terms_in ts ≡ Some (a ∷ b ∷ []) → (point : ℕ) → DecaysBoth i s.tree paging.options.scheme point a b)
+    → Stands s i paging query
+opened i s paging query fits built all none need opens bounds stops rare decays =
     let docs = i.live.documents in
     let rise : RiseAbove 0 docs = built.tree.documents.rise in
-    let page : PageOf s.page query find docs (gives i s.tree) 0 = page_opened query find docs (gives i s.tree) rise (same_given (λ one. gives i s.tree one.0) (scores query find) 0 docs rise all) s.page opens in
+    let page : PageOf s.page query paging docs (gives i s.tree) 0 = page_opened query paging docs (gives i s.tree) rise (same_given (λ one. gives i s.tree one.0) (scores query paging) 0 docs rise all) s.page opens in
     record {
       built = built;
       sound = (and_parts (is_sound 1 query) (nat_le (leaves_of query) 1024) (and_parts (is_sound 1 query && nat_le (leaves_of query) 1024) (nat_le (depth_of query) 1000) fits).0).0;
       bounds = bounds;
       need = need ∙ sym none;
       low = λ _. omega (arith, need);
-      page = subst (λ n. PageOf s.page query find docs (gives i s.tree) n) (sym need) page;
+      page = subst (λ n. PageOf s.page query paging docs (gives i s.tree) n) (sym need) page;
       accounts = record {
-        stops = λ _ lists e. stops lists e (stop_point query find docs);
+        stops = λ _ lists e. stops lists e (stop_point query paging docs);
         rare = rare;
-        decays = λ _ ts a b is terms. ((decays ts a b is terms (decay_point query (Query.term b) find docs)).0, (decays ts a b is terms (decay_point query (Query.term a) find docs)).1);
+        decays = λ _ ts a b is terms. ((decays ts a b is terms (decay_point query (Query.term b) paging docs)).0, (decays ts a b is terms (decay_point query (Query.term a) paging docs)).1);
         pace = λ lists e _ point _. stops lists e point;
       };
     }
@@ -113,7 +112,7 @@ high_of page ceiling e = step (nat_lt ceiling page.options.cutoff) refl e
     step true f e = absurd (true≢false e)
     step false f e = ltb-false ceiling page.options.cutoff f
 
-module _ (i : Indexed) (old : Search) (find : Find) (query : Query.Tree) (stands : Stands old i find query) (h w : ℕ) (head : Some h ≡ first_id (left i old.tree)) (weight : w ≡ Nodes.first_weight (left i old.tree)) where
+module _ (i : Indexed) (old : Search) (paging : Paging) (query : Query.Tree) (stands : Stands old i paging query) (h w : ℕ) (head : Some h ≡ first_id (left i old.tree)) (weight : w ≡ Nodes.first_weight (left i old.tree)) where
   abbrev docs : Docs
   docs = i.live.documents
 
@@ -124,24 +123,24 @@ module _ (i : Indexed) (old : Search) (find : Find) (query : Query.Tree) (stands
   sorted = stands.built.tree.documents
 
   abbrev stop : ℕ
-  stop = stop_point query find docs
+  stop = stop_point query paging docs
 
   pub weight_there : w ≡ Walks.first_weight (weighed give docs)
   weight_there = weight ∙ first_same (left i old.tree)
 
   -- it may see the document there
   pub fits_head : (ceiling : ℕ) → ceiling ≡ old.tree.top.greatest → ((id : ℕ) → unwrap_or (give id) 0 ≤ ceiling) → MaySee old.page h w
-  fits_head ceiling is most = may_see query find docs give old.need old.page stands.page sorted h w (sym head) weight_there ceiling most (let small = stands.built.tree.fits in omega (arith, is, small))
+  fits_head ceiling is most = may_see query paging docs give old.need old.page stands.page sorted h w (sym head) weight_there ceiling most (let small = stands.built.tree.fits in omega (arith, is, small))
 
   -- a search that goes on is at no document behind the stop point
-  pub early_head : is_settled old.page.options old.page.seen old.page.heap old.tree.top.greatest ≡ false → is_plain find ≡ true → h ≤ stop
-  early_head goes plain = head_early query find docs give old.need old.page stands.page sorted h w (sym head) weight_there old.tree.top.greatest stands.built.ceiling goes plain
+  pub early_head : is_settled old.page.options old.page.seen old.page.heap old.tree.top.greatest ≡ false → is_plain paging ≡ true → h ≤ stop
+  early_head goes plain = head_early query paging docs give old.need old.page stands.page sorted h w (sym head) weight_there old.tree.top.greatest stands.built.ceiling goes plain
 
   at_end : h ≤ last_id
-  at_end = at_last query find docs give old.need old.page stands.page sorted h w (sym head) weight_there
+  at_end = at_last query paging docs give old.need old.page stands.page sorted h w (sym head) weight_there
 
   abbrev LookedOn : Page → List Rank → Type 0
-  LookedOn mid saw2 = Looked query find docs give old.need old.page stands.page sorted h w (sym head) weight_there mid saw2
+  LookedOn mid saw2 = Looked query paging docs give old.need old.page stands.page sorted h w (sym head) weight_there mid saw2
 
   -- ---- past the head
 
@@ -153,19 +152,19 @@ module _ (i : Indexed) (old : Search) (find : Find) (query : Query.Tree) (stands
         by_asked (inl last) = inl (last.0, last.1)
         by_asked (inr e) = inr e
 
-    wanted_at : is_plain find ≡ true → h < stop → stop < last_id → (v : ℕ) × (give stop ≡ Some v) × (new.need ≤ v)
-    wanted_at = wanted_before query find docs give old.need old.page stands.page sorted h w (sym head) weight_there mid saw2 looked old.tree.top.greatest new.need (gives i new.tree) asked passes.over
+    wanted_at : is_plain paging ≡ true → h < stop → stop < last_id → (v : ℕ) × (give stop ≡ Some v) × (new.need ≤ v)
+    wanted_at = wanted_before query paging docs give old.need old.page stands.page sorted h w (sym head) weight_there mid saw2 looked old.tree.top.greatest new.need (gives i new.tree) asked passes.over
 
-    behind : is_plain find ≡ true → (least : ℕ) → settled find (found_by query find docs) least ≤ h → h < last_id → (least < new.need) ⊎ (old.tree.top.greatest < new.need)
-    behind = asked_behind query find docs give old.need old.page stands.page sorted h w (sym head) weight_there mid saw2 looked old.tree.top.greatest new.need (gives i new.tree) asked passes.over
+    behind : is_plain paging ≡ true → (least : ℕ) → settled paging (found_by query paging docs) least ≤ h → h < last_id → (least < new.need) ⊎ (old.tree.top.greatest < new.need)
+    behind = asked_behind query paging docs give old.need old.page stands.page sorted h w (sym head) weight_there mid saw2 looked old.tree.top.greatest new.need (gives i new.tree) asked passes.over
 
     at_least : (o : Option ℕ) (v n : ℕ) → o ≡ Some v → n ≤ v → IsAtLeast n o
     at_least o v n e l = subst (IsAtLeast n) (sym e) l
 
-    may_go : is_plain find ≡ true → (h ≡ last_id) ⊎ MayMove stop (h + 1) new.need old.tree.top.greatest (give stop)
+    may_go : is_plain paging ≡ true → (h ≡ last_id) ⊎ MayMove stop (h + 1) new.need old.tree.top.greatest (give stop)
     may_go plain = by_end (nat_lt h last_id) refl
       where
-        from_stop : (ceil query find.options.scheme 1 docs < new.need) ⊎ (old.tree.top.greatest < new.need) → MayMove stop (h + 1) new.need old.tree.top.greatest (give stop)
+        from_stop : (ceil query paging.options.scheme 1 docs < new.need) ⊎ (old.tree.top.greatest < new.need) → MayMove stop (h + 1) new.need old.tree.top.greatest (give stop)
         from_stop (inl more) = inl (omega (arith, more, stands.built.ceiling))
         from_stop (inr more) = inl more
 
@@ -173,7 +172,7 @@ module _ (i : Indexed) (old : Search) (find : Find) (query : Query.Tree) (stands
         before_stop before t = inr (inr (inr (omega (arith, before), at_least (give stop) t.0 new.need t.1 t.2)))
 
         by_point : h < last_id → (a : Bool) → nat_lt h stop ≡ a → (b : Bool) → nat_lt stop last_id ≡ b → MayMove stop (h + 1) new.need old.tree.top.greatest (give stop)
-        by_point within false f b g = from_stop (behind plain (ceil query find.options.scheme 1 docs) (ltb-false h stop f) within)
+        by_point within false f b g = from_stop (behind plain (ceil query paging.options.scheme 1 docs) (ltb-false h stop f) within)
         by_point within true f true g = before_stop (ltb-true h stop f) (wanted_at plain (ltb-true h stop f) (ltb-true stop last_id g))
         by_point within true f false g = let far = ltb-false stop last_id g in inr (inl (omega (arith, far)))
 
@@ -182,11 +181,11 @@ module _ (i : Indexed) (old : Search) (find : Find) (query : Query.Tree) (stands
         by_end true e = inr (by_point (ltb-true h last_id e) (nat_lt h stop) refl (nat_lt stop last_id) refl)
 
     -- behind the point at which a part cannot matter alone, it is not enough
-    may_fall : is_plain find ≡ true → (least : ℕ) → (h ≡ last_id) ⊎ MayFall (settled find (found_by query find docs) least) least (h + 1) new.need old.tree.top.greatest
+    may_fall : is_plain paging ≡ true → (least : ℕ) → (h ≡ last_id) ⊎ MayFall (settled paging (found_by query paging docs) least) least (h + 1) new.need old.tree.top.greatest
     may_fall plain least = by_end (nat_lt h last_id) refl
       where
         point : ℕ
-        point = settled find (found_by query find docs) least
+        point = settled paging (found_by query paging docs) least
 
         above : (least < new.need) ⊎ (old.tree.top.greatest < new.need) → MayFall point least (h + 1) new.need old.tree.top.greatest
         above (inl more) = inr (inr more)
@@ -201,55 +200,55 @@ module _ (i : Indexed) (old : Search) (find : Find) (query : Query.Tree) (stands
         by_end true e = inr (by_point (ltb-true h last_id e) (nat_lt point h) refl)
 
     -- while nothing is asked for, it reads no list behind what was seen by more than one entry
-    pace_on : (lists : List (List ℕ)) → flat_lists query docs ≡ Some lists → new.need ≡ 0 → (point : ℕ) → reached_by mid.seen (found_by query find docs) ≤ point → Stops i new.tree point (ups lists point docs)
+    pace_on : (lists : List (List ℕ)) → flat_lists query docs ≡ Some lists → new.need ≡ 0 → (point : ℕ) → reached_by mid.seen (found_by query paging docs) ≤ point → Stops i new.tree point (ups lists point docs)
     pace_on lists flat none point far = by_asked asked
       where
-        reach : (reached_by old.page.seen (found_by query find docs) ≤ point) × (find.options.cutoff ≤ w → h ≤ point)
-        reach = reached_on query find docs give old.need old.page stands.page sorted h w (sym head) weight_there mid saw2 looked old.tree.top.greatest new.need (gives i new.tree) asked passes.over (omega (arith, none)) point far
+        reach : (reached_by old.page.seen (found_by query paging docs) ≤ point) × (paging.options.cutoff ≤ w → h ≤ point)
+        reach = reached_on query paging docs give old.need old.page stands.page sorted h w (sym head) weight_there mid saw2 looked old.tree.top.greatest new.need (gives i new.tree) asked passes.over (omega (arith, none)) point far
 
         by_asked : ((new.need ≡ old.need) × (h ≡ last_id)) ⊎ (new.need ≡ max old.need (need_for mid.options mid.seen mid.heap old.tree.top.greatest)) → Stops i new.tree point (ups lists point docs)
         by_asked (inl last) = let same = last.0 in passes.stops point (ups lists point docs) (stands.accounts.pace lists flat (omega (arith, same, none)) point reach.0) (inl last.1)
         by_asked (inr e) =
             let cut : mid.options.cutoff ≡ 0 = no_cutoff mid.options mid.seen old.tree.top.greatest mid.heap (omega (arith, none, e)) in
-            let same : mid.options.cutoff ≡ find.options.cutoff = ap (λ (o : Options). o.cutoff) looked.options in
+            let same : mid.options.cutoff ≡ paging.options.cutoff = ap (λ (o : Options). o.cutoff) looked.options in
             let near = reach.1 (omega (arith, cut, same)) in
             passes.stops point (ups lists point docs) (stands.accounts.pace lists flat (omega (arith, none, e)) point reach.0) (inr (inr (inr (inl (none, omega (arith, near))))))
 
-    pub moved : Stands new i find query
+    pub moved : Stands new i paging query
     moved = record {
-      built = passes.built query find.options.scheme stands.built;
+      built = passes.built query paging.options.scheme stands.built;
       sound = stands.sound;
       bounds = passes.bounds ∙ stands.bounds;
       need = passes.need;
-      low = λ low. let cut : old.page.options.cutoff ≡ find.options.cutoff = ap (λ (o : Options). o.cutoff) stands.page.options in absurd (omega (arith, low, high, cut, stands.built.ceiling));
-      page = subst (λ p. PageOf p query find docs (gives i new.tree) new.need) (sym passes.page)
-          (gone_on query find docs give old.need old.page stands.page sorted h w (sym head) weight_there mid saw2 looked old.tree.top.greatest new.need (gives i new.tree) asked passes.over);
+      low = λ low. let cut : old.page.options.cutoff ≡ paging.options.cutoff = ap (λ (o : Options). o.cutoff) stands.page.options in absurd (omega (arith, low, high, cut, stands.built.ceiling));
+      page = subst (λ p. PageOf p query paging docs (gives i new.tree) new.need) (sym passes.page)
+          (gone_on query paging docs give old.need old.page stands.page sorted h w (sym head) weight_there mid saw2 looked old.tree.top.greatest new.need (gives i new.tree) asked passes.over);
       accounts = record {
         stops = λ plain lists flat. passes.stops stop (ups lists stop docs) (stands.accounts.stops plain lists flat) (may_go plain);
         rare = λ lists m is. passes.rare (rare_readings lists m docs) (stands.accounts.rare lists m is);
         decays = λ plain ts a b is terms.
             let both = stands.accounts.decays plain ts a b is terms in (
-              passes.decays (decay_point query (Query.term b) find docs) (ceil (Query.term b) find.options.scheme 1 docs) (decay_readings a b (decay_point query (Query.term b) find docs) docs 0) both.0
-                  (may_fall plain (ceil (Query.term b) find.options.scheme 1 docs)),
-              passes.decays (decay_point query (Query.term a) find docs) (ceil (Query.term a) find.options.scheme 1 docs) (decay_readings b a (decay_point query (Query.term a) find docs) docs 0) both.1
-                  (may_fall plain (ceil (Query.term a) find.options.scheme 1 docs)),
+              passes.decays (decay_point query (Query.term b) paging docs) (ceil (Query.term b) paging.options.scheme 1 docs) (decay_readings a b (decay_point query (Query.term b) paging docs) docs 0) both.0
+                  (may_fall plain (ceil (Query.term b) paging.options.scheme 1 docs)),
+              passes.decays (decay_point query (Query.term a) paging docs) (ceil (Query.term a) paging.options.scheme 1 docs) (decay_readings b a (decay_point query (Query.term a) paging docs) docs 0) both.1
+                  (may_fall plain (ceil (Query.term a) paging.options.scheme 1 docs)),
             );
-        pace = λ lists flat none point far. pace_on lists flat none point (subst (λ (p : Page). reached_by p.seen (found_by query find docs) ≤ point) passes.page far);
+        pace = λ lists flat none point far. pace_on lists flat none point (subst (λ (p : Page). reached_by p.seen (found_by query paging docs) ≤ point) passes.page far);
       };
     }
 
   module _ (high : old.page.options.cutoff ≤ old.tree.top.greatest) (new : Search) where
-    cut_same : old.page.options.cutoff ≡ find.options.cutoff
+    cut_same : old.page.options.cutoff ≡ paging.options.cutoff
     cut_same = ap (λ (o : Options). o.cutoff) stands.page.options
 
-    pub turned_seen : (mid : Page) → old.page.options.cutoff ≤ w → Sees docs h w old.page mid → Passes i h (record old { page = mid }) new → Stands new i find query
+    pub turned_seen : (mid : Page) → old.page.options.cutoff ≤ w → Sees docs h w old.page mid → Passes i h (record old { page = mid }) new → Stands new i paging query
     turned_seen mid enough sees passes =
-        let looked = looked_at query find docs give old.need old.page stands.page sorted h w (sym head) weight_there mid (omega (arith, enough, cut_same)) sees in
+        let looked = looked_at query paging docs give old.need old.page stands.page sorted h w (sym head) weight_there mid (omega (arith, enough, cut_same)) sees in
         moved high mid looked.0 looked.1 new passes
 
-    pub turned_light : w < old.page.options.cutoff → Passes i h old new → Stands new i find query
+    pub turned_light : w < old.page.options.cutoff → Passes i h old new → Stands new i paging query
     turned_light light passes =
-        moved high old.page stands.page.saw (passed_by query find docs give old.need old.page stands.page sorted h w (sym head) weight_there (omega (arith, light, cut_same))) new passes
+        moved high old.page stands.page.saw (passed_by query paging docs give old.need old.page stands.page sorted h w (sym head) weight_there (omega (arith, light, cut_same))) new passes
 
 -- ---- fewer are left
 

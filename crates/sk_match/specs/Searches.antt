@@ -1,7 +1,7 @@
 -- What a search has seen, and what it still has to see.
 use Rattle.std.specs.Prelude.{◌≡◌, ◌≤◌, ◌<◌, ℕ, ◌+◌, ◌||◌, ◌⊎◌, max, nat_le, Bool, true, List, [], ◌∷◌, length, filter, is_none, None, Some, if◌then◌else◌}
 use Rattle.std.specs.List.{AllByRecursion}
-use Rattle.sk_base.specs.declared.find.Find.{Find}
+use Rattle.sk_base.specs.declared.find.Paging.{Paging}
 use Rattle.sk_base.specs.declared.find.Scheme.{Scheme}
 use Rattle.sk_sorted.specs.Entries.{first_id}
 use Rattle.sk_query.specs.declared.form.Form.TheVariants as Form
@@ -19,9 +19,9 @@ use Rattle.sk_nodes.specs.Stops.{Stops, MayMove}
 use Rattle.sk_nodes.specs.Rare.{Rare}
 use Rattle.sk_nodes.specs.Decays.{Decays, MayFall}
 use Rattle.sk_nodes.specs.declared.tree.Tree.{Tree}
-use Rattle.sk_seen.specs.Needs.{is_settled, need_for}
-use Rattle.sk_seen.specs.Paces.{reached_by}
-use Rattle.sk_seen.specs.Views.{PageOf, Sees}
+use Rattle.sk_page.specs.Needs.{is_settled, need_for}
+use Rattle.sk_page.specs.Paces.{reached_by}
+use Rattle.sk_page.specs.Views.{PageOf, Sees}
 use Rattle.sk_match.specs.declared.open_search.Search.{Search}
 
 -- What a search still has to see: ids and weights, by rising id.
@@ -33,8 +33,8 @@ abbrev pub ahead_to : ℕ → Indexed → Search → List (ℕ × ℕ)
 ahead_to id index search = filter (λ p. nat_le p.0 id) (ahead index search)
 
 -- How many of them stand up to the point at which a page by relevance is settled.
-abbrev pub left_to_stop : Find → Query.Tree → Indexed → Search → ℕ
-left_to_stop find query index search = length (ahead_to (stop_point query find index.live.documents) index search)
+abbrev pub left_to_stop : Paging → Query.Tree → Indexed → Search → ℕ
+left_to_stop paging query index search = length (ahead_to (stop_point query paging index.live.documents) index search)
 
 -- A search is done where nothing is ahead, or what is ahead cannot change its page.
 abbrev pub is_done : Indexed → Search → Bool
@@ -45,30 +45,30 @@ abbrev pub spent_by : Search → ℕ
 spent_by search = search.tree.spent + search.page.read
 
 -- The second of two terms fades behind the point at which it cannot bring a document into the page by itself.
-abbrev pub DecaysBehind : Indexed → Find → Query.Tree → Tree → List ℕ → List ℕ → Type 0
-DecaysBehind index find query tree a b =
-    Decays index tree (decay_point query (Query.term b) find index.live.documents) (ceil (Query.term b) find.options.scheme 1 index.live.documents)
-    (decay_readings a b (decay_point query (Query.term b) find index.live.documents) index.live.documents 0)
+abbrev pub DecaysBehind : Indexed → Paging → Query.Tree → Tree → List ℕ → List ℕ → Type 0
+DecaysBehind index paging query tree a b =
+    Decays index tree (decay_point query (Query.term b) paging index.live.documents) (ceil (Query.term b) paging.options.scheme 1 index.live.documents)
+    (decay_readings a b (decay_point query (Query.term b) paging index.live.documents) index.live.documents 0)
 
 -- What the tree of a search of this find and query may read: of terms alone it stops at the point at which a page by relevance is settled, where one of its lists leads it reads the others with it, of an or of two terms either may fade, and while nothing is asked for no list of terms alone is read by more than one entry behind the last match that was seen.
-pub record Accounts (index : Indexed) (find : Find) (query : Query.Tree) (seen need : ℕ) (tree : Tree) : Type 0 where
-  pub stops : is_plain find ≡ true → (lists : List (List ℕ)) → flat_lists query index.live.documents ≡ Some lists
-      → Stops index tree (stop_point query find index.live.documents) (ups lists (stop_point query find index.live.documents) index.live.documents)
+pub record Accounts (index : Indexed) (paging : Paging) (query : Query.Tree) (seen need : ℕ) (tree : Tree) : Type 0 where
+  pub stops : is_plain paging ≡ true → (lists : List (List ℕ)) → flat_lists query index.live.documents ≡ Some lists
+      → Stops index tree (stop_point query paging index.live.documents) (ups lists (stop_point query paging index.live.documents) index.live.documents)
   pub rare : (lists : List (List ℕ)) (m : ℕ) → rare_lists query index.live.documents ≡ Some (lists, m) → Rare index tree (rare_readings lists m index.live.documents)
-  pub decays : is_plain find ≡ true → (ts : Query.Trees) (a b : List ℕ) → query ≡ Query.parts Form.Or ts → terms_in ts ≡ Some (a ∷ b ∷ [])
-      → DecaysBehind index find query tree a b × DecaysBehind index find query tree b a
+  pub decays : is_plain paging ≡ true → (ts : Query.Trees) (a b : List ℕ) → query ≡ Query.parts Form.Or ts → terms_in ts ≡ Some (a ∷ b ∷ [])
+      → DecaysBehind index paging query tree a b × DecaysBehind index paging query tree b a
   pub pace : (lists : List (List ℕ)) → flat_lists query index.live.documents ≡ Some lists → need ≡ 0
-      → (point : ℕ) → reached_by seen (found_by query find index.live.documents) ≤ point → Stops index tree point (ups lists point index.live.documents)
+      → (point : ℕ) → reached_by seen (found_by query paging index.live.documents) ≤ point → Stops index tree point (ups lists point index.live.documents)
 
 -- A search is one of this find and query on this index: its tree is the query's, its bounds are the query's, and its page is that of a search that is given what the tree gives.
-pub record Stands (search : Search) (index : Indexed) (find : Find) (query : Query.Tree) : Type 0 where
-  pub built : Built search.tree index query find.options.scheme
+pub record Stands (search : Search) (index : Indexed) (paging : Paging) (query : Query.Tree) : Type 0 where
+  pub built : Built search.tree index query paging.options.scheme
   pub sound : is_sound 1 query ≡ true
-  pub bounds : search.bounds ≡ record { greatest = ceil query find.options.scheme 1 index.live.documents; most = static_count query index.live.documents }
+  pub bounds : search.bounds ≡ record { greatest = ceil query paging.options.scheme 1 index.live.documents; most = static_count query index.live.documents }
   pub need : search.need ≡ search.tree.need
-  pub low : ceil query find.options.scheme 1 index.live.documents < find.options.cutoff → search.need ≤ find.options.cutoff
-  pub page : PageOf search.page query find index.live.documents (gives index search.tree) search.need
-  pub accounts : Accounts index find query search.page.seen search.need search.tree
+  pub low : ceil query paging.options.scheme 1 index.live.documents < paging.options.cutoff → search.need ≤ paging.options.cutoff
+  pub page : PageOf search.page query paging index.live.documents (gives index search.tree) search.need
+  pub accounts : Accounts index paging query search.page.seen search.need search.tree
 
 -- ---- a step of a search
 
@@ -121,4 +121,4 @@ Asks index old new = (ahead index new ≡ []) ⊎ (new.need ≡ max old.need (ne
 
 -- A search is on this index: it is one of some find and query there.
 abbrev pub IsOn : Search → Indexed → Type 0
-IsOn search index = (find : Find) × (query : Query.Tree) × Stands search index find query
+IsOn search index = (paging : Paging) × (query : Query.Tree) × Stands search index paging query

@@ -1,29 +1,29 @@
 //! A search: its matches one by one, and its report.
 ghost use Rattle.std.specs.Prelude.{◌≡◌, ◌≤◌, ◌<◌, ◌+◌, ◌-◌, ◌^◌, ℕ, List, min, true, length, IfOk, IsOk, None, Some, is_none, if◌then◌else◌};
-ghost use Rattle.sk_base.specs.declared.find.Find.{Find};
+ghost use Rattle.sk_base.specs.declared.find.Paging.{Paging};
 ghost use Rattle.sk_base.specs.declared.rank.OrderBy.TheVariants as OrderBy;
 ghost use Rattle.sk_query.specs.Trees as QueryTree;
 ghost use Rattle.sk_query.specs.Trees.{query_view};
 ghost use Rattle.sk_query.specs.Fits.{fits_tree};
 ghost use Rattle.sk_sorted.specs.Entries.{first_id};
-ghost use Rattle.sk_base.specs.Records.{FitsFind};
+ghost use Rattle.sk_base.specs.Finds.{FitsPaging};
 ghost use Rattle.sk_report.specs.Reports.{ReportsFor};
 ghost use Rattle.sk_index.specs.Indexed.{Indexed};
 ghost use Rattle.sk_model.specs.Counts.{wanted};
 ghost use Rattle.sk_model.specs.Matches.{found_by};
 ghost use Rattle.sk_model.specs.Sharp.{is_plain, flat_lists, ups, sharp};
 ghost use Rattle.sk_nodes.specs.Built.{scored, IsTree};
-ghost use Rattle.sk_seen.specs.Needs.{is_whole};
-ghost use Rattle.sk_seen.specs.Paces.{IsEarly, reached_by};
+ghost use Rattle.sk_page.specs.Needs.{is_whole};
+ghost use Rattle.sk_page.specs.Paces.{IsEarly, reached_by};
 ghost use Rattle.sk_match.specs.Searches.{IsOn, Stands, Asks, Passes, MovesPast, ahead, left_to_stop, is_done, spent_by};
 ghost use Rattle.sk_match.specs.declared.open_search.Turn.TheVariants as Turn;
 
 use crate::reader::IndexReader;
-use sk_base::{DocId, Find, Report, Weight};
+use sk_base::{DocId, Paging, Report, Weight};
 use sk_index::Index;
 use sk_nodes::Tree;
 use sk_query::Query;
-use sk_seen::{Bounds, Page};
+use sk_page::{Bounds, Page};
 use sk_steps::Steps;
 use sk_weight::{ceil, static_count};
 use std::alloc::{AllocError, Global};
@@ -53,30 +53,30 @@ impl Search {
     pub fn open<L: Ledger>(
         alloc: Global,
         index: &Index,
-        find: &Find,
+        paging: &Paging,
         query: &Query,
         steps: &mut Steps<L>,
     ) -> Result<Search, AllocError>
         requires fits { fits_tree (query_view query.now) ≡ true }
-        requires find { FitsFind find.now }
-        ensures stands { IfOk result (λ search. Stands search index.now find.now (query_view query.now)) }
+        requires paging { FitsPaging paging.now }
+        ensures stands { IfOk result (λ search. Stands search index.now paging.now (query_view query.now)) }
 
         // Ahead are all documents that score, and none of them was seen.
-        ensures first { IfOk result (λ search. (ahead index.now search ≡ scored (query_view query.now) find.now.options.scheme 1 index.now.live.documents) × (search.page.seen ≡ 0)) }
+        ensures first { IfOk result (λ search. (ahead index.now search ≡ scored (query_view query.now) paging.now.options.scheme 1 index.now.live.documents) × (search.page.seen ≡ 0)) }
 
         // Of terms alone it read one entry of each list at the most.
         ensures one_each { IfOk result (λ search. (lists : List (List ℕ)) → flat_lists (query_view query.now) index.now.live.documents ≡ Some lists → spent_by search ≤ length lists) }
         ensures cost { IfOk result (λ search. steps.new ≡ steps.old + spent_by search) }
         ensures later { steps.old ≤ steps.new }
     {
-        let scheme = find.options.scheme;
+        let scheme = paging.options.scheme;
         let _highest = index.highest();
         let _many = index.all().length();
         let bounds = Bounds {
             greatest: ceil(index, query, scheme, 1),
             most: static_count(index, query),
         };
-        let page = Page::open(alloc, find)?;
+        let page = Page::open(alloc, paging)?;
         let tree = Tree::open(alloc, index, query, scheme, steps)?;
         Ok(Search {
             tree,
@@ -94,7 +94,7 @@ impl Search {
         steps: &mut Steps<L>,
     ) -> Result<Turn, AllocError>
         requires on { IsOn self.old index.now }
-        ensures stands { IfOk result (λ turn. (find : Find) (query : QueryTree.Tree) → Stands self.old index.now find query → Stands self.new index.now find query) }
+        ensures stands { IfOk result (λ turn. (paging : Paging) (query : QueryTree.Tree) → Stands self.old index.now paging query → Stands self.new index.now paging query) }
 
         // It is done exactly where nothing is left that can change the page, and then nothing changes.
         ensures done { IfOk result (λ turn. turn ≡ (if is_done index.now self.old then Turn.Done else Turn.More)) }
@@ -105,12 +105,12 @@ impl Search {
         ensures fewer { IfOk result (λ turn. turn ≡ Turn.More → length (ahead index.now self.new) < length (ahead index.now self.old)) }
 
         // Where the page goes by relevance and nothing is collapsed, it sees none behind the stop point.
-        ensures early { IfOk result (λ turn. turn ≡ Turn.More → (find : Find) (query : QueryTree.Tree) → Stands self.old index.now find query → is_plain find ≡ true
-            → left_to_stop find query index.now self.new < left_to_stop find query index.now self.old) }
+        ensures early { IfOk result (λ turn. turn ≡ Turn.More → (paging : Paging) (query : QueryTree.Tree) → Stands self.old index.now paging query → is_plain paging ≡ true
+            → left_to_stop paging query index.now self.new < left_to_stop paging query index.now self.old) }
 
         // It is not done before it saw as many as are wanted, or all.
-        ensures enough { IfOk result (λ turn. turn ≡ Turn.Done → (find : Find) (query : QueryTree.Tree) → Stands self.old index.now find query
-            → min (wanted find) (length (found_by query find index.now.live.documents)) ≤ self.old.page.seen) }
+        ensures enough { IfOk result (λ turn. turn ≡ Turn.Done → (paging : Paging) (query : QueryTree.Tree) → Stands self.old index.now paging query
+            → min (wanted paging) (length (found_by query paging index.now.live.documents)) ≤ self.old.page.seen) }
 
         // Without keys and values it takes no memory.
         ensures free { self.old.page.collapse ≡ None → self.old.page.order.by ≡ OrderBy.Relevance → IsOk result }
@@ -160,7 +160,7 @@ impl Search {
     ) -> Result<Report, AllocError>
         requires on { IsOn self index.now }
         requires done { is_done index.now self ≡ true }
-        ensures report { IfOk result (λ report. (find : Find) (query : QueryTree.Tree) → Stands self index.now find query → ReportsFor query find index.now.live.documents report) }
+        ensures report { IfOk result (λ report. (paging : Paging) (query : QueryTree.Tree) → Stands self index.now paging query → ReportsFor query paging index.now.live.documents report) }
         ensures cost { IfOk result (λ report. steps.new + spent_by self ≡ steps.old + report.steps) }
         ensures later { steps.old ≤ steps.new }
     {
@@ -187,12 +187,12 @@ impl Search {
         ensures value { result ≡ min (2 ^ 128 - 1) (spent_by self.now) }
 
         // At all times it is within the bound on the steps of the find.
-        ensures within { (i : Indexed) (find : Find) (query : QueryTree.Tree) (hits : ℕ) → Stands self.now i find query → result ≤ sharp query find i.live.documents hits }
+        ensures within { (i : Indexed) (paging : Paging) (query : QueryTree.Tree) (hits : ℕ) → Stands self.now i paging query → result ≤ sharp query paging i.live.documents hits }
 
         // While a find of terms alone by relevance wants to see more, it read each list up to the last match that it saw, and
         // one entry more.
-        ensures paced { (i : Indexed) (find : Find) (query : QueryTree.Tree) (lists : List (List ℕ)) → Stands self.now i find query → IsEarly find self.now.page.seen
-            → flat_lists query i.live.documents ≡ Some lists → result ≤ ups lists (reached_by self.now.page.seen (found_by query find i.live.documents)) i.live.documents }
+        ensures paced { (i : Indexed) (paging : Paging) (query : QueryTree.Tree) (lists : List (List ℕ)) → Stands self.now i paging query → IsEarly paging self.now.page.seen
+            → flat_lists query i.live.documents ≡ Some lists → result ≤ ups lists (reached_by self.now.page.seen (found_by query paging i.live.documents)) i.live.documents }
     {
         self.tree
             .spent()

@@ -1,7 +1,7 @@
 //! The documents of an index, as a page reads them.
 use sk_base::DocId;
 use sk_index::Index;
-use sk_seen::Reader;
+use sk_page::Reader;
 use sk_steps::Steps;
 use std::sync::ledger::Ledger;
 

@@ -1,7 +1,3 @@
-use Rattle.std.proofs.Common.{sym}
-use Rattle.sk_base.specs.declared.find.Find.{Find}
-use Rattle.sk_query.specs.Trees as QueryTree
-use Rattle.sk_match.specs.Searches.{Stands}
 use Rattle.sk_match.proofs.FinishLemmas.{may_report, finished}
 use Rattle.sk_match.proofs.open_search.Search.finish.Goals as goal
 
@@ -13,9 +9,9 @@ report-requires g c =
     (c.is_whole-is_whole.ensures i on.2.built.tree)
 
 pub returns-clause-report : goal.returns-clause-report
-returns-clause-report g c find query stands =
+returns-clause-report g c paging query stands =
     let i = c.args.index.now in
-    finished i c.args.self find query stands c.ceiling-ceiling.result c.ceiling-ceiling.ensures.value (c.ceiling-ceiling.ensures.bound i stands.built.tree) c.requires.done c.is_whole-is_whole.result
+    finished i c.args.self paging query stands c.ceiling-ceiling.result c.ceiling-ceiling.ensures.value (c.ceiling-ceiling.ensures.bound i stands.built.tree) c.requires.done c.is_whole-is_whole.result
     (c.is_whole-is_whole.ensures i stands.built.tree) c.spent-spent.result
-    (record { within = c.spent-spent.ensures.within i query find.options.scheme stands.built; stops = c.spent-spent.ensures.stops i; rare = c.spent-spent.ensures.rare i; decays = c.spent-spent.ensures.decays i })
+    (record { within = c.spent-spent.ensures.within i query paging.options.scheme stands.built; stops = c.spent-spent.ensures.stops i; rare = c.spent-spent.ensures.rare i; decays = c.spent-spent.ensures.decays i })
     _ c.in_ok-report.ensures.report
