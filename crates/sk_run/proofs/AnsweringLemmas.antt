@@ -55,34 +55,34 @@ module _ {R : Type 0} (text : R → List ℕ) (refuses : R → Bool) (cost : R �
     lacks_heard Status.TooMuch before after e same = absurd e
 
     -- The sink failed when what waits was put before a find.
-    pub fails_first : (before after : Output) → AppendsPrefix before.held after.held waiting → after.steps ≡ before.steps → after.finishes ≡ before.finishes → Rose before.faults after.faults
+    pub fails_first : (before after : Output) → AppendsPrefix before.sink.held after.sink.held waiting → after.steps ≡ before.steps → after.sink.finishes ≡ before.sink.finishes → Rose before.sink.faults after.sink.faults
         → FailsToPut text refuses cost Allowed waiting before after
     fails_first before after prefix same finishes rose = record { which = inl (record { put = prefix; same = same }); finishes = finishes; rose = rose }
 
     -- Of what waits a front was put, or none.
-    module _ (waiting' : List ℕ) (before middle : Output) (moves : Moves waiting waiting' before.held middle.held) (finishes : middle.finishes ≡ before.finishes) (since : before.faults ≤ middle.faults) where
+    module _ (waiting' : List ℕ) (before middle : Output) (moves : Moves waiting waiting' before.sink.held middle.sink.held) (finishes : middle.sink.finishes ≡ before.sink.finishes) (since : before.sink.faults ≤ middle.sink.faults) where
       before_it : (after : Output) → PutsLast waiting' Status.WriteFault middle after → after.steps ≡ before.steps → FailsToPut text refuses cost Allowed waiting before after
       before_it after e same = record {
-        which = inl (record { put = moves_prefix waiting waiting' before.held middle.held after.held moves e.0; same = same });
+        which = inl (record { put = moves_prefix waiting waiting' before.sink.held middle.sink.held after.sink.held moves e.0; same = same });
         finishes = e.1 ∙ finishes;
-        rose = rose_since before.faults middle.faults after.faults since e.2;
+        rose = rose_since before.sink.faults middle.sink.faults after.sink.faults since e.2;
       }
 
-      within_it : (after : Output) (answer : R) → Allowed answer → AppendsPrefix middle.held after.held (waiting' ++ text answer) → after.steps ≡ before.steps + cost answer → after.finishes ≡ middle.finishes → Rose middle.faults after.faults
+      within_it : (after : Output) (answer : R) → Allowed answer → AppendsPrefix middle.sink.held after.sink.held (waiting' ++ text answer) → after.steps ≡ before.steps + cost answer → after.sink.finishes ≡ middle.sink.finishes → Rose middle.sink.faults after.sink.faults
           → FailsToPut text refuses cost Allowed waiting before after
       within_it after answer allowed prefix paid still rose = record {
         which = inr (record {
           answer = answer;
           allowed = allowed;
-          put = moves_prefix (waiting ++ text answer) (waiting' ++ text answer) before.held middle.held after.held (moves_text waiting waiting' (text answer) before.held middle.held moves) prefix;
+          put = moves_prefix (waiting ++ text answer) (waiting' ++ text answer) before.sink.held middle.sink.held after.sink.held (moves_text waiting waiting' (text answer) before.sink.held middle.sink.held moves) prefix;
           paid = paid;
         });
         finishes = still ∙ finishes;
-        rose = rose_since before.faults middle.faults after.faults since rose;
+        rose = rose_since before.sink.faults middle.sink.faults after.sink.faults since rose;
       }
 
       out_of_memory : (after : Output) → PutsLast waiting' Status.Memory middle after → before.steps ≤ after.steps → LacksMemory text refuses cost Allowed waiting before after
-      out_of_memory after e later = record { put = moves_last waiting waiting' before.held middle.held after.held moves e.0; later = later; finishes = e.1 ∙ finishes }
+      out_of_memory after e later = record { put = moves_last waiting waiting' before.sink.held middle.sink.held after.sink.held moves e.0; later = later; finishes = e.1 ∙ finishes }
 
       -- Memory ran out when what was heard was followed. Where readings may have been counted nothing waited.
       pub lacks_answer : (reads : Bool) (status : Status) (after : Output) → (reads ≡ true → waiting' ≡ []) → (reads ≡ false → after.steps ≡ before.steps) → (waiting' ≡ [] → status ≡ Status.Memory) → before.steps ≤ after.steps
@@ -102,26 +102,26 @@ module _ {R : Type 0} (text : R → List ℕ) (refuses : R → Bool) (cost : R �
       lacks_text Status.Refused after answer allowed paid e = absurd e
       lacks_text Status.Usage after answer allowed paid e = absurd e
       lacks_text Status.ReadFault after answer allowed paid e = absurd e
-      lacks_text Status.WriteFault after answer allowed paid e = within_it after answer allowed (prefix_longer waiting' (text answer) middle.held after.held e.0) paid e.1 e.2
+      lacks_text Status.WriteFault after answer allowed paid e = within_it after answer allowed (prefix_longer waiting' (text answer) middle.sink.held after.sink.held e.0) paid e.1 e.2
       lacks_text Status.Memory after answer allowed paid e = out_of_memory after e (omega (arith, paid))
       lacks_text Status.TooMuch after answer allowed paid e = absurd e
 
       -- The sink failed when the text joined what waits.
-      pub fails_joined : (after : Output) (answer : R) (piece : List ℕ) → Allowed answer → piece ≡ text answer → AppendsPrefix middle.held after.held (waiting' ++ piece) → after.steps ≡ before.steps + cost answer → after.finishes ≡ middle.finishes → Rose middle.faults after.faults
+      pub fails_joined : (after : Output) (answer : R) (piece : List ℕ) → Allowed answer → piece ≡ text answer → AppendsPrefix middle.sink.held after.sink.held (waiting' ++ piece) → after.steps ≡ before.steps + cost answer → after.sink.finishes ≡ middle.sink.finishes → Rose middle.sink.faults after.sink.faults
           → FailsToPut text refuses cost Allowed waiting before after
       fails_joined after answer piece allowed is prefix paid still rose =
-          within_it after answer allowed (subst (λ (w : List ℕ). AppendsPrefix middle.held after.held (waiting' ++ w)) is prefix) paid still rose
+          within_it after answer allowed (subst (λ (w : List ℕ). AppendsPrefix middle.sink.held after.sink.held (waiting' ++ w)) is prefix) paid still rose
 
       -- The text joined what waits.
-      pub joined : (after : Output) (waiting'' : List ℕ) (answer : R) (refused : Bool) (piece : List ℕ) → Allowed answer → piece ≡ text answer → refused ≡ refuses answer → Moves (waiting' ++ piece) waiting'' middle.held after.held → after.steps ≡ before.steps + cost answer
-          → after.finishes ≡ middle.finishes → middle.faults ≤ after.faults → Joins text refuses cost Allowed waiting waiting'' refused before after
+      pub joined : (after : Output) (waiting'' : List ℕ) (answer : R) (refused : Bool) (piece : List ℕ) → Allowed answer → piece ≡ text answer → refused ≡ refuses answer → Moves (waiting' ++ piece) waiting'' middle.sink.held after.sink.held → after.steps ≡ before.steps + cost answer
+          → after.sink.finishes ≡ middle.sink.finishes → middle.sink.faults ≤ after.sink.faults → Joins text refuses cost Allowed waiting waiting'' refused before after
       joined after waiting'' answer refused piece allowed is refusal more paid still later = record {
         answer = answer;
         allowed = allowed;
         refusal = refusal;
         moves =
-            moves_on (waiting ++ text answer) (waiting' ++ text answer) waiting'' before.held middle.held after.held (moves_text waiting waiting' (text answer) before.held middle.held moves)
-            (subst (λ (w : List ℕ). Moves (waiting' ++ w) waiting'' middle.held after.held) is more);
+            moves_on (waiting ++ text answer) (waiting' ++ text answer) waiting'' before.sink.held middle.sink.held after.sink.held (moves_text waiting waiting' (text answer) before.sink.held middle.sink.held moves)
+            (subst (λ (w : List ℕ). Moves (waiting' ++ w) waiting'' middle.sink.held after.sink.held) is more);
         paid = paid;
         finishes = still ∙ finishes;
         later = omega (arith, since, later);

@@ -139,18 +139,18 @@ module _ {W S R : Type 0} (text : R → List ℕ) (refuses : R → Bool) (cost :
   pub demo_at_once : (before after : Output) → after ≡ before → RunsOut text refuses cost (ObeysFirst Obeys start (demo_commands documents)) before after
   demo_at_once before after same =
       subst (RunsOut text refuses cost (ObeysFirst Obeys start (demo_commands documents)) before) (sym same)
-      (record { answers = []; put = Appends-nil before.held; steps = omega arith; finishes = refl; lines = record { last = start; left = demo_commands documents; runs = rest } })
+      (record { answers = []; put = Appends-nil before.sink.held; steps = omega arith; finishes = refl; lines = record { last = start; left = demo_commands documents; runs = rest } })
 
   -- One command more was obeyed, and its answer joined what waits.
   pub demo_more : (held0 : Option (List ℕ)) (steps0 place : ℕ) (waiting waiting' : List ℕ) (machine machine' : W) (refused more : Bool) (before after : Output) (command : Command)
-      → place < documents + 6 → DemoSoFar held0 steps0 place waiting before.held machine refused before.steps → command ≡ demo_command documents place
+      → place < documents + 6 → DemoSoFar held0 steps0 place waiting before.sink.held machine refused before.steps → command ≡ demo_command documents place
       → Joins text refuses cost (λ answer. (s : S) → Stands machine s → Meets Stands (Obeys s command answer) machine') waiting waiting' more before after
-      → DemoSoFar held0 steps0 (place + 1) waiting' after.held machine' (refused || more) after.steps
+      → DemoSoFar held0 steps0 (place + 1) waiting' after.sink.held machine' (refused || more) after.steps
   demo_more held0 steps0 place waiting waiting' machine machine' refused more before after command inside so is joins =
       let met : Meets Stands (Obeys so.state command joins.answer) machine' = joins.allowed so.state so.at in
       record {
         answers = so.answers ++ joins.answer ∷ [];
-        put = put_more text refuses cost so.answers waiting waiting' held0 before.held after.held false refused (refused || more) steps0 before.steps after.steps joins.answer so.put joins.moves (ap (λ b. refused || b) joins.refusal) joins.paid;
+        put = put_more text refuses cost so.answers waiting waiting' held0 before.sink.held after.sink.held false refused (refused || more) steps0 before.steps after.steps joins.answer so.put joins.moves (ap (λ b. refused || b) joins.refusal) joins.paid;
         state = met.next;
         at = met.at;
         goes_on = λ rest_of last left runs.
@@ -161,36 +161,36 @@ module _ {W S R : Type 0} (text : R → List ℕ) (refuses : R → Bool) (cost :
       }
 
   -- For what was answered so far.
-  module _ (place : ℕ) (waiting : List ℕ) (machine : W) (refused : Bool) (before middle after : Output) (so : DemoSoFar before.held before.steps place waiting middle.held machine refused middle.steps)
-      (same : middle.finishes ≡ before.finishes) (since : before.faults ≤ middle.faults) where
+  module _ (place : ℕ) (waiting : List ℕ) (machine : W) (refused : Bool) (before middle after : Output) (so : DemoSoFar before.sink.held before.steps place waiting middle.sink.held machine refused middle.steps)
+      (same : middle.sink.finishes ≡ before.sink.finishes) (since : before.sink.faults ≤ middle.sink.faults) where
     stops_at : Obeyings Obeys start (demo_commands documents) so.answers so.state (from place)
     stops_at = subst (λ (all : List R). Obeyings Obeys start (demo_commands documents) all so.state (from place)) (append-nil so.answers) (so.goes_on [] so.state (from place) rest)
 
     first_ones : ObeysFirst Obeys start (demo_commands documents) so.answers
     first_ones = record { last = so.state; left = from place; runs = stops_at }
 
-    lost : Appends middle.held after.held waiting → middle.steps ≤ after.steps → after.finishes ≡ middle.finishes → RunsOut text refuses cost (ObeysFirst Obeys start (demo_commands documents)) before after
+    lost : Appends middle.sink.held after.sink.held waiting → middle.steps ≤ after.steps → after.sink.finishes ≡ middle.sink.finishes → RunsOut text refuses cost (ObeysFirst Obeys start (demo_commands documents)) before after
     lost put later still = record {
       answers = so.answers;
-      put = moves_last (flat_map text so.answers) waiting before.held middle.held after.held so.put.put put;
+      put = moves_last (flat_map text so.answers) waiting before.sink.held middle.sink.held after.sink.held so.put.put put;
       steps = omega (arith, so.put.paid, later);
       finishes = still ∙ same;
       lines = first_ones;
     }
 
-    unput : AppendsPrefix middle.held after.held waiting → after.steps ≡ middle.steps → after.finishes ≡ middle.finishes → BreaksOff text refuses cost (ObeysFirst Obeys start (demo_commands documents)) before after
+    unput : AppendsPrefix middle.sink.held after.sink.held waiting → after.steps ≡ middle.steps → after.sink.finishes ≡ middle.sink.finishes → BreaksOff text refuses cost (ObeysFirst Obeys start (demo_commands documents)) before after
     unput prefix paid still = record {
       answers = so.answers;
-      put = puts_front text so.answers before.held after.held (moves_prefix (flat_map text so.answers) waiting before.held middle.held after.held so.put.put prefix);
+      put = puts_front text so.answers before.sink.held after.sink.held (moves_prefix (flat_map text so.answers) waiting before.sink.held middle.sink.held after.sink.held so.put.put prefix);
       steps = paid ∙ so.put.paid;
       finishes = inl (still ∙ same);
       lines = first_ones;
     }
 
     -- The sink failed within what waited.
-    pub demo_unput : AppendsPrefix middle.held after.held waiting → after.steps ≡ middle.steps → after.finishes ≡ middle.finishes → Rose middle.faults after.faults
-        → BreaksOff text refuses cost (ObeysFirst Obeys start (demo_commands documents)) before after × Rose before.faults after.faults
-    demo_unput prefix paid still rose = (unput prefix paid still, rose_since before.faults middle.faults after.faults since rose)
+    pub demo_unput : AppendsPrefix middle.sink.held after.sink.held waiting → after.steps ≡ middle.steps → after.sink.finishes ≡ middle.sink.finishes → Rose middle.sink.faults after.sink.faults
+        → BreaksOff text refuses cost (ObeysFirst Obeys start (demo_commands documents)) before after × Rose before.sink.faults after.sink.faults
+    demo_unput prefix paid still rose = (unput prefix paid still, rose_since before.sink.faults middle.sink.faults after.sink.faults since rose)
 
     -- Memory ran out for the next command.
     pub demo_last : (status : Status) → PutsLast waiting status middle after → after.steps ≡ middle.steps → Ended text refuses cost NotWhole NeverTaken (ObeysFirst Obeys start (demo_commands documents)) false status before after
@@ -207,12 +207,12 @@ module _ {W S R : Type 0} (text : R → List ℕ) (refuses : R → Bool) (cost :
       abbrev Answer : R → Type 0
       Answer answer = (next : W) × ((s : S) → Stands machine s → Meets Stands (Obeys s command answer) next)
 
-      unwritten : FailsWithin text refuses cost Answer waiting middle after → after.finishes ≡ middle.finishes → BreaksOff text refuses cost (ObeysFirst Obeys start (demo_commands documents)) before after
+      unwritten : FailsWithin text refuses cost Answer waiting middle after → after.sink.finishes ≡ middle.sink.finishes → BreaksOff text refuses cost (ObeysFirst Obeys start (demo_commands documents)) before after
       unwritten fails still =
           let met : Meets Stands (Obeys so.state command fails.answer) fails.allowed.0 = fails.allowed.1 so.state so.at in
           record {
             answers = so.answers ++ fails.answer ∷ [];
-            put = put_in_part text refuses cost so.answers waiting before.held middle.held after.held fails.answer so.put.put fails.put;
+            put = put_in_part text refuses cost so.answers waiting before.sink.held middle.sink.held after.sink.held fails.answer so.put.put fails.put;
             steps = omega (arith, fails.paid, so.put.paid, sum_by-append cost so.answers (fails.answer ∷ []));
             finishes = inl (still ∙ same);
             lines = record {
@@ -234,7 +234,7 @@ module _ {W S R : Type 0} (text : R → List ℕ) (refuses : R → Bool) (cost :
       demo_within Status.Refused e = absurd e
       demo_within Status.Usage e = absurd e
       demo_within Status.ReadFault e = absurd e
-      demo_within Status.WriteFault e = (breaks e, rose_since before.faults middle.faults after.faults since e.rose)
+      demo_within Status.WriteFault e = (breaks e, rose_since before.sink.faults middle.sink.faults after.sink.faults since e.rose)
       demo_within Status.Memory e = lost e.put e.later e.finishes
       demo_within Status.TooMuch e = absurd e
 
@@ -242,11 +242,11 @@ module _ {W S R : Type 0} (text : R → List ℕ) (refuses : R → Bool) (cost :
     none_left = omega arith
 
     -- All commands were obeyed, and all that waited was put.
-    pub demo_ended : place ≡ documents + 6 → Appends middle.held after.held waiting → after.steps ≡ middle.steps → after.finishes ≡ middle.finishes → middle.faults ≤ after.faults
+    pub demo_ended : place ≡ documents + 6 → Appends middle.sink.held after.sink.held waiting → after.steps ≡ middle.steps → after.sink.finishes ≡ middle.sink.finishes → middle.sink.faults ≤ after.sink.faults
         → Continues text refuses cost (ObeysThrough Obeys Stands machine start (demo_commands documents)) false refused before after
     demo_ended last put paid still later = record {
       answers = so.answers;
-      put = moves_last (flat_map text so.answers) waiting before.held middle.held after.held so.put.put put;
+      put = moves_last (flat_map text so.answers) waiting before.sink.held middle.sink.held after.sink.held so.put.put put;
       refusals = so.put.refusals;
       steps = paid ∙ so.put.paid;
       finishes = still ∙ same;

@@ -56,7 +56,7 @@ module _ {R : Type 0} (text : R → List ℕ) (refuses : R → Bool) (cost : R �
     finishes_after : (status : Status) → Finishes text refuses cost WholeBehind r1 status middle after → Finishes text refuses cost Whole r0 status before after
     finishes_after status e = record {
       answers = c.answers ++ e.answers;
-      put = both_put c.answers e.answers before.held middle.held after.held c.put e.put;
+      put = both_put c.answers e.answers before.sink.held middle.sink.held after.sink.held c.put e.put;
       status_is = e.status_is ∙ both_refuse c.answers e.answers r0 r1 c.refusals;
       steps = both_paid c.answers e.answers before.steps middle.steps after.steps c.steps e.steps;
       settled = e.settled;
@@ -67,7 +67,7 @@ module _ {R : Type 0} (text : R → List ℕ) (refuses : R → Bool) (cost : R �
     cuts_after : (status : Status) → CutsShort text refuses cost (TakenBehind status) middle after → CutsShort text refuses cost (Taken status) before after
     cuts_after status e = record {
       answers = c.answers ++ e.answers;
-      put = both_put c.answers e.answers before.held middle.held after.held c.put e.put;
+      put = both_put c.answers e.answers before.sink.held middle.sink.held after.sink.held c.put e.put;
       steps = both_paid c.answers e.answers before.steps middle.steps after.steps c.steps e.steps;
       finishes = e.finishes ∙ c.finishes;
       lines = k status c.answers e.answers c.lines e.lines;
@@ -76,16 +76,16 @@ module _ {R : Type 0} (text : R → List ℕ) (refuses : R → Bool) (cost : R �
     breaks_after : BreaksOff text refuses cost FirstBehind middle after → BreaksOff text refuses cost First before after
     breaks_after e = record {
       answers = c.answers ++ e.answers;
-      put = both_front c.answers e.answers before.held middle.held after.held c.put e.put;
+      put = both_front c.answers e.answers before.sink.held middle.sink.held after.sink.held c.put e.put;
       steps = both_paid c.answers e.answers before.steps middle.steps after.steps c.steps e.steps;
-      finishes = elim e.finishes as (λ _. (after.finishes ≡ before.finishes) ⊎ (after.finishes ≡ counted before.finishes)) [ inl same ↦ inl (same ∙ c.finishes) | inr more ↦ inr (more ∙ ap counted c.finishes) ];
+      finishes = elim e.finishes as (λ _. (after.sink.finishes ≡ before.sink.finishes) ⊎ (after.sink.finishes ≡ counted before.sink.finishes)) [ inl same ↦ inl (same ∙ c.finishes) | inr more ↦ inr (more ∙ ap counted c.finishes) ];
       lines = f c.answers e.answers c.lines e.lines;
     }
 
     runs_out_after : RunsOut text refuses cost FirstBehind middle after → RunsOut text refuses cost First before after
     runs_out_after e = record {
       answers = c.answers ++ e.answers;
-      put = both_put c.answers e.answers before.held middle.held after.held c.put e.put;
+      put = both_put c.answers e.answers before.sink.held middle.sink.held after.sink.held c.put e.put;
       steps = omega (arith, c.steps, e.steps, sum_by-append cost c.answers e.answers);
       finishes = e.finishes ∙ c.finishes;
       lines = f c.answers e.answers c.lines e.lines;
@@ -97,7 +97,7 @@ module _ {R : Type 0} (text : R → List ℕ) (refuses : R → Bool) (cost : R �
     ended_after Status.Refused e = finishes_after Status.Refused e
     ended_after Status.Usage e = absurd e
     ended_after Status.ReadFault e = cuts_after Status.ReadFault e
-    ended_after Status.WriteFault e = (breaks_after e.0, rose_since before.faults middle.faults after.faults c.later e.1)
+    ended_after Status.WriteFault e = (breaks_after e.0, rose_since before.sink.faults middle.sink.faults after.sink.faults c.later e.1)
     ended_after Status.Memory e = runs_out_after e
     ended_after Status.TooMuch e = cuts_after Status.TooMuch e
 
@@ -114,11 +114,11 @@ module _ {Whole S R : Type 0} (text : R → List ℕ) (refuses : R → Bool) (co
   alone_put answer piece h0 h1 is put = subst (λ w. Appends h0 h1 w) (is ∙ sym (append-nil (text answer))) put
 
   -- It was not made.
-  pub closes_without : (before after : Output) → Keeps before.held after.held → after.finishes ≡ before.finishes → after.steps ≡ before.steps
+  pub closes_without : (before after : Output) → Keeps before.sink.held after.sink.held → after.sink.finishes ≡ before.sink.finishes → after.steps ≡ before.steps
       → RunsOut text refuses cost (ClosedOrNot Stands Closes now) before after
   closes_without before after held same steps = record {
     answers = [];
-    put = Appends-kept before.held before.held after.held [] (Appends-nil before.held) held;
+    put = Appends-kept before.sink.held before.sink.held after.sink.held [] (Appends-nil before.sink.held) held;
     steps = omega (arith, steps);
     finishes = same;
     lines = inl refl;
@@ -126,11 +126,11 @@ module _ {Whole S R : Type 0} (text : R → List ℕ) (refuses : R → Bool) (co
 
   -- It was put whole, and the sink settled.
   pub closes_whole : (answer : R) (piece : List ℕ) (status : Status) (before after : Output) (held : Option (List ℕ)) → ((s : S) → Stands now s → Closes s answer) → cost answer ≡ 0 → piece ≡ text answer
-      → Appends before.held held piece → Keeps held after.held → status ≡ (if refused || refuses answer then Status.Refused else Status.Done) → after.settled ≡ true → after.finishes ≡ counted before.finishes
+      → Appends before.sink.held held piece → Keeps held after.sink.held → status ≡ (if refused || refuses answer then Status.Refused else Status.Done) → after.sink.settled ≡ true → after.sink.finishes ≡ counted before.sink.finishes
       → after.steps ≡ before.steps → Finishes text refuses cost (ClosedBy Stands Closes now) refused status before after
   closes_whole answer piece status before after held closes free is put keeps status_is settled finishes steps = record {
     answers = answer ∷ [];
-    put = alone_put answer piece before.held after.held is (Appends-kept before.held held after.held piece put keeps);
+    put = alone_put answer piece before.sink.held after.sink.held is (Appends-kept before.sink.held held after.sink.held piece put keeps);
     status_is = status_is ∙ ap (λ b. if refused || b then Status.Refused else Status.Done) (sym (or-false (refuses answer)));
     steps = omega (arith, free, steps);
     settled = settled;
@@ -139,11 +139,11 @@ module _ {Whole S R : Type 0} (text : R → List ℕ) (refuses : R → Bool) (co
   }
 
   -- The sink failed.
-  pub closes_in_part : (answer : R) (piece : List ℕ) (before after : Output) → ((s : S) → Stands now s → Closes s answer) → cost answer ≡ 0 → piece ≡ text answer → AppendsPrefix before.held after.held piece
-      → (after.finishes ≡ before.finishes) ⊎ (after.finishes ≡ counted before.finishes) → after.steps ≡ before.steps → BreaksOff text refuses cost (ClosedOrNot Stands Closes now) before after
+  pub closes_in_part : (answer : R) (piece : List ℕ) (before after : Output) → ((s : S) → Stands now s → Closes s answer) → cost answer ≡ 0 → piece ≡ text answer → AppendsPrefix before.sink.held after.sink.held piece
+      → (after.sink.finishes ≡ before.sink.finishes) ⊎ (after.sink.finishes ≡ counted before.sink.finishes) → after.steps ≡ before.steps → BreaksOff text refuses cost (ClosedOrNot Stands Closes now) before after
   closes_in_part answer piece before after closes free is put finishes steps = record {
     answers = answer ∷ [];
-    put = puts_front text (answer ∷ []) before.held after.held (subst (λ w. AppendsPrefix before.held after.held w) (is ∙ sym (append-nil (text answer))) put);
+    put = puts_front text (answer ∷ []) before.sink.held after.sink.held (subst (λ w. AppendsPrefix before.sink.held after.sink.held w) (is ∙ sym (append-nil (text answer))) put);
     steps = omega (arith, free, steps);
     finishes = finishes;
     lines = inr (record { closing = answer; alone = refl; closes = closes });

@@ -9,7 +9,8 @@ use Rattle.sk_run.specs.declared.status.Status.{Status}
 use Rattle.sk_run.specs.Statuses.{IsFinished}
 use Rattle.sk_run.specs.Forms.{form_of}
 use Rattle.sk_run.specs.Responses.{text_under, is_refusal, steps_of}
-use Rattle.sk_run.specs.Outsides.{Seen, Outside}
+use Rattle.sk_io.specs.Seen.{Seen}
+use Rattle.sk_run.specs.Outsides.{Outside}
 use Rattle.sk_run.specs.Ends.{TakesAll, Stopped}
 use Rattle.sk_run.specs.Ended.{Ended}
 use Rattle.sk_run.specs.ByForm.{printing_of, WholeBy, TakenBy, FirstBy, Keeps}
@@ -46,7 +47,7 @@ module _ {S A : Type 0} (text : A → List ℕ) (refuses : A → Bool) (cost : A
   never_taken (Form.Search join) status before after answers input records (inr taken) = never_stopped status before.input after.input input taken.0
   never_taken (Form.Demo documents) status before after answers input records taken = taken
 
-  comes_to_its_end : (form : Form) (status : Status) (before after : Outside) → EndedBy form status before after → IsCalm before.input after.input → IsCalm before.records after.records → (Rose before.output.faults after.output.faults → ⊥)
+  comes_to_its_end : (form : Form) (status : Status) (before after : Outside) → EndedBy form status before after → IsCalm before.input after.input → IsCalm before.records after.records → (Rose before.output.sink.faults after.output.sink.faults → ⊥)
       → IsFinished status ⊎ (status ≡ Status.Memory)
   comes_to_its_end form Status.Done before after e input records sound = inl tt
   comes_to_its_end form Status.Refused before after e input records sound = inl tt

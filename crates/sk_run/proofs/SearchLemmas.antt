@@ -1,13 +1,12 @@
 -- The lines of the input behind those of the records.
 use Rattle.std.proofs.Common.{◌≡◌, ℕ, Bool, ◌⊎◌, inl, inr, List, ◌++◌, Option, refl}
 use Rattle.sk_run.specs.declared.status.Status.{Status}
-use Rattle.sk_run.specs.Outsides.{Seen, Output, WhereTold}
-use Rattle.sk_run.specs.Ends.{AnswersAll, AnswersTaken, AnswersFirst, AnswersSome, AnswersThrough, Stopped}
+use Rattle.sk_io.specs.Seen.{Seen}
+use Rattle.sk_run.specs.Outsides.{Output, WhereTold}
+use Rattle.sk_run.specs.Ends.{AnswersAll, AnswersTaken, AnswersFirst, AnswersSome, AnswersThrough, Stopped, FirstOf, TakenOf, ThroughOf, AllOf, SomeOf}
 use Rattle.sk_run.specs.Ended.{Continues, Ended, NotWhole}
 use Rattle.sk_run.specs.ByForm.{BehindRecords}
-use Rattle.sk_run.proofs.EndLemmas.{FirstOf, TakenOf, ThroughOf}
 use Rattle.sk_run.proofs.GoOnLemmas.{ended_after, ended_as}
-use Rattle.sk_run.proofs.LineEndLemmas.{AllOf, SomeOf, CutOf}
 
 module _ {W S R : Type 0} (Stands : W → S → Type 0) (Answers : S → List ℕ → R → S → Type 0) (first now : W) (start : S) (at : Stands first start) (records input : Seen) (left : Option (List ℕ)) (a b : List R)
     (through : WhereTold records (λ bytes. (s : S) → Stands first s → AnswersThrough Answers Stands now s bytes a left)) where
@@ -37,12 +36,12 @@ module _ {W S R : Type 0} (text : R → List ℕ) (refuses : R → Bool) (cost :
       ⊎ Behind (λ middle bytes others. AnswersSome Asked Closes middle bytes others input'.left) answers
 
   -- The records came to their end, and the input to its own.
-  pub searched : (now : W) (r0 r1 : Bool) (status : Status) (before middle after : Output) → Continues text refuses cost (ThroughOf text refuses cost Stands Commands first records records'.left now) r0 r1 before middle
-      → Ended text refuses cost (AllOf text refuses cost Stands Asked Closes now input input') (CutOf text refuses cost Stands Asked Closes now input input') (SomeOf text refuses cost Stands Asked Closes now input input') r1 status middle after
+  pub searched : (now : W) (r0 r1 : Bool) (status : Status) (before middle after : Output) → Continues text refuses cost (ThroughOf Stands Commands first records records'.left now) r0 r1 before middle
+      → Ended text refuses cost (AllOf Stands Asked Closes now input input'.left) (TakenOf Stands Asked now input input') (SomeOf Stands Asked Closes now input input'.left) r1 status middle after
       → Ended text refuses cost SearchedAll SearchedCut SearchedFirst r0 status before after
   searched now r0 r1 status before middle after c e =
-      ended_after text refuses cost (ThroughOf text refuses cost Stands Commands first records records'.left now) (AllOf text refuses cost Stands Asked Closes now input input') SearchedAll (SomeOf text refuses cost Stands Asked Closes now input input') SearchedFirst
-      (CutOf text refuses cost Stands Asked Closes now input input') SearchedCut
+      ended_after text refuses cost (ThroughOf Stands Commands first records records'.left now) (AllOf Stands Asked Closes now input input'.left) SearchedAll (SomeOf Stands Asked Closes now input input'.left) SearchedFirst
+      (TakenOf Stands Asked now input input') SearchedCut
       (λ a b t all. behind Stands Commands first now start at records input records'.left a b t (λ bytes middle others. AnswersAll Asked Closes middle bytes others input'.left) all)
       (λ st a b t taken. inr (taken.0, behind Stands Commands first now start at records input records'.left a b t (λ bytes middle others. AnswersTaken Asked middle bytes others input'.left) taken.1))
       (λ a b t some. inr (behind Stands Commands first now start at records input records'.left a b t (λ bytes middle others. AnswersSome Asked Closes middle bytes others input'.left) some))
@@ -50,8 +49,8 @@ module _ {W S R : Type 0} (text : R → List ℕ) (refuses : R → Bool) (cost :
 
   -- The records did not come to their end, and the input was not touched.
   pub not_searched : input' ≡ input → (r0 : Bool) (status : Status) (before after : Output)
-      → Ended text refuses cost NotWhole (TakenOf text refuses cost Stands Commands first records records') (FirstOf text refuses cost Stands Commands first records records'.left) r0 status before after
+      → Ended text refuses cost NotWhole (TakenOf Stands Commands first records records') (FirstOf Stands Commands first records records'.left) r0 status before after
       → Ended text refuses cost SearchedAll SearchedCut SearchedFirst r0 status before after
   not_searched same r0 status before after e =
-      ended_as text refuses cost NotWhole SearchedAll (FirstOf text refuses cost Stands Commands first records records'.left) SearchedFirst (TakenOf text refuses cost Stands Commands first records records') SearchedCut r0 status before after
+      ended_as text refuses cost NotWhole SearchedAll (FirstOf Stands Commands first records records'.left) SearchedFirst (TakenOf Stands Commands first records records') SearchedCut r0 status before after
       (λ a never. absurd never) (λ st a taken. inl (taken.0, same, λ lines told. taken.1 lines told start at)) (λ a come_first. inl (same, λ lines told. come_first lines told start at)) e

@@ -9,7 +9,8 @@ use Rattle.sk_run.specs.declared.status.Status.{Status}
 use Rattle.sk_run.specs.Statuses.{IsFinished}
 use Rattle.sk_run.specs.Forms.{form_of}
 use Rattle.sk_run.specs.Responses.{text_under, is_refusal, steps_of}
-use Rattle.sk_run.specs.Outsides.{Seen, Outside}
+use Rattle.sk_io.specs.Seen.{Seen}
+use Rattle.sk_run.specs.Outsides.{Outside}
 use Rattle.sk_run.specs.Ended.{Ended}
 use Rattle.sk_run.specs.ByForm.{printing_of, WholeBy, TakenBy, FirstBy, Keeps}
 
@@ -31,7 +32,7 @@ pub record Ran {S A : Type 0} (text : A → List ℕ) (refuses : A → Bool) (co
   -- What the form does not touch is as before.
   pub kept : (form : Form) → form_of words ≡ Some form → Keeps form before after
   -- Where memory is enough, both sources tell their bytes, which are not too many, and nothing fails, the run comes to its end.
-  pub complete : (form : Form) → form_of words ≡ Some form → IsCalm before.input after.input → IsCalm before.records after.records → (Rose before.output.faults after.output.faults → ⊥)
+  pub complete : (form : Form) → form_of words ≡ Some form → IsCalm before.input after.input → IsCalm before.records after.records → (Rose before.output.sink.faults after.output.sink.faults → ⊥)
       → IsFinished status ⊎ (status ≡ Status.Memory)
   -- The counter never falls.
   pub counts : before.output.steps ≤ after.output.steps

@@ -2,7 +2,7 @@
 ghost use Rattle.std.specs.Prelude.{◌≡◌, IfOk, IfErr, Some};
 ghost use Rattle.sk_io.specs.Answers.{IsShort};
 ghost use Rattle.sk_run.specs.Responses.{text_under, is_refusal, steps_of};
-ghost use Rattle.sk_run.specs.Outsides.{Output};
+ghost use Rattle.sk_run.specs.Outsides.{output_at};
 ghost use Rattle.sk_run.specs.Lines.{AnsweredLine};
 ghost use Rattle.sk_run.specs.Machines.{IsAt, schema_in};
 ghost use Rattle.sk_run.specs.Output.{AnswersAs};
@@ -32,12 +32,12 @@ pub(crate) fn answer_line<M: Store, K: Sink, L: Ledger>(
     requires { IsShort (Some line) }
     ensures ok { IfOk result (λ p. Joins (text_under printing M.Answer.text) (is_refusal M.Answer.refuses) (steps_of M.Answer.steps)
         (λ answer. AnsweredLine (IsAt M.fields M.holds) (AnswersAs M.begun M.does reading) machine line.entry answer p.0) waiting.old waiting.new p.1
-        (record { held = K.held output.old; faults = K.faults output.old; settled = K.settled output.old; finishes = K.finishes output.old; steps = steps.old })
-        (record { held = K.held output.new; faults = K.faults output.new; settled = K.settled output.new; finishes = K.finishes output.new; steps = steps.new })) }
+        (output_at (K.seen output.old) steps.old)
+        (output_at (K.seen output.new) steps.new)) }
     ensures err { IfErr result (λ status. JoinsNot (text_under printing M.Answer.text) (is_refusal M.Answer.refuses) (steps_of M.Answer.steps)
         (λ answer. (next : Machine M) × AnsweredLine (IsAt M.fields M.holds) (AnswersAs M.begun M.does reading) machine line.entry answer next) waiting.old status
-        (record { held = K.held output.old; faults = K.faults output.old; settled = K.settled output.old; finishes = K.finishes output.old; steps = steps.old })
-        (record { held = K.held output.new; faults = K.faults output.new; settled = K.settled output.new; finishes = K.finishes output.new; steps = steps.new })) }
+        (output_at (K.seen output.old) steps.old)
+        (output_at (K.seen output.new) steps.new)) }
 {
     let Ok(heard) = hear(alloc, machine.schema(), reading, line) else {
         return Err(waiting.put_last(output));
@@ -59,13 +59,13 @@ pub(crate) fn answer_heard<M: Store, K: Sink, L: Ledger>(
     requires { MayFollow (schema_in M.fields machine) heard }
     ensures ok { IfOk result (λ p. Joins (text_under printing M.Answer.text) (is_refusal M.Answer.refuses) (steps_of M.Answer.steps)
         (λ answer. Heeded M.fields M.holds M.begun M.does machine heard answer p.0) waiting.old waiting.new p.1
-        (record { held = K.held output.old; faults = K.faults output.old; settled = K.settled output.old; finishes = K.finishes output.old; steps = steps.old })
-        (record { held = K.held output.new; faults = K.faults output.new; settled = K.settled output.new; finishes = K.finishes output.new; steps = steps.new })) }
+        (output_at (K.seen output.old) steps.old)
+        (output_at (K.seen output.new) steps.new)) }
     ensures schema { IfOk result (λ p. schema_in M.fields p.0 ≡ schema_after (schema_in M.fields machine) heard) }
     ensures err { IfErr result (λ status. JoinsNot (text_under printing M.Answer.text) (is_refusal M.Answer.refuses) (steps_of M.Answer.steps)
         (λ answer. (next : Machine M) × Heeded M.fields M.holds M.begun M.does machine heard answer next) waiting.old status
-        (record { held = K.held output.old; faults = K.faults output.old; settled = K.settled output.old; finishes = K.finishes output.old; steps = steps.old })
-        (record { held = K.held output.new; faults = K.faults output.new; settled = K.settled output.new; finishes = K.finishes output.new; steps = steps.new })) }
+        (output_at (K.seen output.old) steps.old)
+        (output_at (K.seen output.new) steps.new)) }
 {
     let stays = !heard.may_read();
     let Ok(()) = waiting.put_unless(stays, output) else {

@@ -5,7 +5,7 @@ ghost use Rattle.sk_run.specs.declared.response.Printing.TheVariants as Printing
 ghost use Rattle.sk_run.specs.declared.response.Response.{Response};
 ghost use Rattle.sk_run.specs.declared.status.Status.{Status};
 ghost use Rattle.sk_run.specs.Responses.{text_under, is_refusal, steps_of};
-ghost use Rattle.sk_run.specs.Outsides.{Output};
+ghost use Rattle.sk_run.specs.Outsides.{output_at};
 ghost use Rattle.sk_run.specs.Machines.{IsAt};
 ghost use Rattle.sk_run.specs.Output.{State, Obeys};
 ghost use Rattle.sk_run.specs.Ended.{Ended, Continues, NotWhole};
@@ -44,12 +44,12 @@ pub(crate) fn obey_demo<M: Store, K: Sink, L: Ledger>(
     requires { documents < 2 ^ 32 }
     ensures ok { IfOk result (λ p. Continues (text_under Printing.WithoutOk M.Answer.text) (is_refusal M.Answer.refuses) (steps_of M.Answer.steps)
         (ObeysThrough (Obeys M.begun M.does) (IsAt M.fields M.holds) p.0 None (demo_commands documents)) false p.1
-        (record { held = K.held output.old; faults = K.faults output.old; settled = K.settled output.old; finishes = K.finishes output.old; steps = steps.old })
-        (record { held = K.held output.new; faults = K.faults output.new; settled = K.settled output.new; finishes = K.finishes output.new; steps = steps.new })) }
+        (output_at (K.seen output.old) steps.old)
+        (output_at (K.seen output.new) steps.new)) }
     ensures err { IfErr result (λ status. Ended (text_under Printing.WithoutOk M.Answer.text) (is_refusal M.Answer.refuses) (steps_of M.Answer.steps)
         NotWhole NeverTaken (ObeysFirst (Obeys M.begun M.does) None (demo_commands documents)) false status
-        (record { held = K.held output.old; faults = K.faults output.old; settled = K.settled output.old; finishes = K.finishes output.old; steps = steps.old })
-        (record { held = K.held output.new; faults = K.faults output.new; settled = K.settled output.new; finishes = K.finishes output.new; steps = steps.new })) }
+        (output_at (K.seen output.old) steps.old)
+        (output_at (K.seen output.new) steps.new)) }
 {
     let Ok(mut waiting) = Waiting::new(alloc) else {
         return Err(Status::Memory);

@@ -8,7 +8,7 @@ ghost use Rattle.sk_run.specs.declared.response.Response.{Response};
 ghost use Rattle.sk_run.specs.declared.status.Status.{Status};
 ghost use Rattle.sk_run.specs.declared.status.Status.TheVariants as Status;
 ghost use Rattle.sk_run.specs.Responses.{text_under, is_refusal, steps_of};
-ghost use Rattle.sk_run.specs.Outsides.{Seen, Output, Outside};
+ghost use Rattle.sk_run.specs.Outsides.{output_at, outside_at};
 ghost use Rattle.sk_run.specs.Ended.{Ended};
 ghost use Rattle.sk_run.specs.ByForm.{WholeBy, TakenBy, FirstBy};
 ghost use Rattle.sk_run.specs.Output.{Obeys, Closes};
@@ -38,8 +38,8 @@ pub fn run<M: Store, S: Source, R: Source, K: Sink, L: Ledger>(
     steps: &mut Steps<L>,
 ) -> Status
     ensures ran { Ran M.Answer.text M.Answer.refuses M.Answer.steps M.begun M.does M.closes (map string_bytes words.now) result
-        (record { input = record { left = S.left input.old; faults = S.faults input.old }; records = record { left = R.left records.old; faults = R.faults records.old }; output = record { held = K.held output.old; faults = K.faults output.old; settled = K.settled output.old; finishes = K.finishes output.old; steps = steps.old } })
-        (record { input = record { left = S.left input.new; faults = S.faults input.new }; records = record { left = R.left records.new; faults = R.faults records.new }; output = record { held = K.held output.new; faults = K.faults output.new; settled = K.settled output.new; finishes = K.finishes output.new; steps = steps.new } }) }
+        (outside_at (S.seen input.old) (R.seen records.old) (K.seen output.old) steps.old)
+        (outside_at (S.seen input.new) (R.seen records.new) (K.seen output.new) steps.new) }
     ensures untouched { result ≡ Status.Usage → (input.new ≡ input.old) × (records.new ≡ records.old) × (output.new ≡ output.old) }
 {
     match form_of(words) {
@@ -77,17 +77,17 @@ fn search<M: Store, S: Source, R: Source, K: Sink, L: Ledger>(
 ) -> Status
     ensures { Ended (text_under Printing.WithoutOk M.Answer.text) (is_refusal M.Answer.refuses) (steps_of M.Answer.steps)
         (WholeBy M.begun M.does M.closes (Form.Search join)
-        (record { input = record { left = S.left input.old; faults = S.faults input.old }; records = record { left = R.left records.old; faults = R.faults records.old }; output = record { held = K.held output.old; faults = K.faults output.old; settled = K.settled output.old; finishes = K.finishes output.old; steps = steps.old } })
-        (record { input = record { left = S.left input.new; faults = S.faults input.new }; records = record { left = R.left records.new; faults = R.faults records.new }; output = record { held = K.held output.new; faults = K.faults output.new; settled = K.settled output.new; finishes = K.finishes output.new; steps = steps.new } }))
+        (outside_at (S.seen input.old) (R.seen records.old) (K.seen output.old) steps.old)
+        (outside_at (S.seen input.new) (R.seen records.new) (K.seen output.new) steps.new))
         (TakenBy M.begun M.does M.closes (Form.Search join)
-        (record { input = record { left = S.left input.old; faults = S.faults input.old }; records = record { left = R.left records.old; faults = R.faults records.old }; output = record { held = K.held output.old; faults = K.faults output.old; settled = K.settled output.old; finishes = K.finishes output.old; steps = steps.old } })
-        (record { input = record { left = S.left input.new; faults = S.faults input.new }; records = record { left = R.left records.new; faults = R.faults records.new }; output = record { held = K.held output.new; faults = K.faults output.new; settled = K.settled output.new; finishes = K.finishes output.new; steps = steps.new } }))
+        (outside_at (S.seen input.old) (R.seen records.old) (K.seen output.old) steps.old)
+        (outside_at (S.seen input.new) (R.seen records.new) (K.seen output.new) steps.new))
         (FirstBy M.begun M.does M.closes (Form.Search join)
-        (record { input = record { left = S.left input.old; faults = S.faults input.old }; records = record { left = R.left records.old; faults = R.faults records.old }; output = record { held = K.held output.old; faults = K.faults output.old; settled = K.settled output.old; finishes = K.finishes output.old; steps = steps.old } })
-        (record { input = record { left = S.left input.new; faults = S.faults input.new }; records = record { left = R.left records.new; faults = R.faults records.new }; output = record { held = K.held output.new; faults = K.faults output.new; settled = K.settled output.new; finishes = K.finishes output.new; steps = steps.new } }))
+        (outside_at (S.seen input.old) (R.seen records.old) (K.seen output.old) steps.old)
+        (outside_at (S.seen input.new) (R.seen records.new) (K.seen output.new) steps.new))
         false result
-        (record { held = K.held output.old; faults = K.faults output.old; settled = K.settled output.old; finishes = K.finishes output.old; steps = steps.old })
-        (record { held = K.held output.new; faults = K.faults output.new; settled = K.settled output.new; finishes = K.finishes output.new; steps = steps.new }) }
+        (output_at (K.seen output.old) steps.old)
+        (output_at (K.seen output.new) steps.new) }
 {
     let first = Machine::<M>::new();
     match answer_lines(
@@ -124,8 +124,8 @@ fn demonstrate<M: Store, K: Sink, L: Ledger>(
     requires { documents < 2 ^ 32 }
     ensures { Ended (text_under Printing.WithoutOk M.Answer.text) (is_refusal M.Answer.refuses) (steps_of M.Answer.steps)
         (ObeysAll (Obeys M.begun M.does) (Closes M.closes) None (demo_commands documents)) NeverTaken (ObeysSome (Obeys M.begun M.does) (Closes M.closes) None (demo_commands documents)) false result
-        (record { held = K.held output.old; faults = K.faults output.old; settled = K.settled output.old; finishes = K.finishes output.old; steps = steps.old })
-        (record { held = K.held output.new; faults = K.faults output.new; settled = K.settled output.new; finishes = K.finishes output.new; steps = steps.new }) }
+        (output_at (K.seen output.old) steps.old)
+        (output_at (K.seen output.new) steps.new) }
 {
     match obey_demo::<M, _, _>(alloc, documents, output, steps) {
         Ok((machine, refused)) => close(alloc, machine, Printing::WithoutOk, refused, output),

@@ -1,12 +1,12 @@
 //! The run over the lines of a source.
-ghost use Rattle.std.specs.Prelude.{◌≡◌, ℕ, List, IfOk, IfErr};
+ghost use Rattle.std.specs.Prelude.{ℕ, IfOk, IfErr};
 ghost use Rattle.sk_run.specs.declared.status.Status.{Status};
 ghost use Rattle.sk_run.specs.declared.response.Response.{Response};
 ghost use Rattle.sk_run.specs.Responses.{text_under, is_refusal, steps_of};
-ghost use Rattle.sk_run.specs.Outsides.{Seen, Output, WhereTold};
+ghost use Rattle.sk_run.specs.Outsides.{output_at};
 ghost use Rattle.sk_run.specs.Machines.{IsAt};
-ghost use Rattle.sk_run.specs.Output.{State, AnswersAs, Closes};
-ghost use Rattle.sk_run.specs.Ends.{Stopped, AnswersAll, AnswersTaken, AnswersFirst, AnswersSome, AnswersThrough};
+ghost use Rattle.sk_run.specs.Output.{AnswersAs, Closes};
+ghost use Rattle.sk_run.specs.Ends.{FirstOf, TakenOf, ThroughOf, AllOf, SomeOf};
 ghost use Rattle.sk_run.specs.Ended.{Ended, Continues, NotWhole};
 ghost use Rattle.sk_run.specs.Closing.{ClosedBy, ClosedOrNot, NeverTaken};
 
@@ -34,16 +34,12 @@ pub(crate) fn answer_to_end<M: Store, S: Source, K: Sink, L: Ledger>(
     steps: &mut Steps<L>,
 ) -> Status
     ensures { Ended (text_under printing M.Answer.text) (is_refusal M.Answer.refuses) (steps_of M.Answer.steps)
-        (λ answers. WhereTold (record { left = S.left input.old; faults = S.faults input.old }) (λ bytes. (s : State M.State) → IsAt M.fields M.holds first s
-        → AnswersAll (AnswersAs M.begun M.does reading) (Closes M.closes) s bytes answers (S.left input.new)))
-        (λ status answers. Stopped status (record { left = S.left input.old; faults = S.faults input.old }) (record { left = S.left input.new; faults = S.faults input.new })
-        × WhereTold (record { left = S.left input.old; faults = S.faults input.old }) (λ bytes. (s : State M.State) → IsAt M.fields M.holds first s
-        → AnswersTaken (AnswersAs M.begun M.does reading) s bytes answers (S.left input.new)))
-        (λ answers. WhereTold (record { left = S.left input.old; faults = S.faults input.old }) (λ bytes. (s : State M.State) → IsAt M.fields M.holds first s
-        → AnswersSome (AnswersAs M.begun M.does reading) (Closes M.closes) s bytes answers (S.left input.new)))
+        (AllOf (IsAt M.fields M.holds) (AnswersAs M.begun M.does reading) (Closes M.closes) first (S.seen input.old) (S.seen input.new).left)
+        (TakenOf (IsAt M.fields M.holds) (AnswersAs M.begun M.does reading) first (S.seen input.old) (S.seen input.new))
+        (SomeOf (IsAt M.fields M.holds) (AnswersAs M.begun M.does reading) (Closes M.closes) first (S.seen input.old) (S.seen input.new).left)
         refused result
-        (record { held = K.held output.old; faults = K.faults output.old; settled = K.settled output.old; finishes = K.finishes output.old; steps = steps.old })
-        (record { held = K.held output.new; faults = K.faults output.new; settled = K.settled output.new; finishes = K.finishes output.new; steps = steps.new }) }
+        (output_at (K.seen output.old) steps.old)
+        (output_at (K.seen output.new) steps.new) }
 {
     match answer_lines(
         alloc, first, reading, printing, refused, input, output, steps,
@@ -67,21 +63,17 @@ pub(crate) fn answer_lines<M: Store, S: Source, K: Sink, L: Ledger>(
     steps: &mut Steps<L>,
 ) -> Result<(Machine<M>, bool), Status>
     ensures ok { IfOk result (λ p. Continues (text_under printing M.Answer.text) (is_refusal M.Answer.refuses) (steps_of M.Answer.steps)
-        (λ answers. WhereTold (record { left = S.left input.old; faults = S.faults input.old }) (λ bytes. (s : State M.State) → IsAt M.fields M.holds first s
-        → AnswersThrough (AnswersAs M.begun M.does reading) (IsAt M.fields M.holds) p.0 s bytes answers (S.left input.new)))
+        (ThroughOf (IsAt M.fields M.holds) (AnswersAs M.begun M.does reading) first (S.seen input.old) (S.seen input.new).left p.0)
         refused_before p.1
-        (record { held = K.held output.old; faults = K.faults output.old; settled = K.settled output.old; finishes = K.finishes output.old; steps = steps.old })
-        (record { held = K.held output.new; faults = K.faults output.new; settled = K.settled output.new; finishes = K.finishes output.new; steps = steps.new })) }
+        (output_at (K.seen output.old) steps.old)
+        (output_at (K.seen output.new) steps.new)) }
     ensures err { IfErr result (λ status. Ended (text_under printing M.Answer.text) (is_refusal M.Answer.refuses) (steps_of M.Answer.steps)
         NotWhole
-        (λ status answers. Stopped status (record { left = S.left input.old; faults = S.faults input.old }) (record { left = S.left input.new; faults = S.faults input.new })
-        × WhereTold (record { left = S.left input.old; faults = S.faults input.old }) (λ bytes. (s : State M.State) → IsAt M.fields M.holds first s
-        → AnswersTaken (AnswersAs M.begun M.does reading) s bytes answers (S.left input.new)))
-        (λ answers. WhereTold (record { left = S.left input.old; faults = S.faults input.old }) (λ bytes. (s : State M.State) → IsAt M.fields M.holds first s
-        → AnswersFirst (AnswersAs M.begun M.does reading) s bytes answers (S.left input.new)))
+        (TakenOf (IsAt M.fields M.holds) (AnswersAs M.begun M.does reading) first (S.seen input.old) (S.seen input.new))
+        (FirstOf (IsAt M.fields M.holds) (AnswersAs M.begun M.does reading) first (S.seen input.old) (S.seen input.new).left)
         refused_before status
-        (record { held = K.held output.old; faults = K.faults output.old; settled = K.settled output.old; finishes = K.finishes output.old; steps = steps.old })
-        (record { held = K.held output.new; faults = K.faults output.new; settled = K.settled output.new; finishes = K.finishes output.new; steps = steps.new })) }
+        (output_at (K.seen output.old) steps.old)
+        (output_at (K.seen output.new) steps.new)) }
 {
     let Ok(mut lines) = Lines::new(alloc, LIMIT) else {
         return Err(Status::Memory);
@@ -126,8 +118,8 @@ pub(crate) fn close<M: Store, K: Sink>(
 ) -> Status
     ensures { (count : ℕ) → Ended (text_under printing M.Answer.text) (is_refusal M.Answer.refuses) (steps_of M.Answer.steps)
         (ClosedBy (IsAt M.fields M.holds) (Closes M.closes) machine) NeverTaken (ClosedOrNot (IsAt M.fields M.holds) (Closes M.closes) machine) refused result
-        (record { held = K.held output.old; faults = K.faults output.old; settled = K.settled output.old; finishes = K.finishes output.old; steps = count })
-        (record { held = K.held output.new; faults = K.faults output.new; settled = K.settled output.new; finishes = K.finishes output.new; steps = count }) }
+        (output_at (K.seen output.old) count)
+        (output_at (K.seen output.new) count) }
 {
     let Ok(answer) = machine.close(alloc) else {
         return Status::Memory;

@@ -1,4 +1,5 @@
 use Rattle.std.proofs.Common.{not, refl, sym, ap, ◌∙◌}
+use Rattle.sk_run.specs.Outsides.{output_at}
 use Rattle.sk_run.specs.declared.machine.Machine.{Machine}
 use Rattle.sk_run.specs.Responses.{text_under, is_refusal, steps_of}
 use Rattle.sk_run.specs.Heard.{Heeded}
@@ -13,38 +14,38 @@ returns-in_default-clause-err g c =
 pub returns-in_default-follow-clause-err : goal.returns-in_default-follow-clause-err
 returns-in_default-follow-clause-err g c =
     lacks_answer (text_under c.args.printing g.M.Answer.Printed.text) (is_refusal g.M.Answer.Printed.refuses) (steps_of g.M.Answer.Printed.steps)
-    (λ answer. (next : Machine g.row.M.Denot) × Heeded g.M.Store.fields g.M.Store.holds g.M.Store.begun g.M.Store.does c.args.machine c.args.heard answer next) _ _ (record { held = g.K.Sink.held c.args.output.now; faults = g.K.Sink.faults c.args.output.now; settled = g.K.Sink.settled c.args.output.now; finishes = g.K.Sink.finishes c.args.output.now; steps = c.args.steps.now })
-    (record { held = g.K.Sink.held c.put_unless.new.output; faults = g.K.Sink.faults c.put_unless.new.output; settled = g.K.Sink.settled c.put_unless.new.output; finishes = g.K.Sink.finishes c.put_unless.new.output; steps = c.follow.new.steps })
+    (λ answer. (next : Machine g.row.M.Denot) × Heeded g.M.Store.fields g.M.Store.holds g.M.Store.begun g.M.Store.does c.args.machine c.args.heard answer next) _ _ (output_at (g.K.Sink.seen c.args.output.now) c.args.steps.now)
+    (output_at (g.K.Sink.seen c.put_unless.new.output) c.follow.new.steps)
     c.in-Ok.ensures.ok c.put_unless.ensures.finishes c.put_unless.ensures.cause.later c.may_read-stays.result c.put_last.result
-    (record { held = g.K.Sink.held c.put_last.new.output; faults = g.K.Sink.faults c.put_last.new.output; settled = g.K.Sink.settled c.put_last.new.output; finishes = g.K.Sink.finishes c.put_last.new.output; steps = c.follow.new.steps })
+    (output_at (g.K.Sink.seen c.put_last.new.output) c.follow.new.steps)
     (λ e. c.in-Ok.ensures.empty (ap not e)) (λ e. c.in_default-follow.ensures.still (sym c.may_read-stays.ensures ∙ e)) c.put_last.ensures.none c.follow.ensures.later
     (c.put_last.ensures.last c.follow.new.steps)
 
 pub returns-in_default-into_text_under-clause-err : goal.returns-in_default-into_text_under-clause-err
 returns-in_default-into_text_under-clause-err g c =
     lacks_text (text_under c.args.printing g.M.Answer.Printed.text) (is_refusal g.M.Answer.Printed.refuses) (steps_of g.M.Answer.Printed.steps)
-    (λ answer. (next : Machine g.row.M.Denot) × Heeded g.M.Store.fields g.M.Store.holds g.M.Store.begun g.M.Store.does c.args.machine c.args.heard answer next) _ _ (record { held = g.K.Sink.held c.args.output.now; faults = g.K.Sink.faults c.args.output.now; settled = g.K.Sink.settled c.args.output.now; finishes = g.K.Sink.finishes c.args.output.now; steps = c.args.steps.now })
-    (record { held = g.K.Sink.held c.put_unless.new.output; faults = g.K.Sink.faults c.put_unless.new.output; settled = g.K.Sink.settled c.put_unless.new.output; finishes = g.K.Sink.finishes c.put_unless.new.output; steps = c.follow.new.steps })
+    (λ answer. (next : Machine g.row.M.Denot) × Heeded g.M.Store.fields g.M.Store.holds g.M.Store.begun g.M.Store.does c.args.machine c.args.heard answer next) _ _ (output_at (g.K.Sink.seen c.args.output.now) c.args.steps.now)
+    (output_at (g.K.Sink.seen c.put_unless.new.output) c.follow.new.steps)
     c.in-Ok.ensures.ok c.put_unless.ensures.finishes c.put_unless.ensures.cause.later c.put_last-in_default-into_text_under.result
-    (record { held = g.K.Sink.held c.put_last-in_default-into_text_under.new.output; faults = g.K.Sink.faults c.put_last-in_default-into_text_under.new.output; settled = g.K.Sink.settled c.put_last-in_default-into_text_under.new.output; finishes = g.K.Sink.finishes c.put_last-in_default-into_text_under.new.output; steps = c.follow.new.steps })
+    (output_at (g.K.Sink.seen c.put_last-in_default-into_text_under.new.output) c.follow.new.steps)
     c.in-Ok-follow.answer (c.in-Ok-follow.next, c.in-Ok-follow.ensures.heeded) c.in-Ok-follow.ensures.cost (c.put_last-in_default-into_text_under.ensures.last c.follow.new.steps)
 
 pub returns-in_default-join-clause-err : goal.returns-in_default-join-clause-err
 returns-in_default-join-clause-err g c =
     fails_joined (text_under c.args.printing g.M.Answer.Printed.text) (is_refusal g.M.Answer.Printed.refuses) (steps_of g.M.Answer.Printed.steps)
-    (λ answer. (next : Machine g.row.M.Denot) × Heeded g.M.Store.fields g.M.Store.holds g.M.Store.begun g.M.Store.does c.args.machine c.args.heard answer next) _ _ (record { held = g.K.Sink.held c.args.output.now; faults = g.K.Sink.faults c.args.output.now; settled = g.K.Sink.settled c.args.output.now; finishes = g.K.Sink.finishes c.args.output.now; steps = c.args.steps.now })
-    (record { held = g.K.Sink.held c.put_unless.new.output; faults = g.K.Sink.faults c.put_unless.new.output; settled = g.K.Sink.settled c.put_unless.new.output; finishes = g.K.Sink.finishes c.put_unless.new.output; steps = c.args.steps.now })
+    (λ answer. (next : Machine g.row.M.Denot) × Heeded g.M.Store.fields g.M.Store.holds g.M.Store.begun g.M.Store.does c.args.machine c.args.heard answer next) _ _ (output_at (g.K.Sink.seen c.args.output.now) c.args.steps.now)
+    (output_at (g.K.Sink.seen c.put_unless.new.output) c.args.steps.now)
     c.in-Ok.ensures.ok c.put_unless.ensures.finishes c.put_unless.ensures.cause.later
-    (record { held = g.K.Sink.held c.join.new.output; faults = g.K.Sink.faults c.join.new.output; settled = g.K.Sink.settled c.join.new.output; finishes = g.K.Sink.finishes c.join.new.output; steps = c.follow.new.steps })
+    (output_at (g.K.Sink.seen c.join.new.output) c.follow.new.steps)
     c.in-Ok-follow.answer _ (c.in-Ok-follow.next, c.in-Ok-follow.ensures.heeded) (c.as_bytes.ensures.value ∙ c.in-Ok-into_text_under.ensures) c.in_default-join.ensures.err c.in-Ok-follow.ensures.cost c.join.ensures.finishes
     (c.in_default-join.ensures.cause.failed refl)
 
 pub returns-clause-ok : goal.returns-clause-ok
 returns-clause-ok g c =
     joined (text_under c.args.printing g.M.Answer.Printed.text) (is_refusal g.M.Answer.Printed.refuses) (steps_of g.M.Answer.Printed.steps)
-    (λ answer. Heeded g.M.Store.fields g.M.Store.holds g.M.Store.begun g.M.Store.does c.args.machine c.args.heard answer c.in-Ok-follow.next) _ _ (record { held = g.K.Sink.held c.args.output.now; faults = g.K.Sink.faults c.args.output.now; settled = g.K.Sink.settled c.args.output.now; finishes = g.K.Sink.finishes c.args.output.now; steps = c.args.steps.now })
-    (record { held = g.K.Sink.held c.put_unless.new.output; faults = g.K.Sink.faults c.put_unless.new.output; settled = g.K.Sink.settled c.put_unless.new.output; finishes = g.K.Sink.finishes c.put_unless.new.output; steps = c.args.steps.now })
+    (λ answer. Heeded g.M.Store.fields g.M.Store.holds g.M.Store.begun g.M.Store.does c.args.machine c.args.heard answer c.in-Ok-follow.next) _ _ (output_at (g.K.Sink.seen c.args.output.now) c.args.steps.now)
+    (output_at (g.K.Sink.seen c.put_unless.new.output) c.args.steps.now)
     c.in-Ok.ensures.ok c.put_unless.ensures.finishes c.put_unless.ensures.cause.later
-    (record { held = g.K.Sink.held c.join.new.output; faults = g.K.Sink.faults c.join.new.output; settled = g.K.Sink.settled c.join.new.output; finishes = g.K.Sink.finishes c.join.new.output; steps = c.follow.new.steps })
+    (output_at (g.K.Sink.seen c.join.new.output) c.follow.new.steps)
     _ c.in-Ok-follow.answer c.refuses-refuses.result _ c.in-Ok-follow.ensures.heeded (c.as_bytes.ensures.value ∙ c.in-Ok-into_text_under.ensures) c.refuses-refuses.ensures c.in-Ok-join.ensures.ok c.in-Ok-follow.ensures.cost c.join.ensures.finishes
     c.join.ensures.cause.later

@@ -3,6 +3,7 @@ use Rattle.std.proofs.lemmas.Result.{err_from_is_err_and}
 use Rattle.sk_base.specs.declared.command.Command.{Command}
 use Rattle.sk_base.specs.declared.schema.Field.{Field}
 use Rattle.sk_record.specs.Outcome.{MayCome}
+use Rattle.sk_run.specs.Outsides.{output_at}
 use Rattle.sk_run.specs.declared.response.Printing.TheVariants as Printing
 use Rattle.sk_run.specs.Responses.{text_under, is_refusal, steps_of}
 use Rattle.sk_run.specs.Machines.{IsAt, schema_behind}
@@ -39,17 +40,17 @@ commands-preserved g c =
       finishes = joins.finishes ∙ so.finishes;
       so_far =
           demo_more (text_under Printing.WithoutOk g.M.Answer.Printed.text) (is_refusal g.M.Answer.Printed.refuses) (steps_of g.M.Answer.Printed.steps) (IsAt g.M.Store.fields g.M.Store.holds) (Obeys g.M.Store.begun g.M.Store.does) None c.args.documents _ _ c.commands.place c.commands.waiting _ c.commands.machine c.in_ok-next.next c.commands.refused c.in_ok-next.refuses
-          (record { held = g.K.Sink.held c.commands.output; faults = g.K.Sink.faults c.commands.output; settled = g.K.Sink.settled c.commands.output; finishes = g.K.Sink.finishes c.commands.output; steps = c.commands.steps })
-          (record { held = g.K.Sink.held c.answer_heard.new.output; faults = g.K.Sink.faults c.answer_heard.new.output; settled = g.K.Sink.settled c.answer_heard.new.output; finishes = g.K.Sink.finishes c.answer_heard.new.output; steps = c.answer_heard.new.steps })
+          (output_at (g.K.Sink.seen c.commands.output) c.commands.steps)
+          (output_at (g.K.Sink.seen c.answer_heard.new.output) c.answer_heard.new.steps)
           c.in-Ok-demo_command.command c.commands-test.true so.so_far c.in-Ok-demo_command.ensures joins;
     }
 
 pub returns-in_default-demo_command-clause-err : goal.returns-in_default-demo_command-clause-err
 returns-in_default-demo_command-clause-err g c =
     let so = c.commands.invariant in
-    demo_last (text_under Printing.WithoutOk g.M.Answer.Printed.text) (is_refusal g.M.Answer.Printed.refuses) (steps_of g.M.Answer.Printed.steps) (IsAt g.M.Store.fields g.M.Store.holds) (Obeys g.M.Store.begun g.M.Store.does) None c.args.documents c.commands.place c.commands.waiting c.commands.machine c.commands.refused (record { held = g.K.Sink.held c.args.output.now; faults = g.K.Sink.faults c.args.output.now; settled = g.K.Sink.settled c.args.output.now; finishes = g.K.Sink.finishes c.args.output.now; steps = c.args.steps.now })
-    (record { held = g.K.Sink.held c.commands.output; faults = g.K.Sink.faults c.commands.output; settled = g.K.Sink.settled c.commands.output; finishes = g.K.Sink.finishes c.commands.output; steps = c.commands.steps })
-    (record { held = g.K.Sink.held c.put_last.new.output; faults = g.K.Sink.faults c.put_last.new.output; settled = g.K.Sink.settled c.put_last.new.output; finishes = g.K.Sink.finishes c.put_last.new.output; steps = c.commands.steps })
+    demo_last (text_under Printing.WithoutOk g.M.Answer.Printed.text) (is_refusal g.M.Answer.Printed.refuses) (steps_of g.M.Answer.Printed.steps) (IsAt g.M.Store.fields g.M.Store.holds) (Obeys g.M.Store.begun g.M.Store.does) None c.args.documents c.commands.place c.commands.waiting c.commands.machine c.commands.refused (output_at (g.K.Sink.seen c.args.output.now) c.args.steps.now)
+    (output_at (g.K.Sink.seen c.commands.output) c.commands.steps)
+    (output_at (g.K.Sink.seen c.put_last.new.output) c.commands.steps)
     so.so_far so.finishes so.write_later
     c.put_last.result (c.put_last.ensures.last c.commands.steps) refl
 
@@ -58,26 +59,26 @@ returns-in_err-next-clause-err g c =
     let so = c.commands.invariant in
     let p = err_from_is_err_and c.from_residual.result c.from_residual.ensures.1 in
     rw (p.1, p.2)
-    (demo_within (text_under Printing.WithoutOk g.M.Answer.Printed.text) (is_refusal g.M.Answer.Printed.refuses) (steps_of g.M.Answer.Printed.steps) (IsAt g.M.Store.fields g.M.Store.holds) (Obeys g.M.Store.begun g.M.Store.does) None c.args.documents c.commands.place c.commands.waiting c.commands.machine c.commands.refused (record { held = g.K.Sink.held c.args.output.now; faults = g.K.Sink.faults c.args.output.now; settled = g.K.Sink.settled c.args.output.now; finishes = g.K.Sink.finishes c.args.output.now; steps = c.args.steps.now })
-    (record { held = g.K.Sink.held c.commands.output; faults = g.K.Sink.faults c.commands.output; settled = g.K.Sink.settled c.commands.output; finishes = g.K.Sink.finishes c.commands.output; steps = c.commands.steps })
-    (record { held = g.K.Sink.held c.answer_heard.new.output; faults = g.K.Sink.faults c.answer_heard.new.output; settled = g.K.Sink.settled c.answer_heard.new.output; finishes = g.K.Sink.finishes c.answer_heard.new.output; steps = c.answer_heard.new.steps })
+    (demo_within (text_under Printing.WithoutOk g.M.Answer.Printed.text) (is_refusal g.M.Answer.Printed.refuses) (steps_of g.M.Answer.Printed.steps) (IsAt g.M.Store.fields g.M.Store.holds) (Obeys g.M.Store.begun g.M.Store.does) None c.args.documents c.commands.place c.commands.waiting c.commands.machine c.commands.refused (output_at (g.K.Sink.seen c.args.output.now) c.args.steps.now)
+    (output_at (g.K.Sink.seen c.commands.output) c.commands.steps)
+    (output_at (g.K.Sink.seen c.answer_heard.new.output) c.answer_heard.new.steps)
     so.so_far so.finishes so.write_later
     c.in-Ok-demo_command.command c.commands-test.true c.in-Ok-demo_command.ensures _ c.in_err-next.ensures.err)
 
 pub returns-in_default-put-clause-err : goal.returns-in_default-put-clause-err
 returns-in_default-put-clause-err g c =
     let so = c.commands.invariant in
-    demo_unput (text_under Printing.WithoutOk g.M.Answer.Printed.text) (is_refusal g.M.Answer.Printed.refuses) (steps_of g.M.Answer.Printed.steps) (IsAt g.M.Store.fields g.M.Store.holds) (Obeys g.M.Store.begun g.M.Store.does) None c.args.documents c.commands.place c.commands.waiting c.commands.machine c.commands.refused (record { held = g.K.Sink.held c.args.output.now; faults = g.K.Sink.faults c.args.output.now; settled = g.K.Sink.settled c.args.output.now; finishes = g.K.Sink.finishes c.args.output.now; steps = c.args.steps.now })
-    (record { held = g.K.Sink.held c.commands.output; faults = g.K.Sink.faults c.commands.output; settled = g.K.Sink.settled c.commands.output; finishes = g.K.Sink.finishes c.commands.output; steps = c.commands.steps })
-    (record { held = g.K.Sink.held c.put.new.output; faults = g.K.Sink.faults c.put.new.output; settled = g.K.Sink.settled c.put.new.output; finishes = g.K.Sink.finishes c.put.new.output; steps = c.commands.steps })
+    demo_unput (text_under Printing.WithoutOk g.M.Answer.Printed.text) (is_refusal g.M.Answer.Printed.refuses) (steps_of g.M.Answer.Printed.steps) (IsAt g.M.Store.fields g.M.Store.holds) (Obeys g.M.Store.begun g.M.Store.does) None c.args.documents c.commands.place c.commands.waiting c.commands.machine c.commands.refused (output_at (g.K.Sink.seen c.args.output.now) c.args.steps.now)
+    (output_at (g.K.Sink.seen c.commands.output) c.commands.steps)
+    (output_at (g.K.Sink.seen c.put.new.output) c.commands.steps)
     so.so_far so.finishes so.write_later
     c.in_default-put.ensures.err refl c.put.ensures.finishes (c.in_default-put.ensures.cause.failed refl)
 
 pub returns-clause-ok : goal.returns-clause-ok
 returns-clause-ok g c =
     let so = c.commands.invariant in
-    demo_ended (text_under Printing.WithoutOk g.M.Answer.Printed.text) (is_refusal g.M.Answer.Printed.refuses) (steps_of g.M.Answer.Printed.steps) (IsAt g.M.Store.fields g.M.Store.holds) (Obeys g.M.Store.begun g.M.Store.does) None c.args.documents c.commands.place c.commands.waiting c.commands.machine c.commands.refused (record { held = g.K.Sink.held c.args.output.now; faults = g.K.Sink.faults c.args.output.now; settled = g.K.Sink.settled c.args.output.now; finishes = g.K.Sink.finishes c.args.output.now; steps = c.args.steps.now })
-    (record { held = g.K.Sink.held c.commands.output; faults = g.K.Sink.faults c.commands.output; settled = g.K.Sink.settled c.commands.output; finishes = g.K.Sink.finishes c.commands.output; steps = c.commands.steps })
-    (record { held = g.K.Sink.held c.put.new.output; faults = g.K.Sink.faults c.put.new.output; settled = g.K.Sink.settled c.put.new.output; finishes = g.K.Sink.finishes c.put.new.output; steps = c.commands.steps })
+    demo_ended (text_under Printing.WithoutOk g.M.Answer.Printed.text) (is_refusal g.M.Answer.Printed.refuses) (steps_of g.M.Answer.Printed.steps) (IsAt g.M.Store.fields g.M.Store.holds) (Obeys g.M.Store.begun g.M.Store.does) None c.args.documents c.commands.place c.commands.waiting c.commands.machine c.commands.refused (output_at (g.K.Sink.seen c.args.output.now) c.args.steps.now)
+    (output_at (g.K.Sink.seen c.commands.output) c.commands.steps)
+    (output_at (g.K.Sink.seen c.put.new.output) c.commands.steps)
     so.so_far so.finishes so.write_later
     (omega (arith, c.commands-test.false, c.commands.auto.place-end)) c.in-Ok-put.ensures.ok refl c.put.ensures.finishes c.put.ensures.cause.later

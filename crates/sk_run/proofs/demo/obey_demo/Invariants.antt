@@ -9,8 +9,8 @@ use Rattle.sk_run.proofs.demo.obey_demo.Given as goal
 abbrev pub invariant-commands : goal.invariant-commands
 invariant-commands g l = record {
   schema : schema_in g.M.Store.fields l.machine ≡ demo_schema l.place;
-  write_later : g.K.Sink.faults l.fn.output ≤ g.K.Sink.faults l.output;
-  finishes : g.K.Sink.finishes l.output ≡ g.K.Sink.finishes l.fn.output;
+  write_later : (g.K.Sink.seen l.fn.output).faults ≤ (g.K.Sink.seen l.output).faults;
+  finishes : (g.K.Sink.seen l.output).finishes ≡ (g.K.Sink.seen l.fn.output).finishes;
   so_far : DemoSoFar (text_under Printing.WithoutOk g.M.Answer.Printed.text) (is_refusal g.M.Answer.Printed.refuses) (steps_of g.M.Answer.Printed.steps) (IsAt g.M.Store.fields g.M.Store.holds) (Obeys g.M.Store.begun g.M.Store.does)
-      None l.documents (g.K.Sink.held l.fn.output) l.fn.steps l.place l.waiting (g.K.Sink.held l.output) l.machine l.refused l.steps;
+      None l.documents (g.K.Sink.seen l.fn.output).held l.fn.steps l.place l.waiting (g.K.Sink.seen l.output).held l.machine l.refused l.steps;
 }

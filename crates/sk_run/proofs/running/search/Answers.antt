@@ -8,10 +8,10 @@ use Rattle.sk_run.proofs.running.search.Goals as goal
 
 pub returns-in-Ok : goal.returns-in-Ok
 returns-in-Ok g c =
-    searched (text_under Printing.WithoutOk g.M.Answer.Printed.text) (is_refusal g.M.Answer.Printed.refuses) (steps_of g.M.Answer.Printed.steps) (IsAt g.M.Store.fields g.M.Store.holds) (Answers g.M.Store.begun g.M.Store.does) (AnswersQuery g.M.Store.begun g.M.Store.does c.args.join) (Closes g.M.Store.closes) c.new-first.result None c.new-first.ensures (record { left = g.R.Source.left c.args.records.now; faults = g.R.Source.faults c.args.records.now }) (record { left = g.R.Source.left c.answer_lines.new.input; faults = g.R.Source.faults c.answer_lines.new.input }) (record { left = g.S.Source.left c.args.input.now; faults = g.S.Source.faults c.args.input.now }) (record { left = g.S.Source.left c.answer_to_end.new.input; faults = g.S.Source.faults c.answer_to_end.new.input })
+    searched (text_under Printing.WithoutOk g.M.Answer.Printed.text) (is_refusal g.M.Answer.Printed.refuses) (steps_of g.M.Answer.Printed.steps) (IsAt g.M.Store.fields g.M.Store.holds) (Answers g.M.Store.begun g.M.Store.does) (AnswersQuery g.M.Store.begun g.M.Store.does c.args.join) (Closes g.M.Store.closes) c.new-first.result None c.new-first.ensures (g.R.Source.seen c.args.records.now) (g.R.Source.seen c.answer_lines.new.input) (g.S.Source.seen c.args.input.now) (g.S.Source.seen c.answer_to_end.new.input)
     c.in-Ok.machine false c.in-Ok.refused c.answer_to_end.result _ _ _ c.in-Ok.ensures.ok c.answer_to_end.ensures
 
 pub returns-in-Err : goal.returns-in-Err
 returns-in-Err g c =
-    not_searched (text_under Printing.WithoutOk g.M.Answer.Printed.text) (is_refusal g.M.Answer.Printed.refuses) (steps_of g.M.Answer.Printed.steps) (IsAt g.M.Store.fields g.M.Store.holds) (Answers g.M.Store.begun g.M.Store.does) (AnswersQuery g.M.Store.begun g.M.Store.does c.args.join) (Closes g.M.Store.closes) c.new-first.result None c.new-first.ensures (record { left = g.R.Source.left c.args.records.now; faults = g.R.Source.faults c.args.records.now }) (record { left = g.R.Source.left c.answer_lines.new.input; faults = g.R.Source.faults c.answer_lines.new.input }) (record { left = g.S.Source.left c.args.input.now; faults = g.S.Source.faults c.args.input.now }) (record { left = g.S.Source.left c.args.input.now; faults = g.S.Source.faults c.args.input.now }) refl
+    not_searched (text_under Printing.WithoutOk g.M.Answer.Printed.text) (is_refusal g.M.Answer.Printed.refuses) (steps_of g.M.Answer.Printed.steps) (IsAt g.M.Store.fields g.M.Store.holds) (Answers g.M.Store.begun g.M.Store.does) (AnswersQuery g.M.Store.begun g.M.Store.does c.args.join) (Closes g.M.Store.closes) c.new-first.result None c.new-first.ensures (g.R.Source.seen c.args.records.now) (g.R.Source.seen c.answer_lines.new.input) (g.S.Source.seen c.args.input.now) (g.S.Source.seen c.args.input.now) refl
     false c.in-Err.stopped _ _ c.in-Err.ensures.err

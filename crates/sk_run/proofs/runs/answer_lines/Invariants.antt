@@ -10,12 +10,12 @@ use Rattle.sk_run.proofs.runs.answer_lines.Given as goal
 abbrev pub invariant-lines : goal.invariant-lines
 invariant-lines g l = record {
   goes : l.lines.stopped ≡ None;
-  read_later : g.S.Source.faults l.fn.input ≤ g.S.Source.faults l.input;
-  write_later : g.K.Sink.faults l.fn.output ≤ g.K.Sink.faults l.output;
-  finishes : g.K.Sink.finishes l.output ≡ g.K.Sink.finishes l.fn.output;
-  taken : (bytes : List ℕ) → g.S.Source.left l.fn.input ≡ Some bytes → TakenSoFar bytes l.lines (g.S.Source.left l.input);
+  read_later : (g.S.Source.seen l.fn.input).faults ≤ (g.S.Source.seen l.input).faults;
+  write_later : (g.K.Sink.seen l.fn.output).faults ≤ (g.K.Sink.seen l.output).faults;
+  finishes : (g.K.Sink.seen l.output).finishes ≡ (g.K.Sink.seen l.fn.output).finishes;
+  taken : (bytes : List ℕ) → (g.S.Source.seen l.fn.input).left ≡ Some bytes → TakenSoFar bytes l.lines (g.S.Source.seen l.input).left;
   so_far : SoFar (text_under l.fn.printing g.M.Answer.Printed.text) (is_refusal g.M.Answer.Printed.refuses) (steps_of g.M.Answer.Printed.steps) (IsAt g.M.Store.fields g.M.Store.holds) (AnswersAs g.M.Store.begun g.M.Store.does l.fn.reading)
-      l.fn.first (g.S.Source.left l.fn.input) (g.K.Sink.held l.fn.output) l.fn.refused_before l.fn.steps l.lines (g.S.Source.left l.input) l.waiting (g.K.Sink.held l.output) l.machine l.refused l.steps;
+      l.fn.first (g.S.Source.seen l.fn.input).left (g.K.Sink.seen l.fn.output).held l.fn.refused_before l.fn.steps l.lines (g.S.Source.seen l.input).left l.waiting (g.K.Sink.seen l.output).held l.machine l.refused l.steps;
 }
 
 abbrev pub decreases-lines : goal.decreases-lines

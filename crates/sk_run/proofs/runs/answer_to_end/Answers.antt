@@ -6,8 +6,8 @@ use Rattle.sk_run.proofs.runs.answer_to_end.Goals as goal
 
 pub returns-in-Ok : goal.returns-in-Ok
 returns-in-Ok g c =
-    closed_behind (text_under c.args.printing g.M.Answer.Printed.text) (is_refusal g.M.Answer.Printed.refuses) (steps_of g.M.Answer.Printed.steps) (IsAt g.M.Store.fields g.M.Store.holds) (AnswersAs g.M.Store.begun g.M.Store.does c.args.reading) (Closes g.M.Store.closes) c.args.first (record { left = g.S.Source.left c.args.input.now; faults = g.S.Source.faults c.args.input.now }) (record { left = g.S.Source.left c.answer_lines.new.input; faults = g.S.Source.faults c.answer_lines.new.input }) c.in-Ok.machine c.args.refused c.in-Ok.refused c.close.result _ _ _ c.in-Ok.ensures.ok (c.close.ensures _)
+    closed_behind (text_under c.args.printing g.M.Answer.Printed.text) (is_refusal g.M.Answer.Printed.refuses) (steps_of g.M.Answer.Printed.steps) (IsAt g.M.Store.fields g.M.Store.holds) (AnswersAs g.M.Store.begun g.M.Store.does c.args.reading) (Closes g.M.Store.closes) c.args.first (g.S.Source.seen c.args.input.now) (g.S.Source.seen c.answer_lines.new.input) c.in-Ok.machine c.args.refused c.in-Ok.refused c.close.result _ _ _ c.in-Ok.ensures.ok (c.close.ensures _)
 
 pub returns-in-Err : goal.returns-in-Err
 returns-in-Err g c =
-    stopped_in (text_under c.args.printing g.M.Answer.Printed.text) (is_refusal g.M.Answer.Printed.refuses) (steps_of g.M.Answer.Printed.steps) (IsAt g.M.Store.fields g.M.Store.holds) (AnswersAs g.M.Store.begun g.M.Store.does c.args.reading) (Closes g.M.Store.closes) c.args.first (record { left = g.S.Source.left c.args.input.now; faults = g.S.Source.faults c.args.input.now }) (record { left = g.S.Source.left c.answer_lines.new.input; faults = g.S.Source.faults c.answer_lines.new.input }) c.args.refused c.in-Err.status _ _ c.in-Err.ensures.err
+    stopped_in (text_under c.args.printing g.M.Answer.Printed.text) (is_refusal g.M.Answer.Printed.refuses) (steps_of g.M.Answer.Printed.steps) (IsAt g.M.Store.fields g.M.Store.holds) (AnswersAs g.M.Store.begun g.M.Store.does c.args.reading) (Closes g.M.Store.closes) c.args.first (g.S.Source.seen c.args.input.now) (g.S.Source.seen c.answer_lines.new.input) c.args.refused c.in-Err.status _ _ c.in-Err.ensures.err
