@@ -1,18 +1,15 @@
 //! A session: the documents under one schema.
-ghost use Rattle.std.specs.Prelude.{◌≡◌, ◌≤◌, ◌+◌, true, IfOk};
+ghost use Rattle.std.specs.Prelude.{◌≡◌, IfOk};
 ghost use Rattle.sk_base.specs.Records.{FitsEdit, FitsFind};
-ghost use Rattle.sk_query.specs.Trees.{query_view};
-ghost use Rattle.sk_query.specs.Fits.{fits_tree};
+ghost use Rattle.sk_asked.specs.Asked.{asked};
 ghost use Rattle.sk_model.specs.Edits.{Live, nothing_live, edited, reply_to};
-ghost use Rattle.sk_engine.specs.Sessions.{SessionHolds, fields_of, steps_in, response_of};
-ghost use Rattle.sk_engine.specs.Finds.{FoundFor, Shows};
+ghost use Rattle.sk_run.specs.Finds.{Tells, Counts};
+ghost use Rattle.sk_engine.specs.Sessions.{SessionHolds, fields_of, MayFind};
 
 use sk_asked::{AskError, query_of};
 use sk_base::{Edit, Find, Reply, Report, Schema};
-use sk_grammar::FaultKind;
 use sk_index::Index;
 use sk_match::search;
-use sk_query::Query;
 use sk_steps::Steps;
 use std::alloc::{AllocError, Global};
 use std::sync::ledger::Ledger;
@@ -21,16 +18,6 @@ use std::sync::ledger::Ledger;
 #[derive(Debug, Drop)]
 pub struct Session {
     pub index: Index,
-}
-
-/// What a find is answered.
-#[derive(Debug, Drop)]
-pub enum Answer {
-    Found(Report),
-    /// The text has this first fault, at this byte.
-    BadQuery(FaultKind, usize),
-    /// The tree is no query.
-    BadTree,
 }
 
 impl Session {
@@ -61,33 +48,15 @@ impl Session {
     }
 
     /// The asked page of the documents that the query matches, or why there is none. What is refused takes no step.
-    pub fn find<L: Ledger>(&self, find: &Find, steps: &mut Steps<L>) -> Result<Answer, AllocError>
+    pub fn find<L: Ledger>(&self, find: &Find, steps: &mut Steps<L>) -> Result<Report, AskError>
         requires { FitsFind find.now }
-        ensures answer { IfOk result (λ answer. (live : Live) → SessionHolds self.now live → Shows (fields_of self.now) find.now live (response_of find.now.options.first answer)) }
-        ensures cost { IfOk result (λ answer. steps.new ≡ steps.old + steps_in answer) }
-        ensures later { steps.old ≤ steps.new }
+        ensures tells { (live : Live) → SessionHolds self.now live → Tells (MayFind live find.now) (asked (fields_of self.now) find.now.ask) result }
+        ensures counts { Counts result steps.old steps.new }
     {
-        match query_of(self.index.allocator(), self.schema(), &find.ask) {
-            Ok(query) => self.found(&query, find, steps),
-            Err(AskError::BadQuery(kind, place)) => Ok(Answer::BadQuery(kind, place)),
-            Err(AskError::BadTree) => Ok(Answer::BadTree),
-            Err(AskError::NoMemory) => Err(AllocError),
+        let query = query_of(self.index.allocator(), self.schema(), &find.ask)?;
+        match search(self.index.allocator(), &self.index, find, &query, steps) {
+            Ok(report) => Ok(report),
+            Err(AllocError) => Err(AskError::NoMemory),
         }
-    }
-
-    fn found<L: Ledger>(
-        &self,
-        query: &Query,
-        find: &Find,
-        steps: &mut Steps<L>,
-    ) -> Result<Answer, AllocError>
-        requires fits { fits_tree (query_view query.now) ≡ true }
-        requires find { FitsFind find.now }
-        ensures answer { IfOk result (λ answer. (live : Live) → SessionHolds self.now live → FoundFor (query_view query.now) find.now live (response_of find.now.options.first answer)) }
-        ensures cost { IfOk result (λ answer. steps.new ≡ steps.old + steps_in answer) }
-        ensures later { steps.old ≤ steps.new }
-    {
-        let report = search(self.index.allocator(), &self.index, find, query, steps)?;
-        Ok(Answer::Found(report))
     }
 }

@@ -14,6 +14,9 @@ use Rattle.sk_base.specs.Records.{FitsFind, FitsValues}
 use Rattle.sk_record.specs.Outcome.{MayCome}
 use Rattle.sk_io.specs.Causes.{Rose}
 use Rattle.sk_io.specs.Fronts.{AppendsPrefix}
+use Rattle.sk_run.specs.declared.response.Response.{Response}
+use Rattle.sk_run.specs.declared.response.Printing.{Printing}
+use Rattle.sk_run.specs.Responses.{text_under, is_refusal, steps_of}
 use Rattle.sk_run.specs.declared.status.Status.{Status}
 use Rattle.sk_run.specs.Lines.{Meets}
 use Rattle.sk_run.specs.Machines.{schema_behind}
@@ -110,23 +113,23 @@ next_schema documents place =
     kept ∙ sym (ap (λ b. if b then None else Some demo_fields) later)
 
 -- For answers that have these texts, refuse their commands so and tell of so many readings, and a machine that stands for states, where a command may be answered so; from a state on.
-module _ {W S R : Type 0} (text : R → List ℕ) (refuses : R → Bool) (cost : R → ℕ) (Stands : W → S → Type 0) (Obeys : S → Command → R → S → Type 0) (start : S) (documents : ℕ) where
+module _ {W S : Type 0} (printing : Printing) (Stands : W → S → Type 0) (Obeys : S → Command → Response → S → Type 0) (start : S) (documents : ℕ) where
   -- The commands from a place on.
   abbrev from : ℕ → List Command
   from place = demo_commands_from documents place (documents + 6 - place)
 
   -- The commands before a place were obeyed, and their answers put, but for what waits, and counted.
   pub record DemoSoFar (held0 : Option (List ℕ)) (steps0 place : ℕ) (waiting : List ℕ) (held : Option (List ℕ)) (machine : W) (refused : Bool) (steps : ℕ) : Type 0 where
-    pub answers : List R
-    pub put : IsPut text refuses cost answers waiting held0 held false refused steps0 steps
+    pub answers : List Response
+    pub put : IsPut printing answers waiting held0 held false refused steps0 steps
     pub state : S
     pub at : Stands machine state
-    pub goes_on : (more : List R) (last : S) (left : List Command) → Obeyings Obeys state (from place) more last left → Obeyings Obeys start (demo_commands documents) (answers ++ more) last left
+    pub goes_on : (more : List Response) (last : S) (left : List Command) → Obeyings Obeys state (from place) more last left → Obeyings Obeys start (demo_commands documents) (answers ++ more) last left
 
   pub demo_none : (waiting : List ℕ) (held : Option (List ℕ)) (machine : W) (steps : ℕ) → waiting ≡ [] → Stands machine start → DemoSoFar held steps 0 waiting held machine false steps
   demo_none waiting held machine steps none at = record {
     answers = [];
-    put = none_put text refuses cost waiting held false steps none;
+    put = none_put printing waiting held false steps none;
     state = start;
     at = at;
     goes_on = λ more last left runs. subst (λ (n : ℕ). Obeyings Obeys start (demo_commands_from documents 0 n) more last left) (omega arith) runs;
@@ -136,25 +139,25 @@ module _ {W S R : Type 0} (text : R → List ℕ) (refuses : R → Bool) (cost :
   first_from place inside = let more : documents + 6 - place ≡ suc (documents + 6 - (place + 1)) = omega arith in ap (demo_commands_from documents place) more
 
   -- Nothing was obeyed.
-  pub demo_at_once : (before after : Output) → after ≡ before → RunsOut text refuses cost (ObeysFirst Obeys start (demo_commands documents)) before after
+  pub demo_at_once : (before after : Output) → after ≡ before → RunsOut printing (ObeysFirst Obeys start (demo_commands documents)) before after
   demo_at_once before after same =
-      subst (RunsOut text refuses cost (ObeysFirst Obeys start (demo_commands documents)) before) (sym same)
+      subst (RunsOut printing (ObeysFirst Obeys start (demo_commands documents)) before) (sym same)
       (record { answers = []; put = Appends-nil before.sink.held; steps = omega arith; finishes = refl; lines = record { last = start; left = demo_commands documents; runs = rest } })
 
   -- One command more was obeyed, and its answer joined what waits.
   pub demo_more : (held0 : Option (List ℕ)) (steps0 place : ℕ) (waiting waiting' : List ℕ) (machine machine' : W) (refused more : Bool) (before after : Output) (command : Command)
       → place < documents + 6 → DemoSoFar held0 steps0 place waiting before.sink.held machine refused before.steps → command ≡ demo_command documents place
-      → Joins text refuses cost (λ answer. (s : S) → Stands machine s → Meets Stands (Obeys s command answer) machine') waiting waiting' more before after
+      → Joins printing (λ answer. (s : S) → Stands machine s → Meets Stands (Obeys s command answer) machine') waiting waiting' more before after
       → DemoSoFar held0 steps0 (place + 1) waiting' after.sink.held machine' (refused || more) after.steps
   demo_more held0 steps0 place waiting waiting' machine machine' refused more before after command inside so is joins =
       let met : Meets Stands (Obeys so.state command joins.answer) machine' = joins.allowed so.state so.at in
       record {
         answers = so.answers ++ joins.answer ∷ [];
-        put = put_more text refuses cost so.answers waiting waiting' held0 before.sink.held after.sink.held false refused (refused || more) steps0 before.steps after.steps joins.answer so.put joins.moves (ap (λ b. refused || b) joins.refusal) joins.paid;
+        put = put_more printing so.answers waiting waiting' held0 before.sink.held after.sink.held false refused (refused || more) steps0 before.steps after.steps joins.answer so.put joins.moves (ap (λ b. refused || b) joins.refusal) joins.paid;
         state = met.next;
         at = met.at;
         goes_on = λ rest_of last left runs.
-            subst (λ (all : List R). Obeyings Obeys start (demo_commands documents) all last left) (sym (append_assoc so.answers (joins.answer ∷ []) rest_of))
+            subst (λ (all : List Response). Obeyings Obeys start (demo_commands documents) all last left) (sym (append_assoc so.answers (joins.answer ∷ []) rest_of))
             (so.goes_on (joins.answer ∷ rest_of) last left
             (subst (λ (cs : List Command). Obeyings Obeys so.state cs (joins.answer ∷ rest_of) last left) (sym (first_from place inside))
             (subst (λ (c : Command). Obeyings Obeys so.state (c ∷ from (place + 1)) (joins.answer ∷ rest_of) last left) is (obey met.allowed runs))));
@@ -164,24 +167,24 @@ module _ {W S R : Type 0} (text : R → List ℕ) (refuses : R → Bool) (cost :
   module _ (place : ℕ) (waiting : List ℕ) (machine : W) (refused : Bool) (before middle after : Output) (so : DemoSoFar before.sink.held before.steps place waiting middle.sink.held machine refused middle.steps)
       (same : middle.sink.finishes ≡ before.sink.finishes) (since : before.sink.faults ≤ middle.sink.faults) where
     stops_at : Obeyings Obeys start (demo_commands documents) so.answers so.state (from place)
-    stops_at = subst (λ (all : List R). Obeyings Obeys start (demo_commands documents) all so.state (from place)) (append-nil so.answers) (so.goes_on [] so.state (from place) rest)
+    stops_at = subst (λ (all : List Response). Obeyings Obeys start (demo_commands documents) all so.state (from place)) (append-nil so.answers) (so.goes_on [] so.state (from place) rest)
 
     first_ones : ObeysFirst Obeys start (demo_commands documents) so.answers
     first_ones = record { last = so.state; left = from place; runs = stops_at }
 
-    lost : Appends middle.sink.held after.sink.held waiting → middle.steps ≤ after.steps → after.sink.finishes ≡ middle.sink.finishes → RunsOut text refuses cost (ObeysFirst Obeys start (demo_commands documents)) before after
+    lost : Appends middle.sink.held after.sink.held waiting → middle.steps ≤ after.steps → after.sink.finishes ≡ middle.sink.finishes → RunsOut printing (ObeysFirst Obeys start (demo_commands documents)) before after
     lost put later still = record {
       answers = so.answers;
-      put = moves_last (flat_map text so.answers) waiting before.sink.held middle.sink.held after.sink.held so.put.put put;
+      put = moves_last (flat_map (text_under printing) so.answers) waiting before.sink.held middle.sink.held after.sink.held so.put.put put;
       steps = omega (arith, so.put.paid, later);
       finishes = still ∙ same;
       lines = first_ones;
     }
 
-    unput : AppendsPrefix middle.sink.held after.sink.held waiting → after.steps ≡ middle.steps → after.sink.finishes ≡ middle.sink.finishes → BreaksOff text refuses cost (ObeysFirst Obeys start (demo_commands documents)) before after
+    unput : AppendsPrefix middle.sink.held after.sink.held waiting → after.steps ≡ middle.steps → after.sink.finishes ≡ middle.sink.finishes → BreaksOff printing (ObeysFirst Obeys start (demo_commands documents)) before after
     unput prefix paid still = record {
       answers = so.answers;
-      put = puts_front text so.answers before.sink.held after.sink.held (moves_prefix (flat_map text so.answers) waiting before.sink.held middle.sink.held after.sink.held so.put.put prefix);
+      put = puts_front (text_under printing) so.answers before.sink.held after.sink.held (moves_prefix (flat_map (text_under printing) so.answers) waiting before.sink.held middle.sink.held after.sink.held so.put.put prefix);
       steps = paid ∙ so.put.paid;
       finishes = inl (still ∙ same);
       lines = first_ones;
@@ -189,11 +192,11 @@ module _ {W S R : Type 0} (text : R → List ℕ) (refuses : R → Bool) (cost :
 
     -- The sink failed within what waited.
     pub demo_unput : AppendsPrefix middle.sink.held after.sink.held waiting → after.steps ≡ middle.steps → after.sink.finishes ≡ middle.sink.finishes → Rose middle.sink.faults after.sink.faults
-        → BreaksOff text refuses cost (ObeysFirst Obeys start (demo_commands documents)) before after × Rose before.sink.faults after.sink.faults
+        → BreaksOff printing (ObeysFirst Obeys start (demo_commands documents)) before after × Rose before.sink.faults after.sink.faults
     demo_unput prefix paid still rose = (unput prefix paid still, rose_since before.sink.faults middle.sink.faults after.sink.faults since rose)
 
     -- Memory ran out for the next command.
-    pub demo_last : (status : Status) → PutsLast waiting status middle after → after.steps ≡ middle.steps → Ended text refuses cost NotWhole NeverTaken (ObeysFirst Obeys start (demo_commands documents)) false status before after
+    pub demo_last : (status : Status) → PutsLast waiting status middle after → after.steps ≡ middle.steps → Ended printing NotWhole NeverTaken (ObeysFirst Obeys start (demo_commands documents)) false status before after
     demo_last Status.Done e paid = absurd e
     demo_last Status.Refused e paid = absurd e
     demo_last Status.Usage e paid = absurd e
@@ -204,16 +207,16 @@ module _ {W S R : Type 0} (text : R → List ℕ) (refuses : R → Bool) (cost :
 
     -- For the command at that place.
     module _ (command : Command) (inside : place < documents + 6) (is : command ≡ demo_command documents place) where
-      abbrev Answer : R → Type 0
+      abbrev Answer : Response → Type 0
       Answer answer = (next : W) × ((s : S) → Stands machine s → Meets Stands (Obeys s command answer) next)
 
-      unwritten : FailsWithin text refuses cost Answer waiting middle after → after.sink.finishes ≡ middle.sink.finishes → BreaksOff text refuses cost (ObeysFirst Obeys start (demo_commands documents)) before after
+      unwritten : FailsWithin printing Answer waiting middle after → after.sink.finishes ≡ middle.sink.finishes → BreaksOff printing (ObeysFirst Obeys start (demo_commands documents)) before after
       unwritten fails still =
           let met : Meets Stands (Obeys so.state command fails.answer) fails.allowed.0 = fails.allowed.1 so.state so.at in
           record {
             answers = so.answers ++ fails.answer ∷ [];
-            put = put_in_part text refuses cost so.answers waiting before.sink.held middle.sink.held after.sink.held fails.answer so.put.put fails.put;
-            steps = omega (arith, fails.paid, so.put.paid, sum_by-append cost so.answers (fails.answer ∷ []));
+            put = put_in_part printing so.answers waiting before.sink.held middle.sink.held after.sink.held fails.answer so.put.put fails.put;
+            steps = omega (arith, fails.paid, so.put.paid, sum_by-append steps_of so.answers (fails.answer ∷ []));
             finishes = inl (still ∙ same);
             lines = record {
               last = met.next;
@@ -225,11 +228,11 @@ module _ {W S R : Type 0} (text : R → List ℕ) (refuses : R → Bool) (cost :
             };
           }
 
-      breaks : FailsToPut text refuses cost Answer waiting middle after → BreaksOff text refuses cost (ObeysFirst Obeys start (demo_commands documents)) before after
-      breaks fails = elim fails.which as (λ _. BreaksOff text refuses cost (ObeysFirst Obeys start (demo_commands documents)) before after) [ inl early ↦ unput early.put early.same fails.finishes | inr late ↦ unwritten late fails.finishes ]
+      breaks : FailsToPut printing Answer waiting middle after → BreaksOff printing (ObeysFirst Obeys start (demo_commands documents)) before after
+      breaks fails = elim fails.which as (λ _. BreaksOff printing (ObeysFirst Obeys start (demo_commands documents)) before after) [ inl early ↦ unput early.put early.same fails.finishes | inr late ↦ unwritten late fails.finishes ]
 
       -- Its answer did not join what waits.
-      pub demo_within : (status : Status) → JoinsNot text refuses cost Answer waiting status middle after → Ended text refuses cost NotWhole NeverTaken (ObeysFirst Obeys start (demo_commands documents)) false status before after
+      pub demo_within : (status : Status) → JoinsNot printing Answer waiting status middle after → Ended printing NotWhole NeverTaken (ObeysFirst Obeys start (demo_commands documents)) false status before after
       demo_within Status.Done e = absurd e
       demo_within Status.Refused e = absurd e
       demo_within Status.Usage e = absurd e
@@ -243,10 +246,10 @@ module _ {W S R : Type 0} (text : R → List ℕ) (refuses : R → Bool) (cost :
 
     -- All commands were obeyed, and all that waited was put.
     pub demo_ended : place ≡ documents + 6 → Appends middle.sink.held after.sink.held waiting → after.steps ≡ middle.steps → after.sink.finishes ≡ middle.sink.finishes → middle.sink.faults ≤ after.sink.faults
-        → Continues text refuses cost (ObeysThrough Obeys Stands machine start (demo_commands documents)) false refused before after
+        → Continues printing (ObeysThrough Obeys Stands machine start (demo_commands documents)) false refused before after
     demo_ended last put paid still later = record {
       answers = so.answers;
-      put = moves_last (flat_map text so.answers) waiting before.sink.held middle.sink.held after.sink.held so.put.put put;
+      put = moves_last (flat_map (text_under printing) so.answers) waiting before.sink.held middle.sink.held after.sink.held so.put.put put;
       refusals = so.put.refusals;
       steps = paid ∙ so.put.paid;
       finishes = still ∙ same;

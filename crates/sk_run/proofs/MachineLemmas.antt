@@ -22,7 +22,7 @@ use Rattle.sk_run.specs.declared.response.Response.{Response}
 use Rattle.sk_run.specs.Meaning.{Meaning, blank, refusal, told, is_blank, meaning, meaning_of}
 use Rattle.sk_run.specs.Lines.{Meets, Answered, AnsweredLine}
 use Rattle.sk_run.specs.Queries.{find_by, text_meaning, query_meaning}
-use Rattle.sk_run.specs.Output.{State, schema_of, Obeys, Follows, AnswersAs}
+use Rattle.sk_run.specs.Commands.{Conduct, State, schema_of, Does, Obeys, Follows, AnswersAs}
 use Rattle.sk_run.specs.Machines.{StandsFor, IsAt, schema_in, Did}
 use Rattle.sk_run.specs.Heard.{meant, meaning_as, IsHeard, Heeds, Heeded}
 
@@ -74,22 +74,22 @@ text_asked join schema fields line find some short is_text is =
     ∙ ap (λ (f : Find). told (told_by (Command.Find f))) (sym is)
 
 -- Over a store that tells these.
-module _ {M S A : Type 0} (fields : M → List Field) (Holds : M → S → Type 0) (begun : S) (Does : List Field → S → Command → Response A → S → Type 0) where
+module _ {M S : Type 0} (fields : M → List Field) (Holds : M → S → Type 0) (conduct : Conduct S) where
   -- A schema begins a store.
-  pub accepted : (store : M) (schema : List Field) (response : Response A) → fields store ≡ schema → Holds store begun → response ≡ Response.Schema (length schema)
-      → (s : State S) → StandsFor fields Holds None s → Meets (IsAt fields Holds) (Obeys begun Does s (Command.Schema schema) response) (record { store = Some store })
-  accepted store schema response same holds is None at = record { next = Some (schema, begun); allowed = (is, refl); at = (sym same, holds) }
+  pub accepted : (store : M) (schema : List Field) (response : Response) → fields store ≡ schema → Holds store conduct.begun → response ≡ Response.Schema (length schema)
+      → (s : State S) → StandsFor fields Holds None s → Meets (IsAt fields Holds) (Obeys conduct s (Command.Schema schema) response) (record { store = Some store })
+  accepted store schema response same holds is None at = record { next = Some (schema, conduct.begun); allowed = (is, refl); at = (sym same, holds) }
   accepted store schema response same holds is (Some s) at = absurd at
 
   -- What a store did, its machine did.
-  pub obeyed : (old new : M) (c : Command) (response : Response A) → Did fields Holds Does old c response new → fields new ≡ fields old
-      → (s : State S) → StandsFor fields Holds (Some old) s → Meets (IsAt fields Holds) (Obeys begun Does s c response) (record { store = Some new })
+  pub obeyed : (old new : M) (c : Command) (response : Response) → Did fields Holds conduct old c response new → fields new ≡ fields old
+      → (s : State S) → StandsFor fields Holds (Some old) s → Meets (IsAt fields Holds) (Obeys conduct s c response) (record { store = Some new })
   obeyed old new c response did same None at = absurd at
   obeyed old new c response did same (Some s) at =
       let met = did s.1 at.1 in
       record {
         next = Some (s.0, met.next);
-        allowed = (met.next, subst (λ (f : List Field). Does f s.1 c response met.next) (sym at.0) met.allowed, refl);
+        allowed = (met.next, subst (λ (f : List Field). Does conduct f s.1 c response met.next) (sym at.0) met.allowed, refl);
         at = (at.0 ∙ sym same, met.at);
       }
 
@@ -101,24 +101,24 @@ module _ {M S A : Type 0} (fields : M → List Field) (Holds : M → S → Type 
   schema_in_state (Some store) (Some s) at = ap Some (sym at.0)
 
   -- What was heard means what it is heeded as.
-  heeded_as : (s : State S) (heard : Heard) (response : Response A) (next : State S) → Heeds begun Does s heard response next → Follows begun Does s (meant heard) response next
+  heeded_as : (s : State S) (heard : Heard) (response : Response) (next : State S) → Heeds conduct s heard response next → Follows conduct s (meant heard) response next
   heeded_as s Heard.Blank response next h = h
   heeded_as s (Heard.Refused why) response next h = h
   heeded_as s (Heard.Asks c) response next h = (c, refl, h)
 
-  follows_as : (reading : Reading) (s : State S) (line : List ℕ) (response : Response A) (next : State S) → Follows begun Does s (meaning_as reading (schema_of s) line) response next → AnswersAs begun Does reading s line response next
+  follows_as : (reading : Reading) (s : State S) (line : List ℕ) (response : Response) (next : State S) → Follows conduct s (meaning_as reading (schema_of s) line) response next → AnswersAs conduct reading s line response next
   follows_as Reading.Commands s line response next h = h
   follows_as (Reading.Queries join) s line response next h = h
 
-  text_answered : (old new : Machine M) (reading : Reading) (line : List ℕ) (heard : Heard) (response : Response A) → meaning_as reading (schema_in fields old) line ≡ meant heard → Heeded fields Holds begun Does old heard response new
-      → Answered (IsAt fields Holds) (AnswersAs begun Does reading) old line response new
+  text_answered : (old new : Machine M) (reading : Reading) (line : List ℕ) (heard : Heard) (response : Response) → meaning_as reading (schema_in fields old) line ≡ meant heard → Heeded fields Holds conduct old heard response new
+      → Answered (IsAt fields Holds) (AnswersAs conduct reading) old line response new
   text_answered old new reading line heard response is heeded = λ s at.
       let met = heeded s at in
       let means : meaning_as reading (schema_of s) line ≡ meant heard = subst (λ o. meaning_as reading o line ≡ meant heard) (schema_in_state old.store s at) is in
-      record { next = met.next; allowed = follows_as reading s line response met.next (subst (λ (m : Meaning). Follows begun Does s m response met.next) (sym means) (heeded_as s heard response met.next met.allowed)); at = met.at }
+      record { next = met.next; allowed = follows_as reading s line response met.next (subst (λ (m : Meaning). Follows conduct s m response met.next) (sym means) (heeded_as s heard response met.next met.allowed)); at = met.at }
 
   -- A line is answered as what it was heard as.
-  pub line_answered : (old new : Machine M) (reading : Reading) (l : Line) (heard : Heard) (response : Response A) → IsHeard reading (schema_in fields old) l heard → Heeded fields Holds begun Does old heard response new
-      → AnsweredLine (IsAt fields Holds) (AnswersAs begun Does reading) old l response new
+  pub line_answered : (old new : Machine M) (reading : Reading) (l : Line) (heard : Heard) (response : Response) → IsHeard reading (schema_in fields old) l heard → Heeded fields Holds conduct old heard response new
+      → AnsweredLine (IsAt fields Holds) (AnswersAs conduct reading) old l response new
   line_answered old new reading (Whole text) heard response is heeded = text_answered old new reading text.now heard response is heeded
   line_answered old new reading TooLong heard response is heeded = λ text long. text_answered old new reading text heard response (is text long) heeded

@@ -77,25 +77,3 @@ module _ {S R : Type 0} (Answers : S → List ℕ → R → S → Type 0) where
     pub runs : Runs Answers start bytes answers last []
     pub at : Stands now last
     pub left : left_after ≡ Some []
-
--- For answers to the lines of a source, from each state on that the first answerer stands for, where the source tells its bytes.
-module _ {W S R : Type 0} (Stands : W → S → Type 0) (Answers : S → List ℕ → R → S → Type 0) where
-  -- They are of its first lines.
-  abbrev pub FirstOf : W → Seen → Option (List ℕ) → List R → Type 0
-  FirstOf first seen left answers = WhereTold seen (λ bytes. (s : S) → Stands first s → AnswersFirst Answers s bytes answers left)
-
-  -- They are of what was taken of it, and it stopped.
-  abbrev pub TakenOf : W → Seen → Seen → Status → List R → Type 0
-  TakenOf first seen seen' status answers = Stopped status seen seen' × WhereTold seen (λ bytes. (s : S) → Stands first s → AnswersTaken Answers s bytes answers seen'.left)
-
-  -- They are of all its lines, and the last answerer stands for the state behind them.
-  abbrev pub ThroughOf : W → Seen → Option (List ℕ) → W → List R → Type 0
-  ThroughOf first seen left now answers = WhereTold seen (λ bytes. (s : S) → Stands first s → AnswersThrough Answers Stands now s bytes answers left)
-
-  -- They are of all its lines, and the run was closed.
-  abbrev pub AllOf : (S → R → Type 0) → W → Seen → Option (List ℕ) → List R → Type 0
-  AllOf Closes first seen left answers = WhereTold seen (λ bytes. (s : S) → Stands first s → AnswersAll Answers Closes s bytes answers left)
-
-  -- They are of its first lines, or of all and the run was closed.
-  abbrev pub SomeOf : (S → R → Type 0) → W → Seen → Option (List ℕ) → List R → Type 0
-  SomeOf Closes first seen left answers = WhereTold seen (λ bytes. (s : S) → Stands first s → AnswersSome Answers Closes s bytes answers left)

@@ -16,7 +16,7 @@ use Rattle.sk_run.specs.declared.response.Response.{Response}
 use Rattle.sk_run.specs.Lines.{Meets}
 use Rattle.sk_run.specs.Meaning.{Meaning, blank, refusal, told, meaning}
 use Rattle.sk_run.specs.Queries.{query_meaning}
-use Rattle.sk_run.specs.Output.{State, Obeys}
+use Rattle.sk_run.specs.Commands.{Conduct, State, Obeys}
 use Rattle.sk_run.specs.Machines.{IsAt, schema_behind}
 
 -- What a line means that was heard so.
@@ -55,14 +55,14 @@ may_read (Refused why) = false
 may_read (Asks command) = is_find command
 
 -- What is answered to what was heard, and the state that it leaves.
-abbrev pub Heeds : {S A : Type 0} → S → (List Field → S → Command → Response A → S → Type 0) → State S → Heard → Response A → State S → Type 0
-Heeds begun Does s Blank answer next = (answer ≡ Response.Skipped) × (next ≡ s)
-Heeds begun Does s (Refused why) answer next = (answer ≡ Response.Refused why) × (next ≡ s)
-Heeds begun Does s (Asks command) answer next = Obeys begun Does s command answer next
+abbrev pub Heeds : {S : Type 0} → Conduct S → State S → Heard → Response → State S → Type 0
+Heeds conduct s Blank answer next = (answer ≡ Response.Skipped) × (next ≡ s)
+Heeds conduct s (Refused why) answer next = (answer ≡ Response.Refused why) × (next ≡ s)
+Heeds conduct s (Asks command) answer next = Obeys conduct s command answer next
 
 -- From each state that a machine stands for, what was heard was answered as that state allows.
-abbrev pub Heeded : {M S A : Type 0} → (M → List Field) → (M → S → Type 0) → S → (List Field → S → Command → Response A → S → Type 0) → Machine M → Heard → Response A → Machine M → Type 0
-Heeded {M} {S} fields Holds begun Does old heard answer new = (s : State S) → IsAt fields Holds old s → Meets (IsAt fields Holds) (Heeds begun Does s heard answer) new
+abbrev pub Heeded : {M S : Type 0} → (M → List Field) → (M → S → Type 0) → Conduct S → Machine M → Heard → Response → Machine M → Type 0
+Heeded {M} {S} fields Holds conduct old heard answer new = (s : State S) → IsAt fields Holds old s → Meets (IsAt fields Holds) (Heeds conduct s heard answer) new
 
 -- The schema that a machine has when it has followed what was heard.
 abbrev pub schema_after : Option (List Field) → Heard → Option (List Field)

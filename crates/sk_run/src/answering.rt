@@ -1,18 +1,17 @@
 //! The answer of one line, which joins those that wait.
 ghost use Rattle.std.specs.Prelude.{◌≡◌, IfOk, IfErr, Some};
 ghost use Rattle.sk_io.specs.Answers.{IsShort};
-ghost use Rattle.sk_run.specs.Responses.{text_under, is_refusal, steps_of};
 ghost use Rattle.sk_run.specs.Outsides.{output_at};
 ghost use Rattle.sk_run.specs.Lines.{AnsweredLine};
 ghost use Rattle.sk_run.specs.Machines.{IsAt, schema_in};
-ghost use Rattle.sk_run.specs.Output.{AnswersAs};
+ghost use Rattle.sk_run.specs.Commands.{AnswersAs};
 ghost use Rattle.sk_run.specs.Heard.{MayFollow, Heeded, schema_after};
 ghost use Rattle.sk_run.specs.Waiting.{Joins, JoinsNot};
 ghost use Rattle.sk_run.specs.declared.machine.Machine.{Machine};
 
 use crate::heard::{Heard, hear};
 use crate::waiting::Waiting;
-use crate::{Machine, Printed, Printing, Reading, Status, Store};
+use crate::{Machine, Printing, Reading, Status, Store};
 use sk_io::{Line, Sink};
 use sk_steps::Steps;
 use std::alloc::Global;
@@ -30,12 +29,12 @@ pub(crate) fn answer_line<M: Store, K: Sink, L: Ledger>(
     steps: &mut Steps<L>,
 ) -> Result<(Machine<M>, bool), Status>
     requires { IsShort (Some line) }
-    ensures ok { IfOk result (λ p. Joins (text_under printing M.Answer.text) (is_refusal M.Answer.refuses) (steps_of M.Answer.steps)
-        (λ answer. AnsweredLine (IsAt M.fields M.holds) (AnswersAs M.begun M.does reading) machine line.entry answer p.0) waiting.old waiting.new p.1
+    ensures ok { IfOk result (λ p. Joins printing
+        (λ answer. AnsweredLine (IsAt M.fields M.holds) (AnswersAs M.conduct reading) machine line.entry answer p.0) waiting.old waiting.new p.1
         (output_at (K.seen output.old) steps.old)
         (output_at (K.seen output.new) steps.new)) }
-    ensures err { IfErr result (λ status. JoinsNot (text_under printing M.Answer.text) (is_refusal M.Answer.refuses) (steps_of M.Answer.steps)
-        (λ answer. (next : Machine M) × AnsweredLine (IsAt M.fields M.holds) (AnswersAs M.begun M.does reading) machine line.entry answer next) waiting.old status
+    ensures err { IfErr result (λ status. JoinsNot printing
+        (λ answer. (next : Machine M) × AnsweredLine (IsAt M.fields M.holds) (AnswersAs M.conduct reading) machine line.entry answer next) waiting.old status
         (output_at (K.seen output.old) steps.old)
         (output_at (K.seen output.new) steps.new)) }
 {
@@ -57,13 +56,13 @@ pub(crate) fn answer_heard<M: Store, K: Sink, L: Ledger>(
     steps: &mut Steps<L>,
 ) -> Result<(Machine<M>, bool), Status>
     requires { MayFollow (schema_in M.fields machine) heard }
-    ensures ok { IfOk result (λ p. Joins (text_under printing M.Answer.text) (is_refusal M.Answer.refuses) (steps_of M.Answer.steps)
-        (λ answer. Heeded M.fields M.holds M.begun M.does machine heard answer p.0) waiting.old waiting.new p.1
+    ensures ok { IfOk result (λ p. Joins printing
+        (λ answer. Heeded M.fields M.holds M.conduct machine heard answer p.0) waiting.old waiting.new p.1
         (output_at (K.seen output.old) steps.old)
         (output_at (K.seen output.new) steps.new)) }
     ensures schema { IfOk result (λ p. schema_in M.fields p.0 ≡ schema_after (schema_in M.fields machine) heard) }
-    ensures err { IfErr result (λ status. JoinsNot (text_under printing M.Answer.text) (is_refusal M.Answer.refuses) (steps_of M.Answer.steps)
-        (λ answer. (next : Machine M) × Heeded M.fields M.holds M.begun M.does machine heard answer next) waiting.old status
+    ensures err { IfErr result (λ status. JoinsNot printing
+        (λ answer. (next : Machine M) × Heeded M.fields M.holds M.conduct machine heard answer next) waiting.old status
         (output_at (K.seen output.old) steps.old)
         (output_at (K.seen output.new) steps.new)) }
 {
@@ -75,7 +74,7 @@ pub(crate) fn answer_heard<M: Store, K: Sink, L: Ledger>(
         return Err(waiting.put_last(output));
     };
     let refuses = answer.refuses();
-    let Ok(text) = answer.into_text_under(alloc, printing) else {
+    let Ok(text) = answer.text_under(alloc, printing) else {
         return Err(waiting.put_last(output));
     };
     let Ok(()) = waiting.join(text.as_bytes(), output) else {

@@ -4,10 +4,9 @@ ghost use Rattle.sk_base.specs.declared.command.Command.{Command};
 ghost use Rattle.sk_run.specs.declared.response.Printing.TheVariants as Printing;
 ghost use Rattle.sk_run.specs.declared.response.Response.{Response};
 ghost use Rattle.sk_run.specs.declared.status.Status.{Status};
-ghost use Rattle.sk_run.specs.Responses.{text_under, is_refusal, steps_of};
 ghost use Rattle.sk_run.specs.Outsides.{output_at};
 ghost use Rattle.sk_run.specs.Machines.{IsAt};
-ghost use Rattle.sk_run.specs.Output.{State, Obeys};
+ghost use Rattle.sk_run.specs.Commands.{State, Obeys};
 ghost use Rattle.sk_run.specs.Ended.{Ended, Continues, NotWhole};
 ghost use Rattle.sk_run.specs.Closing.{NeverTaken};
 ghost use Rattle.sk_run.specs.Obeying.{ObeysFirst, ObeysThrough};
@@ -42,12 +41,12 @@ pub(crate) fn obey_demo<M: Store, K: Sink, L: Ledger>(
     steps: &mut Steps<L>,
 ) -> Result<(Machine<M>, bool), Status>
     requires { documents < 2 ^ 32 }
-    ensures ok { IfOk result (λ p. Continues (text_under Printing.WithoutOk M.Answer.text) (is_refusal M.Answer.refuses) (steps_of M.Answer.steps)
-        (ObeysThrough (Obeys M.begun M.does) (IsAt M.fields M.holds) p.0 None (demo_commands documents)) false p.1
+    ensures ok { IfOk result (λ p. Continues Printing.WithoutOk
+        (ObeysThrough (Obeys M.conduct) (IsAt M.fields M.holds) p.0 None (demo_commands documents)) false p.1
         (output_at (K.seen output.old) steps.old)
         (output_at (K.seen output.new) steps.new)) }
-    ensures err { IfErr result (λ status. Ended (text_under Printing.WithoutOk M.Answer.text) (is_refusal M.Answer.refuses) (steps_of M.Answer.steps)
-        NotWhole NeverTaken (ObeysFirst (Obeys M.begun M.does) None (demo_commands documents)) false status
+    ensures err { IfErr result (λ status. Ended Printing.WithoutOk
+        NotWhole NeverTaken (ObeysFirst (Obeys M.conduct) None (demo_commands documents)) false status
         (output_at (K.seen output.old) steps.old)
         (output_at (K.seen output.new) steps.new)) }
 {

@@ -3,14 +3,17 @@ ghost use Rattle.std.specs.Prelude.{◌≡◌, ◌≤◌, ◌+◌, false, IfOk, 
 ghost use Rattle.std.specs.Option.{option_copied};
 ghost use Rattle.sk_base.specs.declared.command.Command.TheVariants as Command;
 ghost use Rattle.sk_record.specs.Outcome.{MayCome};
-ghost use Rattle.sk_run.specs.Responses.{steps_of, response_to};
-ghost use Rattle.sk_run.specs.Output.{State, Closes};
-ghost use Rattle.sk_run.specs.Machines.{IsAt, schema_in, schema_behind, Obeyed};
+ghost use Rattle.sk_base.specs.Records.{FitsEdit};
+ghost use Rattle.sk_run.specs.Responses.{steps_of};
+ghost use Rattle.sk_run.specs.Commands.{State, Closes};
+ghost use Rattle.sk_run.specs.Machines.{IsAt, schema_in, schema_behind, Did, Obeyed};
 ghost use Rattle.sk_run.specs.Heard.{MayFollow, Heeded, is_find, may_read, schema_after};
 
 use crate::heard::Heard;
-use crate::{Refusal, Response, Store};
-use sk_base::{Command, Join, Reply, Schema};
+use crate::asking::{found, shown};
+use crate::response::response_to;
+use crate::{Response, Store};
+use sk_base::{Command, Edit, Join, Schema};
 use sk_steps::Steps;
 use std::alloc::{AllocError, Global};
 use std::sync::ledger::Ledger;
@@ -44,11 +47,11 @@ impl<M: Store> Machine<M> {
         alloc: Global,
         heard: Heard,
         steps: &mut Steps<L>,
-    ) -> Result<(Machine<M>, Response<M::Answer>), AllocError>
+    ) -> Result<(Machine<M>, Response), AllocError>
         requires { MayFollow (schema_in M.fields self) heard }
-        ensures heeded { IfOk result (λ p. Heeded M.fields M.holds M.begun M.does self heard p.1 p.0) }
+        ensures heeded { IfOk result (λ p. Heeded M.fields M.holds M.conduct self heard p.1 p.0) }
         ensures schema { IfOk result (λ p. schema_in M.fields p.0 ≡ schema_after (schema_in M.fields self) heard) }
-        ensures cost { IfOk result (λ p. steps.new ≡ steps.old + steps_of M.Answer.steps p.1) }
+        ensures cost { IfOk result (λ p. steps.new ≡ steps.old + steps_of p.1) }
         ensures later { steps.old ≤ steps.new }
         ensures still { OnErr result (may_read heard ≡ false → steps.new ≡ steps.old) }
     {
@@ -63,9 +66,9 @@ impl<M: Store> Machine<M> {
     }
 
     /// What is put behind the answers of all lines. It is no reading.
-    pub(crate) fn close(self, alloc: Global) -> Result<Response<M::Answer>, AllocError>
-        ensures closes { IfOk result (λ answer. (s : State M.State) → IsAt M.fields M.holds self s → Closes M.closes s answer) }
-        ensures free { IfOk result (λ answer. steps_of M.Answer.steps answer ≡ 0) }
+    pub(crate) fn close(self, alloc: Global) -> Result<Response, AllocError>
+        ensures closes { IfOk result (λ answer. (s : State M.State) → IsAt M.fields M.holds self s → Closes M.conduct s answer) }
+        ensures free { IfOk result (λ answer. steps_of answer ≡ 0) }
     {
         match self.store {
             Some(store) => store.close(alloc),
@@ -88,11 +91,11 @@ impl<M: Store> Machine<M> {
         alloc: Global,
         command: Command,
         steps: &mut Steps<L>,
-    ) -> Result<(Machine<M>, Response<M::Answer>), AllocError>
+    ) -> Result<(Machine<M>, Response), AllocError>
         requires { MayCome (schema_in M.fields self) command }
-        ensures obeyed { IfOk result (λ p. Obeyed M.fields M.holds M.begun M.does self.store command p.1 p.0) }
+        ensures obeyed { IfOk result (λ p. Obeyed M.fields M.holds M.conduct self.store command p.1 p.0) }
         ensures schema { IfOk result (λ p. schema_in M.fields p.0 ≡ schema_behind (schema_in M.fields self) command) }
-        ensures cost { IfOk result (λ p. steps.new ≡ steps.old + steps_of M.Answer.steps p.1) }
+        ensures cost { IfOk result (λ p. steps.new ≡ steps.old + steps_of p.1) }
         ensures later { steps.old ≤ steps.new }
         ensures still { OnErr result (is_find command ≡ false → steps.new ≡ steps.old) }
     {
@@ -102,8 +105,8 @@ impl<M: Store> Machine<M> {
                 Ok((machine, response))
             }
             (Some(store), command) => {
-                let (machine, response) = obey(store, command, steps)?;
-                Ok((machine, response))
+                let (store, response) = obey(alloc, store, command, steps)?;
+                Ok((Machine { store: Some(store) }, response))
             }
             _ => unreachable!(),
         }
@@ -114,41 +117,51 @@ impl<M: Store> Machine<M> {
 fn accept_schema<M: Store>(
     alloc: Global,
     schema: Schema,
-) -> Result<(Machine<M>, Response<M::Answer>), AllocError>
-    ensures obeyed { IfOk result (λ p. Obeyed M.fields M.holds M.begun M.does None (Command.Schema schema) p.1 p.0) }
+) -> Result<(Machine<M>, Response), AllocError>
+    ensures obeyed { IfOk result (λ p. Obeyed M.fields M.holds M.conduct None (Command.Schema schema) p.1 p.0) }
     ensures schema { IfOk result (λ p. schema_in M.fields p.0 ≡ Some schema) }
-    ensures cost { IfOk result (λ p. steps_of M.Answer.steps p.1 ≡ 0) }
+    ensures cost { IfOk result (λ p. steps_of p.1 ≡ 0) }
 {
     let fields = schema.fields().len();
     let store = M::new(alloc, schema)?;
     Ok((Machine { store: Some(store) }, Response::Schema(fields)))
 }
 
-/// What a store does.
+/// What a store does with a command, which is no schema.
 fn obey<M: Store, L: Ledger>(
+    alloc: Global,
     store: M,
     command: Command,
     steps: &mut Steps<L>,
-) -> Result<(Machine<M>, Response<M::Answer>), AllocError>
+) -> Result<(M, Response), AllocError>
     requires { MayCome (Some (M.fields store)) command }
-    ensures obeyed { IfOk result (λ p. Obeyed M.fields M.holds M.begun M.does (Some store) command p.1 p.0) }
-    ensures schema { IfOk result (λ p. schema_in M.fields p.0 ≡ Some (M.fields store)) }
-    ensures cost { IfOk result (λ p. steps.new ≡ steps.old + steps_of M.Answer.steps p.1) }
+    ensures did { IfOk result (λ p. Did M.fields M.holds M.conduct store command p.1 p.0) }
+    ensures schema { IfOk result (λ p. M.fields p.0 ≡ M.fields store) }
+    ensures cost { IfOk result (λ p. steps.new ≡ steps.old + steps_of p.1) }
     ensures later { steps.old ≤ steps.new }
     ensures still { OnErr result (is_find command ≡ false → steps.new ≡ steps.old) }
 {
-    let (store, response) = store.obey(command, steps)?;
-    Ok((Machine { store: Some(store) }, response))
+    match command {
+        Command::Schema(_) => unreachable!(),
+        Command::Edit(edit) => apply(store, edit),
+        Command::Find(find) => {
+            let response = found(&store, &find, steps)?;
+            Ok((store, response))
+        }
+        Command::Show(text, join) => {
+            let response = shown(alloc, store.schema(), join, text.as_str())?;
+            Ok((store, response))
+        }
+    }
 }
 
-/// What an edit's reply is answered.
-pub fn response_to<A: Drop>(reply: Reply) -> Response<A>
-    ensures { result ≡ response_to reply }
+/// Changes the documents of a store.
+fn apply<M: Store>(store: M, edit: Edit) -> Result<(M, Response), AllocError>
+    requires { FitsEdit (M.fields store) edit }
+    ensures did { IfOk result (λ p. Did M.fields M.holds M.conduct store (Command.Edit edit) p.1 p.0) }
+    ensures schema { IfOk result (λ p. M.fields p.0 ≡ M.fields store) }
+    ensures cost { IfOk result (λ p. steps_of p.1 ≡ 0) }
 {
-    match reply {
-        Reply::Id(id) => Response::Id(id),
-        Reply::Done(count) => Response::Deleted(count),
-        Reply::NotFound => Response::Refused(Refusal::NotFound),
-        Reply::NoIdLeft => Response::Refused(Refusal::NoIdLeft),
-    }
+    let (store, reply) = store.apply(edit)?;
+    Ok((store, response_to(reply)))
 }

@@ -25,7 +25,7 @@ pub fn start<M: Store, S: Source, R: Source, K: Sink, E: Sink, L: Ledger>(
     requires name { blank.name ≡ L.name }
     requires parts { blank.parts ≡ L.parts }
     requires one { blank.parts ≡ 1 }
-    ensures started { Started (Ran M.Answer.text M.Answer.refuses M.Answer.steps M.begun M.does M.closes) usage.now arguments result
+    ensures started { Started (Ran M.conduct) usage.now arguments result
         (around (S.seen input.old) (R.seen records.old) (K.seen output.old))
         (around (S.seen input.new) (R.seen records.new) (K.seen output.new))
         (E.seen errors.old) (E.seen errors.new) }
@@ -45,7 +45,7 @@ fn status_of<M: Store, S: Source, R: Source, K: Sink, L: Ledger>(
     steps: &mut Steps<L>,
 ) -> Status
     requires { steps.old ≡ 0 }
-    ensures ran { RanFrom (Ran M.Answer.text M.Answer.refuses M.Answer.steps M.begun M.does M.closes) arguments result
+    ensures ran { RanFrom (Ran M.conduct) arguments result
         (around (S.seen input.old) (R.seen records.old) (K.seen output.old))
         (around (S.seen input.new) (R.seen records.new) (K.seen output.new)) }
 {

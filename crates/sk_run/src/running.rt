@@ -7,11 +7,10 @@ ghost use Rattle.sk_run.specs.declared.response.Printing.TheVariants as Printing
 ghost use Rattle.sk_run.specs.declared.response.Response.{Response};
 ghost use Rattle.sk_run.specs.declared.status.Status.{Status};
 ghost use Rattle.sk_run.specs.declared.status.Status.TheVariants as Status;
-ghost use Rattle.sk_run.specs.Responses.{text_under, is_refusal, steps_of};
 ghost use Rattle.sk_run.specs.Outsides.{output_at, outside_at};
 ghost use Rattle.sk_run.specs.Ended.{Ended};
-ghost use Rattle.sk_run.specs.ByForm.{WholeBy, TakenBy, FirstBy};
-ghost use Rattle.sk_run.specs.Output.{Obeys, Closes};
+ghost use Rattle.sk_run.specs.ByForm.{EndedBy};
+ghost use Rattle.sk_run.specs.Commands.{Obeys, Closes};
 ghost use Rattle.sk_run.specs.Closing.{NeverTaken};
 ghost use Rattle.sk_run.specs.Obeying.{ObeysAll, ObeysSome};
 ghost use Rattle.sk_run.specs.Demos.{demo_commands};
@@ -37,7 +36,7 @@ pub fn run<M: Store, S: Source, R: Source, K: Sink, L: Ledger>(
     output: &mut K,
     steps: &mut Steps<L>,
 ) -> Status
-    ensures ran { Ran M.Answer.text M.Answer.refuses M.Answer.steps M.begun M.does M.closes (map string_bytes words.now) result
+    ensures ran { Ran M.conduct (map string_bytes words.now) result
         (outside_at (S.seen input.old) (R.seen records.old) (K.seen output.old) steps.old)
         (outside_at (S.seen input.new) (R.seen records.new) (K.seen output.new) steps.new) }
     ensures untouched { result ≡ Status.Usage → (input.new ≡ input.old) × (records.new ≡ records.old) × (output.new ≡ output.old) }
@@ -75,19 +74,9 @@ fn search<M: Store, S: Source, R: Source, K: Sink, L: Ledger>(
     output: &mut K,
     steps: &mut Steps<L>,
 ) -> Status
-    ensures { Ended (text_under Printing.WithoutOk M.Answer.text) (is_refusal M.Answer.refuses) (steps_of M.Answer.steps)
-        (WholeBy M.begun M.does M.closes (Form.Search join)
+    ensures { EndedBy M.conduct (Form.Search join) result
         (outside_at (S.seen input.old) (R.seen records.old) (K.seen output.old) steps.old)
-        (outside_at (S.seen input.new) (R.seen records.new) (K.seen output.new) steps.new))
-        (TakenBy M.begun M.does M.closes (Form.Search join)
-        (outside_at (S.seen input.old) (R.seen records.old) (K.seen output.old) steps.old)
-        (outside_at (S.seen input.new) (R.seen records.new) (K.seen output.new) steps.new))
-        (FirstBy M.begun M.does M.closes (Form.Search join)
-        (outside_at (S.seen input.old) (R.seen records.old) (K.seen output.old) steps.old)
-        (outside_at (S.seen input.new) (R.seen records.new) (K.seen output.new) steps.new))
-        false result
-        (output_at (K.seen output.old) steps.old)
-        (output_at (K.seen output.new) steps.new) }
+        (outside_at (S.seen input.new) (R.seen records.new) (K.seen output.new) steps.new) }
 {
     let first = Machine::<M>::new();
     match answer_lines(
@@ -122,8 +111,8 @@ fn demonstrate<M: Store, K: Sink, L: Ledger>(
     steps: &mut Steps<L>,
 ) -> Status
     requires { documents < 2 ^ 32 }
-    ensures { Ended (text_under Printing.WithoutOk M.Answer.text) (is_refusal M.Answer.refuses) (steps_of M.Answer.steps)
-        (ObeysAll (Obeys M.begun M.does) (Closes M.closes) None (demo_commands documents)) NeverTaken (ObeysSome (Obeys M.begun M.does) (Closes M.closes) None (demo_commands documents)) false result
+    ensures { Ended Printing.WithoutOk
+        (ObeysAll (Obeys M.conduct) (Closes M.conduct) None (demo_commands documents)) NeverTaken (ObeysSome (Obeys M.conduct) (Closes M.conduct) None (demo_commands documents)) false result
         (output_at (K.seen output.old) steps.old)
         (output_at (K.seen output.new) steps.new) }
 {

@@ -1,18 +1,15 @@
 //! The run over the lines of a source.
 ghost use Rattle.std.specs.Prelude.{ℕ, IfOk, IfErr};
-ghost use Rattle.sk_run.specs.declared.status.Status.{Status};
-ghost use Rattle.sk_run.specs.declared.response.Response.{Response};
-ghost use Rattle.sk_run.specs.Responses.{text_under, is_refusal, steps_of};
 ghost use Rattle.sk_run.specs.Outsides.{output_at};
 ghost use Rattle.sk_run.specs.Machines.{IsAt};
-ghost use Rattle.sk_run.specs.Output.{AnswersAs, Closes};
-ghost use Rattle.sk_run.specs.Ends.{FirstOf, TakenOf, ThroughOf, AllOf, SomeOf};
-ghost use Rattle.sk_run.specs.Ended.{Ended, Continues, NotWhole};
+ghost use Rattle.sk_run.specs.Commands.{AnswersAs, Closes};
+ghost use Rattle.sk_run.specs.Ended.{Ended};
+ghost use Rattle.sk_run.specs.Sources.{GoesThrough, StopsWithin, EndsLines};
 ghost use Rattle.sk_run.specs.Closing.{ClosedBy, ClosedOrNot, NeverTaken};
 
 use crate::answering::answer_line;
 use crate::waiting::Waiting;
-use crate::{Machine, Printed, Printing, Reading, Status, Store};
+use crate::{Machine, Printing, Reading, Status, Store};
 use sk_io::{LineStop, Lines, Sink, Source, put_all};
 use sk_steps::Steps;
 use std::alloc::Global;
@@ -33,13 +30,8 @@ pub(crate) fn answer_to_end<M: Store, S: Source, K: Sink, L: Ledger>(
     output: &mut K,
     steps: &mut Steps<L>,
 ) -> Status
-    ensures { Ended (text_under printing M.Answer.text) (is_refusal M.Answer.refuses) (steps_of M.Answer.steps)
-        (AllOf (IsAt M.fields M.holds) (AnswersAs M.begun M.does reading) (Closes M.closes) first (S.seen input.old) (S.seen input.new).left)
-        (TakenOf (IsAt M.fields M.holds) (AnswersAs M.begun M.does reading) first (S.seen input.old) (S.seen input.new))
-        (SomeOf (IsAt M.fields M.holds) (AnswersAs M.begun M.does reading) (Closes M.closes) first (S.seen input.old) (S.seen input.new).left)
-        refused result
-        (output_at (K.seen output.old) steps.old)
-        (output_at (K.seen output.new) steps.new) }
+    ensures { EndsLines (IsAt M.fields M.holds) (AnswersAs M.conduct reading) printing first (S.seen input.old) (S.seen input.new) (Closes M.conduct) refused result
+        (output_at (K.seen output.old) steps.old) (output_at (K.seen output.new) steps.new) }
 {
     match answer_lines(
         alloc, first, reading, printing, refused, input, output, steps,
@@ -62,18 +54,10 @@ pub(crate) fn answer_lines<M: Store, S: Source, K: Sink, L: Ledger>(
     output: &mut K,
     steps: &mut Steps<L>,
 ) -> Result<(Machine<M>, bool), Status>
-    ensures ok { IfOk result (λ p. Continues (text_under printing M.Answer.text) (is_refusal M.Answer.refuses) (steps_of M.Answer.steps)
-        (ThroughOf (IsAt M.fields M.holds) (AnswersAs M.begun M.does reading) first (S.seen input.old) (S.seen input.new).left p.0)
-        refused_before p.1
-        (output_at (K.seen output.old) steps.old)
-        (output_at (K.seen output.new) steps.new)) }
-    ensures err { IfErr result (λ status. Ended (text_under printing M.Answer.text) (is_refusal M.Answer.refuses) (steps_of M.Answer.steps)
-        NotWhole
-        (TakenOf (IsAt M.fields M.holds) (AnswersAs M.begun M.does reading) first (S.seen input.old) (S.seen input.new))
-        (FirstOf (IsAt M.fields M.holds) (AnswersAs M.begun M.does reading) first (S.seen input.old) (S.seen input.new).left)
-        refused_before status
-        (output_at (K.seen output.old) steps.old)
-        (output_at (K.seen output.new) steps.new)) }
+    ensures ok { IfOk result (λ p. GoesThrough (IsAt M.fields M.holds) (AnswersAs M.conduct reading) printing first (S.seen input.old) (S.seen input.new) p.0 refused_before p.1
+        (output_at (K.seen output.old) steps.old) (output_at (K.seen output.new) steps.new)) }
+    ensures err { IfErr result (λ status. StopsWithin (IsAt M.fields M.holds) (AnswersAs M.conduct reading) printing first (S.seen input.old) (S.seen input.new) refused_before status
+        (output_at (K.seen output.old) steps.old) (output_at (K.seen output.new) steps.new)) }
 {
     let Ok(mut lines) = Lines::new(alloc, LIMIT) else {
         return Err(Status::Memory);
@@ -116,8 +100,8 @@ pub(crate) fn close<M: Store, K: Sink>(
     refused: bool,
     output: &mut K,
 ) -> Status
-    ensures { (count : ℕ) → Ended (text_under printing M.Answer.text) (is_refusal M.Answer.refuses) (steps_of M.Answer.steps)
-        (ClosedBy (IsAt M.fields M.holds) (Closes M.closes) machine) NeverTaken (ClosedOrNot (IsAt M.fields M.holds) (Closes M.closes) machine) refused result
+    ensures { (count : ℕ) → Ended printing
+        (ClosedBy (IsAt M.fields M.holds) (Closes M.conduct) machine) NeverTaken (ClosedOrNot (IsAt M.fields M.holds) (Closes M.conduct) machine) refused result
         (output_at (K.seen output.old) count)
         (output_at (K.seen output.new) count) }
 {
@@ -125,7 +109,7 @@ pub(crate) fn close<M: Store, K: Sink>(
         return Status::Memory;
     };
     let refuses = refused | answer.refuses();
-    let Ok(text) = answer.into_text_under(alloc, printing) else {
+    let Ok(text) = answer.text_under(alloc, printing) else {
         return Status::Memory;
     };
     let Ok(()) = put_all(output, text.as_bytes()) else {

@@ -8,44 +8,44 @@ use Rattle.sk_run.proofs.answering.answer_heard.Goals as goal
 
 pub returns-in_default-clause-err : goal.returns-in_default-clause-err
 returns-in_default-clause-err g c =
-    fails_first (text_under c.args.printing g.M.Answer.Printed.text) (is_refusal g.M.Answer.Printed.refuses) (steps_of g.M.Answer.Printed.steps)
-    (λ answer. (next : Machine g.row.M.Denot) × Heeded g.M.Store.fields g.M.Store.holds g.M.Store.begun g.M.Store.does c.args.machine c.args.heard answer next) _ _ _ c.in_default.ensures.err refl c.put_unless.ensures.finishes (c.in_default.ensures.cause.failed refl)
+    fails_first c.args.printing
+    (λ answer. (next : Machine g.row.M.Denot) × Heeded g.M.Store.fields g.M.Store.holds g.M.Store.conduct c.args.machine c.args.heard answer next) _ _ _ c.in_default.ensures.err refl c.put_unless.ensures.finishes (c.in_default.ensures.cause.failed refl)
 
 pub returns-in_default-follow-clause-err : goal.returns-in_default-follow-clause-err
 returns-in_default-follow-clause-err g c =
-    lacks_answer (text_under c.args.printing g.M.Answer.Printed.text) (is_refusal g.M.Answer.Printed.refuses) (steps_of g.M.Answer.Printed.steps)
-    (λ answer. (next : Machine g.row.M.Denot) × Heeded g.M.Store.fields g.M.Store.holds g.M.Store.begun g.M.Store.does c.args.machine c.args.heard answer next) _ _ (output_at (g.K.Sink.seen c.args.output.now) c.args.steps.now)
+    lacks_answer c.args.printing
+    (λ answer. (next : Machine g.row.M.Denot) × Heeded g.M.Store.fields g.M.Store.holds g.M.Store.conduct c.args.machine c.args.heard answer next) _ _ (output_at (g.K.Sink.seen c.args.output.now) c.args.steps.now)
     (output_at (g.K.Sink.seen c.put_unless.new.output) c.follow.new.steps)
     c.in-Ok.ensures.ok c.put_unless.ensures.finishes c.put_unless.ensures.cause.later c.may_read-stays.result c.put_last.result
     (output_at (g.K.Sink.seen c.put_last.new.output) c.follow.new.steps)
     (λ e. c.in-Ok.ensures.empty (ap not e)) (λ e. c.in_default-follow.ensures.still (sym c.may_read-stays.ensures ∙ e)) c.put_last.ensures.none c.follow.ensures.later
     (c.put_last.ensures.last c.follow.new.steps)
 
-pub returns-in_default-into_text_under-clause-err : goal.returns-in_default-into_text_under-clause-err
-returns-in_default-into_text_under-clause-err g c =
-    lacks_text (text_under c.args.printing g.M.Answer.Printed.text) (is_refusal g.M.Answer.Printed.refuses) (steps_of g.M.Answer.Printed.steps)
-    (λ answer. (next : Machine g.row.M.Denot) × Heeded g.M.Store.fields g.M.Store.holds g.M.Store.begun g.M.Store.does c.args.machine c.args.heard answer next) _ _ (output_at (g.K.Sink.seen c.args.output.now) c.args.steps.now)
+pub returns-in_default-text_under-clause-err : goal.returns-in_default-text_under-clause-err
+returns-in_default-text_under-clause-err g c =
+    lacks_text c.args.printing
+    (λ answer. (next : Machine g.row.M.Denot) × Heeded g.M.Store.fields g.M.Store.holds g.M.Store.conduct c.args.machine c.args.heard answer next) _ _ (output_at (g.K.Sink.seen c.args.output.now) c.args.steps.now)
     (output_at (g.K.Sink.seen c.put_unless.new.output) c.follow.new.steps)
-    c.in-Ok.ensures.ok c.put_unless.ensures.finishes c.put_unless.ensures.cause.later c.put_last-in_default-into_text_under.result
-    (output_at (g.K.Sink.seen c.put_last-in_default-into_text_under.new.output) c.follow.new.steps)
-    c.in-Ok-follow.answer (c.in-Ok-follow.next, c.in-Ok-follow.ensures.heeded) c.in-Ok-follow.ensures.cost (c.put_last-in_default-into_text_under.ensures.last c.follow.new.steps)
+    c.in-Ok.ensures.ok c.put_unless.ensures.finishes c.put_unless.ensures.cause.later c.put_last-in_default-text_under.result
+    (output_at (g.K.Sink.seen c.put_last-in_default-text_under.new.output) c.follow.new.steps)
+    c.in-Ok-follow.answer (c.in-Ok-follow.next, c.in-Ok-follow.ensures.heeded) c.in-Ok-follow.ensures.cost (c.put_last-in_default-text_under.ensures.last c.follow.new.steps)
 
 pub returns-in_default-join-clause-err : goal.returns-in_default-join-clause-err
 returns-in_default-join-clause-err g c =
-    fails_joined (text_under c.args.printing g.M.Answer.Printed.text) (is_refusal g.M.Answer.Printed.refuses) (steps_of g.M.Answer.Printed.steps)
-    (λ answer. (next : Machine g.row.M.Denot) × Heeded g.M.Store.fields g.M.Store.holds g.M.Store.begun g.M.Store.does c.args.machine c.args.heard answer next) _ _ (output_at (g.K.Sink.seen c.args.output.now) c.args.steps.now)
+    fails_joined c.args.printing
+    (λ answer. (next : Machine g.row.M.Denot) × Heeded g.M.Store.fields g.M.Store.holds g.M.Store.conduct c.args.machine c.args.heard answer next) _ _ (output_at (g.K.Sink.seen c.args.output.now) c.args.steps.now)
     (output_at (g.K.Sink.seen c.put_unless.new.output) c.args.steps.now)
     c.in-Ok.ensures.ok c.put_unless.ensures.finishes c.put_unless.ensures.cause.later
     (output_at (g.K.Sink.seen c.join.new.output) c.follow.new.steps)
-    c.in-Ok-follow.answer _ (c.in-Ok-follow.next, c.in-Ok-follow.ensures.heeded) (c.as_bytes.ensures.value ∙ c.in-Ok-into_text_under.ensures) c.in_default-join.ensures.err c.in-Ok-follow.ensures.cost c.join.ensures.finishes
+    c.in-Ok-follow.answer _ (c.in-Ok-follow.next, c.in-Ok-follow.ensures.heeded) (c.as_bytes.ensures.value ∙ c.in-Ok-text_under.ensures) c.in_default-join.ensures.err c.in-Ok-follow.ensures.cost c.join.ensures.finishes
     (c.in_default-join.ensures.cause.failed refl)
 
 pub returns-clause-ok : goal.returns-clause-ok
 returns-clause-ok g c =
-    joined (text_under c.args.printing g.M.Answer.Printed.text) (is_refusal g.M.Answer.Printed.refuses) (steps_of g.M.Answer.Printed.steps)
-    (λ answer. Heeded g.M.Store.fields g.M.Store.holds g.M.Store.begun g.M.Store.does c.args.machine c.args.heard answer c.in-Ok-follow.next) _ _ (output_at (g.K.Sink.seen c.args.output.now) c.args.steps.now)
+    joined c.args.printing
+    (λ answer. Heeded g.M.Store.fields g.M.Store.holds g.M.Store.conduct c.args.machine c.args.heard answer c.in-Ok-follow.next) _ _ (output_at (g.K.Sink.seen c.args.output.now) c.args.steps.now)
     (output_at (g.K.Sink.seen c.put_unless.new.output) c.args.steps.now)
     c.in-Ok.ensures.ok c.put_unless.ensures.finishes c.put_unless.ensures.cause.later
     (output_at (g.K.Sink.seen c.join.new.output) c.follow.new.steps)
-    _ c.in-Ok-follow.answer c.refuses-refuses.result _ c.in-Ok-follow.ensures.heeded (c.as_bytes.ensures.value ∙ c.in-Ok-into_text_under.ensures) c.refuses-refuses.ensures c.in-Ok-join.ensures.ok c.in-Ok-follow.ensures.cost c.join.ensures.finishes
+    _ c.in-Ok-follow.answer c.refuses-refuses.result _ c.in-Ok-follow.ensures.heeded (c.as_bytes.ensures.value ∙ c.in-Ok-text_under.ensures) c.refuses-refuses.ensures c.in-Ok-join.ensures.ok c.in-Ok-follow.ensures.cost c.join.ensures.finishes
     c.join.ensures.cause.later

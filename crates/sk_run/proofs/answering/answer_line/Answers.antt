@@ -1,10 +1,9 @@
 use Rattle.std.proofs.Common.{refl, subst, Option, List}
 use Rattle.sk_base.specs.declared.schema.Field.{Field}
 use Rattle.sk_run.specs.declared.machine.Machine.{Machine}
-use Rattle.sk_run.specs.Responses.{text_under, is_refusal, steps_of}
 use Rattle.sk_run.specs.Lines.{AnsweredLine}
 use Rattle.sk_run.specs.Machines.{IsAt}
-use Rattle.sk_run.specs.Output.{AnswersAs}
+use Rattle.sk_run.specs.Commands.{AnswersAs}
 use Rattle.sk_run.specs.Heard.{IsHeard, Heeded}
 use Rattle.sk_run.proofs.MachineLemmas.{line_answered}
 use Rattle.sk_run.proofs.AnsweringLemmas.{ok_as, err_as, joins_as, joins_not_as, lacks_heard}
@@ -12,26 +11,26 @@ use Rattle.sk_run.proofs.answering.answer_line.Goals as goal
 
 pub returns-in_default-clause-err : goal.returns-in_default-clause-err
 returns-in_default-clause-err g c =
-    lacks_heard (text_under c.args.printing g.M.Answer.Printed.text) (is_refusal g.M.Answer.Printed.refuses) (steps_of g.M.Answer.Printed.steps)
-    (λ answer. (next : Machine g.row.M.Denot) × AnsweredLine (IsAt g.M.Store.fields g.M.Store.holds) (AnswersAs g.M.Store.begun g.M.Store.does c.args.reading) c.args.machine c.args.line answer next) _ c.put_last.result _ _ (c.put_last.ensures.last c.args.steps.now) refl
+    lacks_heard c.args.printing
+    (λ answer. (next : Machine g.row.M.Denot) × AnsweredLine (IsAt g.M.Store.fields g.M.Store.holds) (AnswersAs g.M.Store.conduct c.args.reading) c.args.machine c.args.line answer next) _ c.put_last.result _ _ (c.put_last.ensures.last c.args.steps.now) refl
 
 pub returns-clause-ok : goal.returns-clause-ok
 returns-clause-ok g c =
     ok_as _ _ c.answer_heard.result
-    (λ p joins. joins_as (text_under c.args.printing g.M.Answer.Printed.text) (is_refusal g.M.Answer.Printed.refuses) (steps_of g.M.Answer.Printed.steps) (λ answer. Heeded g.M.Store.fields g.M.Store.holds g.M.Store.begun g.M.Store.does c.args.machine c.in-Ok.heard answer p.0)
-    (λ answer. AnsweredLine (IsAt g.M.Store.fields g.M.Store.holds) (AnswersAs g.M.Store.begun g.M.Store.does c.args.reading) c.args.machine c.args.line answer p.0) _ _ _ _ _
-    (λ answer heeded. line_answered g.M.Store.fields g.M.Store.holds g.M.Store.begun g.M.Store.does c.args.machine p.0 c.args.reading c.args.line c.in-Ok.heard answer
+    (λ p joins. joins_as c.args.printing (λ answer. Heeded g.M.Store.fields g.M.Store.holds g.M.Store.conduct c.args.machine c.in-Ok.heard answer p.0)
+    (λ answer. AnsweredLine (IsAt g.M.Store.fields g.M.Store.holds) (AnswersAs g.M.Store.conduct c.args.reading) c.args.machine c.args.line answer p.0) _ _ _ _ _
+    (λ answer heeded. line_answered g.M.Store.fields g.M.Store.holds g.M.Store.conduct c.args.machine p.0 c.args.reading c.args.line c.in-Ok.heard answer
     (subst (λ (o : Option (List Field)). IsHeard c.args.reading o c.args.line c.in-Ok.heard) c.schema.ensures c.in-Ok.ensures.heard) heeded) joins)
     c.answer_heard.ensures.ok
 
 pub returns-clause-err : goal.returns-clause-err
 returns-clause-err g c =
     err_as _ _ c.answer_heard.result
-    (λ status fails. joins_not_as (text_under c.args.printing g.M.Answer.Printed.text) (is_refusal g.M.Answer.Printed.refuses) (steps_of g.M.Answer.Printed.steps) (λ answer. (next : Machine g.row.M.Denot) × Heeded g.M.Store.fields g.M.Store.holds g.M.Store.begun g.M.Store.does c.args.machine c.in-Ok.heard answer next)
-    (λ answer. (next : Machine g.row.M.Denot) × AnsweredLine (IsAt g.M.Store.fields g.M.Store.holds) (AnswersAs g.M.Store.begun g.M.Store.does c.args.reading) c.args.machine c.args.line answer next) _ status _ _
+    (λ status fails. joins_not_as c.args.printing (λ answer. (next : Machine g.row.M.Denot) × Heeded g.M.Store.fields g.M.Store.holds g.M.Store.conduct c.args.machine c.in-Ok.heard answer next)
+    (λ answer. (next : Machine g.row.M.Denot) × AnsweredLine (IsAt g.M.Store.fields g.M.Store.holds) (AnswersAs g.M.Store.conduct c.args.reading) c.args.machine c.args.line answer next) _ status _ _
     (λ answer made. (
       made.0,
-      line_answered g.M.Store.fields g.M.Store.holds g.M.Store.begun g.M.Store.does c.args.machine made.0 c.args.reading c.args.line c.in-Ok.heard answer
+      line_answered g.M.Store.fields g.M.Store.holds g.M.Store.conduct c.args.machine made.0 c.args.reading c.args.line c.in-Ok.heard answer
           (subst (λ (o : Option (List Field)). IsHeard c.args.reading o c.args.line c.in-Ok.heard) c.schema.ensures c.in-Ok.ensures.heard) made.1,
     )) fails)
     c.answer_heard.ensures.err

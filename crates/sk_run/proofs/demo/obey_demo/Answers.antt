@@ -5,22 +5,21 @@ use Rattle.sk_base.specs.declared.schema.Field.{Field}
 use Rattle.sk_record.specs.Outcome.{MayCome}
 use Rattle.sk_run.specs.Outsides.{output_at}
 use Rattle.sk_run.specs.declared.response.Printing.TheVariants as Printing
-use Rattle.sk_run.specs.Responses.{text_under, is_refusal, steps_of}
 use Rattle.sk_run.specs.Machines.{IsAt, schema_behind}
-use Rattle.sk_run.specs.Output.{Obeys}
+use Rattle.sk_run.specs.Commands.{Obeys}
 use Rattle.sk_run.proofs.MachineLemmas.{schema_in_state}
 use Rattle.sk_run.proofs.DemoLemmas.{demo_schema, comes, next_schema, demo_none, demo_at_once, demo_more, demo_last, demo_within, demo_unput, demo_ended}
 use Rattle.sk_run.proofs.demo.obey_demo.Goals as goal
 
 pub returns-in_default-clause-err : goal.returns-in_default-clause-err
-returns-in_default-clause-err g c = demo_at_once (text_under Printing.WithoutOk g.M.Answer.Printed.text) (is_refusal g.M.Answer.Printed.refuses) (steps_of g.M.Answer.Printed.steps) (IsAt g.M.Store.fields g.M.Store.holds) (Obeys g.M.Store.begun g.M.Store.does) None c.args.documents _ _ refl
+returns-in_default-clause-err g c = demo_at_once Printing.WithoutOk (IsAt g.M.Store.fields g.M.Store.holds) (Obeys g.M.Store.conduct) None c.args.documents _ _ refl
 
 pub commands-init : goal.commands-init
 commands-init g c = record {
-  schema = schema_in_state g.M.Store.fields g.M.Store.holds g.M.Store.begun g.M.Store.does c.new-machine.result.store None c.new-machine.ensures;
+  schema = schema_in_state g.M.Store.fields g.M.Store.holds g.M.Store.conduct c.new-machine.result.store None c.new-machine.ensures;
   write_later = omega arith;
   finishes = refl;
-  so_far = demo_none (text_under Printing.WithoutOk g.M.Answer.Printed.text) (is_refusal g.M.Answer.Printed.refuses) (steps_of g.M.Answer.Printed.steps) (IsAt g.M.Store.fields g.M.Store.holds) (Obeys g.M.Store.begun g.M.Store.does) None c.args.documents _ _ _ _ c.in-Ok.ensures c.new-machine.ensures;
+  so_far = demo_none Printing.WithoutOk (IsAt g.M.Store.fields g.M.Store.holds) (Obeys g.M.Store.conduct) None c.args.documents _ _ _ _ c.in-Ok.ensures c.new-machine.ensures;
 }
 
 pub answer_heard-requires : goal.answer_heard-requires
@@ -39,7 +38,7 @@ commands-preserved g c =
       write_later = omega (arith, so.write_later, joins.later);
       finishes = joins.finishes ∙ so.finishes;
       so_far =
-          demo_more (text_under Printing.WithoutOk g.M.Answer.Printed.text) (is_refusal g.M.Answer.Printed.refuses) (steps_of g.M.Answer.Printed.steps) (IsAt g.M.Store.fields g.M.Store.holds) (Obeys g.M.Store.begun g.M.Store.does) None c.args.documents _ _ c.commands.place c.commands.waiting _ c.commands.machine c.in_ok-next.next c.commands.refused c.in_ok-next.refuses
+          demo_more Printing.WithoutOk (IsAt g.M.Store.fields g.M.Store.holds) (Obeys g.M.Store.conduct) None c.args.documents _ _ c.commands.place c.commands.waiting _ c.commands.machine c.in_ok-next.next c.commands.refused c.in_ok-next.refuses
           (output_at (g.K.Sink.seen c.commands.output) c.commands.steps)
           (output_at (g.K.Sink.seen c.answer_heard.new.output) c.answer_heard.new.steps)
           c.in-Ok-demo_command.command c.commands-test.true so.so_far c.in-Ok-demo_command.ensures joins;
@@ -48,7 +47,7 @@ commands-preserved g c =
 pub returns-in_default-demo_command-clause-err : goal.returns-in_default-demo_command-clause-err
 returns-in_default-demo_command-clause-err g c =
     let so = c.commands.invariant in
-    demo_last (text_under Printing.WithoutOk g.M.Answer.Printed.text) (is_refusal g.M.Answer.Printed.refuses) (steps_of g.M.Answer.Printed.steps) (IsAt g.M.Store.fields g.M.Store.holds) (Obeys g.M.Store.begun g.M.Store.does) None c.args.documents c.commands.place c.commands.waiting c.commands.machine c.commands.refused (output_at (g.K.Sink.seen c.args.output.now) c.args.steps.now)
+    demo_last Printing.WithoutOk (IsAt g.M.Store.fields g.M.Store.holds) (Obeys g.M.Store.conduct) None c.args.documents c.commands.place c.commands.waiting c.commands.machine c.commands.refused (output_at (g.K.Sink.seen c.args.output.now) c.args.steps.now)
     (output_at (g.K.Sink.seen c.commands.output) c.commands.steps)
     (output_at (g.K.Sink.seen c.put_last.new.output) c.commands.steps)
     so.so_far so.finishes so.write_later
@@ -59,7 +58,7 @@ returns-in_err-next-clause-err g c =
     let so = c.commands.invariant in
     let p = err_from_is_err_and c.from_residual.result c.from_residual.ensures.1 in
     rw (p.1, p.2)
-    (demo_within (text_under Printing.WithoutOk g.M.Answer.Printed.text) (is_refusal g.M.Answer.Printed.refuses) (steps_of g.M.Answer.Printed.steps) (IsAt g.M.Store.fields g.M.Store.holds) (Obeys g.M.Store.begun g.M.Store.does) None c.args.documents c.commands.place c.commands.waiting c.commands.machine c.commands.refused (output_at (g.K.Sink.seen c.args.output.now) c.args.steps.now)
+    (demo_within Printing.WithoutOk (IsAt g.M.Store.fields g.M.Store.holds) (Obeys g.M.Store.conduct) None c.args.documents c.commands.place c.commands.waiting c.commands.machine c.commands.refused (output_at (g.K.Sink.seen c.args.output.now) c.args.steps.now)
     (output_at (g.K.Sink.seen c.commands.output) c.commands.steps)
     (output_at (g.K.Sink.seen c.answer_heard.new.output) c.answer_heard.new.steps)
     so.so_far so.finishes so.write_later
@@ -68,7 +67,7 @@ returns-in_err-next-clause-err g c =
 pub returns-in_default-put-clause-err : goal.returns-in_default-put-clause-err
 returns-in_default-put-clause-err g c =
     let so = c.commands.invariant in
-    demo_unput (text_under Printing.WithoutOk g.M.Answer.Printed.text) (is_refusal g.M.Answer.Printed.refuses) (steps_of g.M.Answer.Printed.steps) (IsAt g.M.Store.fields g.M.Store.holds) (Obeys g.M.Store.begun g.M.Store.does) None c.args.documents c.commands.place c.commands.waiting c.commands.machine c.commands.refused (output_at (g.K.Sink.seen c.args.output.now) c.args.steps.now)
+    demo_unput Printing.WithoutOk (IsAt g.M.Store.fields g.M.Store.holds) (Obeys g.M.Store.conduct) None c.args.documents c.commands.place c.commands.waiting c.commands.machine c.commands.refused (output_at (g.K.Sink.seen c.args.output.now) c.args.steps.now)
     (output_at (g.K.Sink.seen c.commands.output) c.commands.steps)
     (output_at (g.K.Sink.seen c.put.new.output) c.commands.steps)
     so.so_far so.finishes so.write_later
@@ -77,7 +76,7 @@ returns-in_default-put-clause-err g c =
 pub returns-clause-ok : goal.returns-clause-ok
 returns-clause-ok g c =
     let so = c.commands.invariant in
-    demo_ended (text_under Printing.WithoutOk g.M.Answer.Printed.text) (is_refusal g.M.Answer.Printed.refuses) (steps_of g.M.Answer.Printed.steps) (IsAt g.M.Store.fields g.M.Store.holds) (Obeys g.M.Store.begun g.M.Store.does) None c.args.documents c.commands.place c.commands.waiting c.commands.machine c.commands.refused (output_at (g.K.Sink.seen c.args.output.now) c.args.steps.now)
+    demo_ended Printing.WithoutOk (IsAt g.M.Store.fields g.M.Store.holds) (Obeys g.M.Store.conduct) None c.args.documents c.commands.place c.commands.waiting c.commands.machine c.commands.refused (output_at (g.K.Sink.seen c.args.output.now) c.args.steps.now)
     (output_at (g.K.Sink.seen c.commands.output) c.commands.steps)
     (output_at (g.K.Sink.seen c.put.new.output) c.commands.steps)
     so.so_far so.finishes so.write_later

@@ -1,8 +1,7 @@
 use Rattle.std.proofs.Common.{◌≡◌, ◌≤◌, ℕ, List, Some, None}
 use Rattle.sk_io.specs.Reading.{reach}
-use Rattle.sk_run.specs.Responses.{text_under, is_refusal, steps_of}
 use Rattle.sk_run.specs.Machines.{IsAt}
-use Rattle.sk_run.specs.Output.{AnswersAs}
+use Rattle.sk_run.specs.Commands.{AnswersAs}
 use Rattle.sk_run.proofs.RunLemmas.{TakenSoFar}
 use Rattle.sk_run.proofs.EndLemmas.{SoFar}
 use Rattle.sk_run.proofs.runs.answer_lines.Given as goal
@@ -14,7 +13,7 @@ invariant-lines g l = record {
   write_later : (g.K.Sink.seen l.fn.output).faults ≤ (g.K.Sink.seen l.output).faults;
   finishes : (g.K.Sink.seen l.output).finishes ≡ (g.K.Sink.seen l.fn.output).finishes;
   taken : (bytes : List ℕ) → (g.S.Source.seen l.fn.input).left ≡ Some bytes → TakenSoFar bytes l.lines (g.S.Source.seen l.input).left;
-  so_far : SoFar (text_under l.fn.printing g.M.Answer.Printed.text) (is_refusal g.M.Answer.Printed.refuses) (steps_of g.M.Answer.Printed.steps) (IsAt g.M.Store.fields g.M.Store.holds) (AnswersAs g.M.Store.begun g.M.Store.does l.fn.reading)
+  so_far : SoFar l.fn.printing (IsAt g.M.Store.fields g.M.Store.holds) (AnswersAs g.M.Store.conduct l.fn.reading)
       l.fn.first (g.S.Source.seen l.fn.input).left (g.K.Sink.seen l.fn.output).held l.fn.refused_before l.fn.steps l.lines (g.S.Source.seen l.input).left l.waiting (g.K.Sink.seen l.output).held l.machine l.refused l.steps;
 }
 
