@@ -7,7 +7,7 @@ use Rattle.sk_query.specs.Trees.{Tree}
 use Rattle.sk_model.specs.Edits.{Live, nothing_live}
 use Rattle.sk_report.specs.Reports.{ReportsFor}
 use Rattle.sk_engine.specs.declared.session.Session.{Session}
-use Rattle.sk_run.specs.Commands.{Conduct, EditsLive, ClosesSilently}
+use Rattle.sk_run.specs.Conducts.{Conduct, EditsLive, ClosesSilently}
 
 -- The session holds these live documents: its index does.
 abbrev pub SessionHolds : Session → Live → Type 0

@@ -6,7 +6,7 @@ use Rattle.sk_base.specs.declared.report.Report.{Report}
 use Rattle.sk_query.specs.Trees.{Tree}
 use Rattle.sk_model.specs.Edits.{Live, nothing_live}
 use Rattle.sk_plain.specs.Pages.{report_for}
-use Rattle.sk_run.specs.Commands.{Conduct, EditsLive, ClosesSilently}
+use Rattle.sk_run.specs.Conducts.{Conduct, EditsLive, ClosesSilently}
 
 -- What a shelf holds: the fields of its schema, and the live documents.
 pub record Shelved : Type 0 where

@@ -47,15 +47,15 @@ module _ (printing : Printing) where
 
   -- For an answer of which this holds.
   module _ (Allowed : Response → Type 0) (waiting : List ℕ) where
-    -- Memory ran out before anything was heard.
-    pub lacks_heard : (status : Status) (before after : Output) → PutsLast waiting status before after → after.steps ≡ before.steps → JoinsNot printing Allowed waiting status before after
-    lacks_heard Status.Done before after e same = absurd e
-    lacks_heard Status.Refused before after e same = absurd e
-    lacks_heard Status.Usage before after e same = absurd e
-    lacks_heard Status.ReadFault before after e same = absurd e
-    lacks_heard Status.WriteFault before after e same = record { which = inl (record { put = e.0; same = same }); finishes = e.1; rose = e.2 }
-    lacks_heard Status.Memory before after e same = record { put = e.0; later = omega (arith, same); finishes = e.1 }
-    lacks_heard Status.TooMuch before after e same = absurd e
+    -- Memory ran out before it was known what is asked for.
+    pub lacks_request : (status : Status) (before after : Output) → PutsLast waiting status before after → after.steps ≡ before.steps → JoinsNot printing Allowed waiting status before after
+    lacks_request Status.Done before after e same = absurd e
+    lacks_request Status.Refused before after e same = absurd e
+    lacks_request Status.Usage before after e same = absurd e
+    lacks_request Status.ReadFault before after e same = absurd e
+    lacks_request Status.WriteFault before after e same = record { which = inl (record { put = e.0; same = same }); finishes = e.1; rose = e.2 }
+    lacks_request Status.Memory before after e same = record { put = e.0; later = omega (arith, same); finishes = e.1 }
+    lacks_request Status.TooMuch before after e same = absurd e
 
     -- The sink failed when what waits was put before a find.
     pub fails_first : (before after : Output) → AppendsPrefix before.sink.held after.sink.held waiting → after.steps ≡ before.steps → after.sink.finishes ≡ before.sink.finishes → Rose before.sink.faults after.sink.faults
@@ -87,7 +87,7 @@ module _ (printing : Printing) where
       out_of_memory : (after : Output) → PutsLast waiting' Status.Memory middle after → before.steps ≤ after.steps → LacksMemory printing Allowed waiting before after
       out_of_memory after e later = record { put = moves_last waiting waiting' before.sink.held middle.sink.held after.sink.held moves e.0; later = later; finishes = e.1 ∙ finishes }
 
-      -- Memory ran out when what was heard was followed. Where readings may have been counted nothing waited.
+      -- Memory ran out when a request was answered. Where readings may have been counted nothing waited.
       pub lacks_answer : (reads : Bool) (status : Status) (after : Output) → (reads ≡ true → waiting' ≡ []) → (reads ≡ false → after.steps ≡ before.steps) → (waiting' ≡ [] → status ≡ Status.Memory) → before.steps ≤ after.steps
           → PutsLast waiting' status middle after → JoinsNot printing Allowed waiting status before after
       lacks_answer reads Status.Done after empty still none later e = absurd e

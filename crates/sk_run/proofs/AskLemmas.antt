@@ -5,7 +5,7 @@ use Rattle.sk_query.specs.Trees.{Tree}
 use Rattle.sk_asked.specs.declared.asked.AskError.{AskError}
 use Rattle.sk_asked.specs.Asked.{ReadsAs}
 use Rattle.sk_run.specs.declared.response.Response.{Response}
-use Rattle.sk_run.specs.Finds.{Tells, RefusedFor, AnswersAsk, IsFound}
+use Rattle.sk_run.specs.Asking.{Tells, RefusedFor, AnswersAsk, IsFound}
 
 -- Where no query was read, the refusal with its cause is what is answered.
 pub refused_for : (Answers : Tree → Response → Type 0) (asked : Result Tree AskError) (why : AskError) (answer : Response) → ReadsAs asked (Err why) → RefusedFor why answer → AnswersAsk Answers asked answer

@@ -14,7 +14,7 @@ use Rattle.sk_record.specs.Told.{Told, told_by}
 use Rattle.sk_record.specs.Outcome.{outcome}
 use Rattle.sk_io.specs.declared.line.Line.{Line}
 use Rattle.sk_io.specs.declared.line.Line.TheVariants.{Whole, TooLong}
-use Rattle.sk_run.specs.declared.heard.Heard.{Heard}
+use Rattle.sk_run.specs.declared.request.Request.{Request}
 use Rattle.sk_run.specs.declared.machine.Machine.{Machine}
 use Rattle.sk_run.specs.declared.machine.Reading.{Reading}
 use Rattle.sk_run.specs.declared.refusal.Refusal.TheVariants as Refusal
@@ -22,9 +22,9 @@ use Rattle.sk_run.specs.declared.response.Response.{Response}
 use Rattle.sk_run.specs.Meaning.{Meaning, blank, refusal, told, is_blank, meaning, meaning_of}
 use Rattle.sk_run.specs.Lines.{Meets, Answered, AnsweredLine}
 use Rattle.sk_run.specs.Queries.{find_by, text_meaning, query_meaning}
-use Rattle.sk_run.specs.Commands.{Conduct, State, schema_of, Does, Obeys, Follows, AnswersAs}
+use Rattle.sk_run.specs.Conducts.{Conduct, State, schema_of, Does, Obeys, AnswersMeaning, AnswersAs}
 use Rattle.sk_run.specs.Machines.{StandsFor, IsAt, schema_in, Did}
-use Rattle.sk_run.specs.Heard.{meant, meaning_as, IsHeard, Heeds, Heeded}
+use Rattle.sk_run.specs.Requests.{meant, meaning_as, AsksFor, AnswersRequest, AnsweredRequest}
 
 -- A line that is not blank means what its outcome does.
 pub line_meant : (schema : Option (List Field)) (line : List ℕ) (o : Result Told LineFault) → length line ≤ most_line → is_blank line ≡ false → outcome schema (line_value line) ≡ o → meaning schema line ≡ meaning_of o
@@ -54,9 +54,9 @@ short_asked : (join : Join) (schema : Option (List Field)) (line : List ℕ) →
 short_asked join schema line short = ap (λ b. if b then refusal Refusal.TooLong else text_meaning join schema line) (short_test line short)
 
 -- A line that is too long is refused, however lines are read.
-pub long_heard : (reading : Reading) (schema : Option (List Field)) (line : List ℕ) → most_line < length line → meaning_as reading schema line ≡ refusal Refusal.TooLong
-long_heard Reading.Commands schema line long = long_meant schema line long
-long_heard (Reading.Queries join) schema line long = long_asked join schema line long
+pub long_request : (reading : Reading) (schema : Option (List Field)) (line : List ℕ) → most_line < length line → meaning_as reading schema line ≡ refusal Refusal.TooLong
+long_request Reading.Commands schema line long = long_meant schema line long
+long_request (Reading.Queries join) schema line long = long_asked join schema line long
 
 -- Before a schema was accepted a query text is refused.
 pub none_asked : (join : Join) (schema : Option (List Field)) (line : List ℕ) → schema ≡ None → length line ≤ most_line → query_meaning join schema line ≡ refusal Refusal.NoSchema
@@ -100,25 +100,25 @@ module _ {M S : Type 0} (fields : M → List Field) (Holds : M → S → Type 0)
   schema_in_state (Some store) None at = absurd at
   schema_in_state (Some store) (Some s) at = ap Some (sym at.0)
 
-  -- What was heard means what it is heeded as.
-  heeded_as : (s : State S) (heard : Heard) (response : Response) (next : State S) → Heeds conduct s heard response next → Follows conduct s (meant heard) response next
-  heeded_as s Heard.Blank response next h = h
-  heeded_as s (Heard.Refused why) response next h = h
-  heeded_as s (Heard.Asks c) response next h = (c, refl, h)
+  -- A request is answered as what it means.
+  request_as : (s : State S) (request : Request) (response : Response) (next : State S) → AnswersRequest conduct s request response next → AnswersMeaning conduct s (meant request) response next
+  request_as s Request.Blank response next h = h
+  request_as s (Request.Refused why) response next h = h
+  request_as s (Request.Asks c) response next h = (c, refl, h)
 
-  follows_as : (reading : Reading) (s : State S) (line : List ℕ) (response : Response) (next : State S) → Follows conduct s (meaning_as reading (schema_of s) line) response next → AnswersAs conduct reading s line response next
+  follows_as : (reading : Reading) (s : State S) (line : List ℕ) (response : Response) (next : State S) → AnswersMeaning conduct s (meaning_as reading (schema_of s) line) response next → AnswersAs conduct reading s line response next
   follows_as Reading.Commands s line response next h = h
   follows_as (Reading.Queries join) s line response next h = h
 
-  text_answered : (old new : Machine M) (reading : Reading) (line : List ℕ) (heard : Heard) (response : Response) → meaning_as reading (schema_in fields old) line ≡ meant heard → Heeded fields Holds conduct old heard response new
+  text_answered : (old new : Machine M) (reading : Reading) (line : List ℕ) (request : Request) (response : Response) → meaning_as reading (schema_in fields old) line ≡ meant request → AnsweredRequest fields Holds conduct old request response new
       → Answered (IsAt fields Holds) (AnswersAs conduct reading) old line response new
-  text_answered old new reading line heard response is heeded = λ s at.
-      let met = heeded s at in
-      let means : meaning_as reading (schema_of s) line ≡ meant heard = subst (λ o. meaning_as reading o line ≡ meant heard) (schema_in_state old.store s at) is in
-      record { next = met.next; allowed = follows_as reading s line response met.next (subst (λ (m : Meaning). Follows conduct s m response met.next) (sym means) (heeded_as s heard response met.next met.allowed)); at = met.at }
+  text_answered old new reading line request response is answered = λ s at.
+      let met = answered s at in
+      let means : meaning_as reading (schema_of s) line ≡ meant request = subst (λ o. meaning_as reading o line ≡ meant request) (schema_in_state old.store s at) is in
+      record { next = met.next; allowed = follows_as reading s line response met.next (subst (λ (m : Meaning). AnswersMeaning conduct s m response met.next) (sym means) (request_as s request response met.next met.allowed)); at = met.at }
 
-  -- A line is answered as what it was heard as.
-  pub line_answered : (old new : Machine M) (reading : Reading) (l : Line) (heard : Heard) (response : Response) → IsHeard reading (schema_in fields old) l heard → Heeded fields Holds conduct old heard response new
+  -- A line is answered as what it asks for.
+  pub line_answered : (old new : Machine M) (reading : Reading) (l : Line) (request : Request) (response : Response) → AsksFor reading (schema_in fields old) l request → AnsweredRequest fields Holds conduct old request response new
       → AnsweredLine (IsAt fields Holds) (AnswersAs conduct reading) old l response new
-  line_answered old new reading (Whole text) heard response is heeded = text_answered old new reading text.now heard response is heeded
-  line_answered old new reading TooLong heard response is heeded = λ text long. text_answered old new reading text heard response (is text long) heeded
+  line_answered old new reading (Whole text) request response is answered = text_answered old new reading text.now request response is answered
+  line_answered old new reading TooLong request response is answered = λ text long. text_answered old new reading text request response (is text long) answered

@@ -6,7 +6,7 @@ use Rattle.sk_run.specs.declared.response.Response.{Response}
 use Rattle.sk_run.specs.declared.status.Status.{Status}
 use Rattle.sk_run.specs.Statuses.{IsFinished}
 use Rattle.sk_run.specs.Forms.{form_of}
-use Rattle.sk_run.specs.Commands.{Conduct}
+use Rattle.sk_run.specs.Conducts.{Conduct}
 use Rattle.sk_io.specs.Seen.{Seen}
 use Rattle.sk_run.specs.Outsides.{Outside}
 use Rattle.sk_run.specs.Ends.{TakesAll, Stopped}

@@ -10,7 +10,7 @@ use Rattle.sk_run.specs.Outsides.{Outside, WhereTold}
 use Rattle.sk_run.specs.Lines.{Runs}
 use Rattle.sk_run.specs.Ends.{Stopped, AnswersAll, AnswersTaken, AnswersFirst, AnswersSome}
 use Rattle.sk_run.specs.Ended.{Ended}
-use Rattle.sk_run.specs.Commands.{Conduct, Obeys, Answers, AnswersQuery, Closes}
+use Rattle.sk_run.specs.Conducts.{Conduct, Obeys, Answers, AnswersQuery, Closes}
 use Rattle.sk_run.specs.Obeying.{ObeysAll, ObeysSome}
 use Rattle.sk_run.specs.Demos.{demo_commands}
 

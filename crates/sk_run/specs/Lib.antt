@@ -1,7 +1,7 @@
 pub mod Refusals
 pub mod Found
 pub mod Responses
-pub mod Finds
+pub mod Asking
 pub mod Statuses
 pub mod Forms
 pub mod Conclusions
@@ -9,9 +9,9 @@ pub mod Meaning
 pub mod Queries
 pub mod Lines
 pub mod Outsides
-pub mod Commands
+pub mod Conducts
 pub mod Machines
-pub mod Heard
+pub mod Requests
 pub mod Waiting
 pub mod Ends
 pub mod Ended

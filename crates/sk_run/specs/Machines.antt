@@ -5,7 +5,7 @@ use Rattle.sk_base.specs.declared.schema.Field.{Field}
 use Rattle.sk_run.specs.declared.machine.Machine.{Machine}
 use Rattle.sk_run.specs.declared.response.Response.{Response}
 use Rattle.sk_run.specs.Lines.{Meets}
-use Rattle.sk_run.specs.Commands.{Conduct, State, Does, Obeys}
+use Rattle.sk_run.specs.Conducts.{Conduct, State, Does, Obeys}
 
 -- Without a store nothing was accepted; a store has the schema, and holds the state under it.
 abbrev pub StandsFor : {M S : Type 0} → (M → List Field) → (M → S → Type 0) → Option M → State S → Type 0

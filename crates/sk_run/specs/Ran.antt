@@ -7,7 +7,7 @@ use Rattle.sk_run.specs.Statuses.{IsFinished}
 use Rattle.sk_run.specs.Forms.{form_of}
 use Rattle.sk_io.specs.Seen.{Seen}
 use Rattle.sk_run.specs.Outsides.{Outside}
-use Rattle.sk_run.specs.Commands.{Conduct}
+use Rattle.sk_run.specs.Conducts.{Conduct}
 use Rattle.sk_run.specs.ByForm.{EndedBy, Keeps}
 
 -- The source tells its bytes, which are fewer than a run takes of one source, and it did not fail.

@@ -3,7 +3,7 @@ ghost use Rattle.std.specs.Prelude.{◌≡◌, ◌≤◌, ◌+◌, length, IfOk}
 ghost use Rattle.sk_base.specs.Records.{FitsFind};
 ghost use Rattle.sk_asked.specs.Asked.{asked};
 ghost use Rattle.sk_run.specs.Responses.{steps_of};
-ghost use Rattle.sk_run.specs.Finds.{RefusedFor, AnswersAsk, IsFound, Shown};
+ghost use Rattle.sk_run.specs.Asking.{RefusedFor, AnswersAsk, IsFound, Shown};
 
 use crate::{Refusal, Response, Store};
 use sk_asked::{AskError, text_query};

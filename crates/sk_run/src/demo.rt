@@ -6,15 +6,15 @@ ghost use Rattle.sk_run.specs.declared.response.Response.{Response};
 ghost use Rattle.sk_run.specs.declared.status.Status.{Status};
 ghost use Rattle.sk_run.specs.Outsides.{output_at};
 ghost use Rattle.sk_run.specs.Machines.{IsAt};
-ghost use Rattle.sk_run.specs.Commands.{State, Obeys};
+ghost use Rattle.sk_run.specs.Conducts.{State, Obeys};
 ghost use Rattle.sk_run.specs.Ended.{Ended, Continues, NotWhole};
 ghost use Rattle.sk_run.specs.Closing.{NeverTaken};
 ghost use Rattle.sk_run.specs.Obeying.{ObeysFirst, ObeysThrough};
 ghost use Rattle.sk_run.specs.Demos.{demo_fields, alls, demo_body, demo_record, three_by, demo_find, demo_command, demo_commands};
 ghost use Rattle.sk_run.specs.Queries.{by_relevance};
 
-use crate::answering::answer_heard;
-use crate::heard::Heard;
+use crate::line::answer_request;
+use crate::request::Request;
 use crate::waiting::Waiting;
 use crate::{Machine, Printing, Status, Store};
 use sk_base::{
@@ -59,10 +59,10 @@ pub(crate) fn obey_demo<M: Store, K: Sink, L: Ledger>(
         let Ok(command) = demo_command(alloc, documents, place) else {
             return Err(waiting.put_last(output));
         };
-        let (next, refuses) = answer_heard(
+        let (next, refuses) = answer_request(
             alloc,
             machine,
-            Heard::Asks(command),
+            Request::Asks(command),
             Printing::WithoutOk,
             &mut waiting,
             output,

@@ -2,24 +2,25 @@
 //! commands of a demonstration. `specs/Ran.antt` has the main theorem.
 #![tactic(auto)]
 
-mod answering;
 mod asking;
+mod by_form;
 mod conclusion;
 mod demo;
 mod form;
 mod found;
-mod heard;
+mod line;
+mod lines;
 mod machine;
 mod program;
 mod refusal;
+mod request;
 mod response;
-mod running;
-mod runs;
 mod status;
 mod store;
 mod waiting;
 mod words;
 
+pub use by_form::run;
 pub use conclusion::conclude;
 pub use demo::demo_command;
 pub use form::{Form, form_of};
@@ -27,7 +28,6 @@ pub use machine::{Machine, Reading};
 pub use program::start;
 pub use refusal::Refusal;
 pub use response::{Printing, Response};
-pub use running::run;
 pub use status::Status;
 pub use store::Store;
 pub use words::{arguments, path_of, words_of};

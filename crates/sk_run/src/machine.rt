@@ -5,12 +5,12 @@ ghost use Rattle.sk_base.specs.declared.command.Command.TheVariants as Command;
 ghost use Rattle.sk_record.specs.Outcome.{MayCome};
 ghost use Rattle.sk_base.specs.Records.{FitsEdit};
 ghost use Rattle.sk_run.specs.Responses.{steps_of};
-ghost use Rattle.sk_run.specs.Commands.{State, Closes};
+ghost use Rattle.sk_run.specs.Conducts.{State, Closes};
 ghost use Rattle.sk_run.specs.Machines.{IsAt, schema_in, schema_behind, Did, Obeyed};
-ghost use Rattle.sk_run.specs.Heard.{MayFollow, Heeded, is_find, may_read, schema_after};
+ghost use Rattle.sk_run.specs.Requests.{MayBeAsked, AnsweredRequest, is_find, may_read, schema_after};
 
-use crate::heard::Heard;
 use crate::asking::{found, shown};
+use crate::request::Request;
 use crate::response::response_to;
 use crate::{Response, Store};
 use sk_base::{Command, Edit, Join, Schema};
@@ -41,25 +41,25 @@ impl<M: Store> Machine<M> {
         Machine { store: None }
     }
 
-    /// Answers what a line was heard as. Where memory runs out the machine is given up.
-    pub(crate) fn follow<L: Ledger>(
+    /// Answers what a line asks for. Where memory runs out the machine is given up.
+    pub(crate) fn answer<L: Ledger>(
         self,
         alloc: Global,
-        heard: Heard,
+        request: Request,
         steps: &mut Steps<L>,
     ) -> Result<(Machine<M>, Response), AllocError>
-        requires { MayFollow (schema_in M.fields self) heard }
-        ensures heeded { IfOk result (λ p. Heeded M.fields M.holds M.conduct self heard p.1 p.0) }
-        ensures schema { IfOk result (λ p. schema_in M.fields p.0 ≡ schema_after (schema_in M.fields self) heard) }
+        requires { MayBeAsked (schema_in M.fields self) request }
+        ensures answered { IfOk result (λ p. AnsweredRequest M.fields M.holds M.conduct self request p.1 p.0) }
+        ensures schema { IfOk result (λ p. schema_in M.fields p.0 ≡ schema_after (schema_in M.fields self) request) }
         ensures cost { IfOk result (λ p. steps.new ≡ steps.old + steps_of p.1) }
         ensures later { steps.old ≤ steps.new }
-        ensures still { OnErr result (may_read heard ≡ false → steps.new ≡ steps.old) }
+        ensures still { OnErr result (may_read request ≡ false → steps.new ≡ steps.old) }
     {
-        match heard {
-            Heard::Blank => Ok((self, Response::Skipped)),
-            Heard::Refused(why) => Ok((self, Response::Refused(why))),
-            Heard::Asks(command) => {
-                let (machine, response) = self.execute(alloc, command, steps)?;
+        match request {
+            Request::Blank => Ok((self, Response::Skipped)),
+            Request::Refused(why) => Ok((self, Response::Refused(why))),
+            Request::Asks(command) => {
+                let (machine, response) = self.obey(alloc, command, steps)?;
                 Ok((machine, response))
             }
         }
@@ -86,7 +86,7 @@ impl<M: Store> Machine<M> {
     }
 
     /// Obeys a command that may come.
-    fn execute<L: Ledger>(
+    fn obey<L: Ledger>(
         self,
         alloc: Global,
         command: Command,

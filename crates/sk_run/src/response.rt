@@ -70,11 +70,7 @@ impl Response {
     }
 
     /// The lines that are printed, where answers are printed so.
-    pub(crate) fn text_under(
-        &self,
-        alloc: Global,
-        printing: Printing,
-    ) -> Result<String, AllocError>
+    pub(crate) fn text_under(&self, alloc: Global, printing: Printing) -> Result<String, AllocError>
         ensures { IfOk result (λ s. string_bytes s ≡ text_under printing self.now) }
     {
         match printing {

@@ -3,8 +3,8 @@ ghost use Rattle.std.specs.Prelude.{◌≡◌, List, IfOk};
 ghost use Rattle.sk_base.specs.declared.schema.Field.{Field};
 ghost use Rattle.sk_base.specs.Records.{FitsEdit, FitsFind};
 ghost use Rattle.sk_asked.specs.Asked.{asked};
-ghost use Rattle.sk_run.specs.Commands.{Conduct};
-ghost use Rattle.sk_run.specs.Finds.{Tells, Counts};
+ghost use Rattle.sk_run.specs.Conducts.{Conduct};
+ghost use Rattle.sk_run.specs.Asking.{Tells, Counts};
 ghost use Rattle.sk_run.specs.Lines.{Meets};
 ghost use Rattle.sk_run.specs.Responses.{steps_of};
 

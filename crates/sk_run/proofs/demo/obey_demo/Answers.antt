@@ -6,7 +6,7 @@ use Rattle.sk_record.specs.Outcome.{MayCome}
 use Rattle.sk_run.specs.Outsides.{output_at}
 use Rattle.sk_run.specs.declared.response.Printing.TheVariants as Printing
 use Rattle.sk_run.specs.Machines.{IsAt, schema_behind}
-use Rattle.sk_run.specs.Commands.{Obeys}
+use Rattle.sk_run.specs.Conducts.{Obeys}
 use Rattle.sk_run.proofs.MachineLemmas.{schema_in_state}
 use Rattle.sk_run.proofs.DemoLemmas.{demo_schema, comes, next_schema, demo_none, demo_at_once, demo_more, demo_last, demo_within, demo_unput, demo_ended}
 use Rattle.sk_run.proofs.demo.obey_demo.Goals as goal
@@ -22,8 +22,8 @@ commands-init g c = record {
   so_far = demo_none Printing.WithoutOk (IsAt g.M.Store.fields g.M.Store.holds) (Obeys g.M.Store.conduct) None c.args.documents _ _ _ _ c.in-Ok.ensures c.new-machine.ensures;
 }
 
-pub answer_heard-requires : goal.answer_heard-requires
-answer_heard-requires g c =
+pub answer_request-requires : goal.answer_request-requires
+answer_request-requires g c =
     subst (λ (s : Option (List Field)). MayCome s c.in-Ok-demo_command.command) (sym c.commands.invariant.schema)
     (subst (λ (k : Command). MayCome (demo_schema c.commands.place) k) (sym c.in-Ok-demo_command.ensures) (comes c.args.documents c.commands.place))
 
@@ -40,7 +40,7 @@ commands-preserved g c =
       so_far =
           demo_more Printing.WithoutOk (IsAt g.M.Store.fields g.M.Store.holds) (Obeys g.M.Store.conduct) None c.args.documents _ _ c.commands.place c.commands.waiting _ c.commands.machine c.in_ok-next.next c.commands.refused c.in_ok-next.refuses
           (output_at (g.K.Sink.seen c.commands.output) c.commands.steps)
-          (output_at (g.K.Sink.seen c.answer_heard.new.output) c.answer_heard.new.steps)
+          (output_at (g.K.Sink.seen c.answer_request.new.output) c.answer_request.new.steps)
           c.in-Ok-demo_command.command c.commands-test.true so.so_far c.in-Ok-demo_command.ensures joins;
     }
 
@@ -60,7 +60,7 @@ returns-in_err-next-clause-err g c =
     rw (p.1, p.2)
     (demo_within Printing.WithoutOk (IsAt g.M.Store.fields g.M.Store.holds) (Obeys g.M.Store.conduct) None c.args.documents c.commands.place c.commands.waiting c.commands.machine c.commands.refused (output_at (g.K.Sink.seen c.args.output.now) c.args.steps.now)
     (output_at (g.K.Sink.seen c.commands.output) c.commands.steps)
-    (output_at (g.K.Sink.seen c.answer_heard.new.output) c.answer_heard.new.steps)
+    (output_at (g.K.Sink.seen c.answer_request.new.output) c.answer_request.new.steps)
     so.so_far so.finishes so.write_later
     c.in-Ok-demo_command.command c.commands-test.true c.in-Ok-demo_command.ensures _ c.in_err-next.ensures.err)
 

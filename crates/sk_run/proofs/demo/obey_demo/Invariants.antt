@@ -1,7 +1,7 @@
 use Rattle.std.proofs.Common.{◌≡◌, ◌≤◌, None}
 use Rattle.sk_run.specs.declared.response.Printing.TheVariants as Printing
 use Rattle.sk_run.specs.Machines.{IsAt, schema_in}
-use Rattle.sk_run.specs.Commands.{Obeys}
+use Rattle.sk_run.specs.Conducts.{Obeys}
 use Rattle.sk_run.proofs.DemoLemmas.{demo_schema, DemoSoFar}
 use Rattle.sk_run.proofs.demo.obey_demo.Given as goal
 
