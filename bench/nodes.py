@@ -1,14 +1,14 @@
 #!/usr/bin/env python3
 """Prints what a posting costs in the tree of a query, and in a floor in C++ with nodes of the same shape.
 
-Wants g++ and the built program: (cd crates/sk_bench && rt run -- 1000 1 1). Run it at the top of the repository."""
+Wants g++ and the built program: (cd crates/try_walks && rt run). Run it at the top of the repository."""
 import os
 import resource
 import subprocess
 import tempfile
 
 HERE = os.path.dirname(os.path.realpath(__file__))
-OURS = os.path.join(HERE, "..", "crates", "sk_bench", "out", "sk_bench")
+OURS = os.path.join(HERE, "..", "crates", "try_walks", "out", "try_walks")
 DOCUMENTS, ROUNDS = 100_000, 600
 FORMS = {"and": 0, "or": 1, "max": 2, "xor": 3, "not": 4, "maybe": 5, "term": 6}
 
@@ -18,7 +18,7 @@ def seconds(*command):
     least = float("inf")
     for _ in range(3):
         before = resource.getrusage(resource.RUSAGE_CHILDREN).ru_utime
-        subprocess.run([str(word) for word in command], check=True, stdout=subprocess.DEVNULL)
+        subprocess.run([str(word) for word in command], check=True, stdin=subprocess.DEVNULL, stdout=subprocess.DEVNULL)
         least = min(least, resource.getrusage(resource.RUSAGE_CHILDREN).ru_utime - before)
     return least
 

@@ -10,7 +10,6 @@ use Rattle.sk_base.specs.declared.rank.Rank.{Rank}
 use Rattle.sk_base.specs.declared.rank.SortKey.{SortKey}
 use Rattle.sk_base.specs.declared.rank.Order.{Order}
 use Rattle.sk_base.specs.declared.rank.OrderBy.{OrderBy}
-use Rattle.sk_base.specs.declared.rank.OrderBy.TheVariants as OrderBy
 use Rattle.sk_base.specs.Before.{value_cmp, weight_cmp, id_cmp, cmp_by, rank_cmp}
 
 weight_total : IsTotalOrder weight_cmp

@@ -7,7 +7,6 @@ use Rattle.sk_base.specs.declared.rank.Rank.{Rank}
 use Rattle.sk_base.specs.declared.rank.SortKey.{SortKey}
 use Rattle.sk_base.specs.declared.rank.Order.{Order}
 use Rattle.sk_base.specs.declared.rank.OrderBy.{OrderBy}
-use Rattle.sk_base.specs.declared.rank.OrderBy.TheVariants as OrderBy
 
 -- Values byte by byte, the lesser first, and in reverse the greater first. The empty value, which is none, is the least.
 abbrev pub value_cmp : SortKey → List ℕ → List ℕ → Ordering

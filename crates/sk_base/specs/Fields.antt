@@ -3,7 +3,6 @@ use Rattle.std.specs.Prelude.{◌≡◌, ◌≤◌, ℕ, Bool, true, false, ◌&
 use Rattle.std.specs.List.{list_all}
 use Rattle.sk_base.specs.declared.schema.Field.{Field}
 use Rattle.sk_base.specs.declared.schema.FieldKind.{FieldKind}
-use Rattle.sk_base.specs.declared.schema.FieldKind.TheVariants as FieldKind
 use Rattle.sk_base.specs.Names.{is_name, is_prefix}
 
 -- A step is 1 to 256, a filter's prefix is not empty, and a slot is 0 to 255.
@@ -63,11 +62,15 @@ are_apart (field ∷ more) = list_all (λ other. not (clash field other)) more &
 abbrev pub are_fields : List Field → Bool
 are_fields fields = list_all is_field fields && are_apart fields
 
--- The fields of a schema: 1 to 64 that keep the rules.
-pub record IsSchema (fields : List Field) : Type 0 where
-  pub sound : are_fields fields ≡ true
-  pub some : 1 ≤ length fields
-  pub few : length fields ≤ 64
+-- A schema, as contracts see it.
+pub record Schema : Type 0 where
+  pub fields : List Field
+
+-- A schema that was checked: 1 to 64 fields that keep the rules.
+pub record IsSchema (schema : Schema) : Type 0 where
+  pub sound : are_fields schema.fields ≡ true
+  pub some : 1 ≤ length schema.fields
+  pub few : length schema.fields ≤ 64
 
 -- The place of the first field with this name, from 0.
 abbrev pub place_of : List ℕ → List Field → Option ℕ

@@ -8,3 +8,6 @@ pub mod Documents
 pub mod Numbers
 pub mod Loads
 pub mod Fitting
+pub mod Finds
+pub mod Commands
+pub mod Rooms

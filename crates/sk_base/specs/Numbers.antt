@@ -1,5 +1,5 @@
 -- The six numbers of a list of documents with their ids.
-use Rattle.std.specs.Prelude.{ℕ, ◌+◌, ◌-◌, ◌^◌, ◌&&◌, min, max, not, Bool, List, [], ◌∷◌, ◌++◌, length, map, filter, count_by, sum_by}
+use Rattle.std.specs.Prelude.{ℕ, ◌-◌, ◌^◌, ◌&&◌, min, max, not, Bool, List, [], ◌∷◌, ◌++◌, length, map, filter, count_by, sum_by}
 use Rattle.std.specs.List.{list_any}
 use Rattle.sk_base.specs.declared.doc.Doc.{Doc}
 use Rattle.sk_base.specs.declared.doc_entry.DocTerm.{DocTerm}

@@ -1,18 +1,12 @@
--- Which records, edits and finds fit a schema.
-use Rattle.std.specs.Prelude.{◌≡◌, ◌<◌, ◌≤◌, ◌+◌, ℕ, Bool, true, false, List, [], ◌∷◌, length, AllPairs, Option, Some, None, IfSome}
+-- Which records and edits fit a schema.
+use Rattle.std.specs.Prelude.{◌≡◌, ◌<◌, ◌≤◌, ◌+◌, ℕ, Bool, true, false, List, [], ◌∷◌, length, AllPairs, Option, Some, None}
 use Rattle.std.specs.List.{list_all, slice_get}
 use Rattle.sk_base.specs.declared.schema.Field.{Field}
 use Rattle.sk_base.specs.declared.schema.FieldKind.{FieldKind}
-use Rattle.sk_base.specs.declared.schema.FieldKind.TheVariants as FieldKind
 use Rattle.sk_base.specs.declared.record.FieldValue.{FieldValue}
-use Rattle.sk_base.specs.declared.record.FieldValue.TheVariants as FieldValue
 use Rattle.sk_base.specs.declared.record.Entry.{Entry}
-use Rattle.sk_base.specs.declared.record.Record.{Record}
 use Rattle.sk_base.specs.declared.record.Edit.{Edit}
-use Rattle.sk_base.specs.declared.record.Edit.TheVariants as Edit
-use Rattle.sk_base.specs.declared.find.Ask.{Ask}
-use Rattle.sk_base.specs.declared.find.Ask.TheVariants as Ask
-use Rattle.sk_base.specs.declared.find.Find.{Find}
+use Rattle.sk_base.specs.declared.schema.Schema.{Schema}
 
 -- The value is of this kind.
 abbrev pub fits_kind : FieldKind → FieldValue → Bool
@@ -59,20 +53,9 @@ pub record FitsValues (fields : List Field) (values : List Entry) : Type 0 where
   pub small : bytes_of_values values ≤ most_bytes
 
 -- The edit's record fits, and its id is one.
-abbrev pub FitsEdit : List Field → Edit → Type 0
-FitsEdit fields (Edit.Add given) = FitsValues fields given.values
-FitsEdit fields (Edit.Replace id given) = (1 ≤ id) × FitsValues fields given.values
-FitsEdit fields (Edit.ReplaceBy term given) = FitsValues fields given.values
-FitsEdit fields (Edit.Delete id) = 1 ≤ id
-FitsEdit fields (Edit.DeleteBy term) = Unit {0}
-
--- A query text is not too long.
-abbrev pub FitsAsk : Ask → Type 0
-FitsAsk (Ask.Text text join) = length text ≤ most_bytes
-FitsAsk (Ask.Tree value) = Unit {0}
-
--- The page ends within the first 100,000 hits, and a collapse keeps at least one document.
-pub record FitsFind (find : Find) : Type 0 where
-  pub ask : FitsAsk find.ask
-  pub page : find.options.first + find.options.size ≤ 100000
-  pub collapse : IfSome find.collapse (λ c. 1 ≤ c.max)
+abbrev pub FitsEdit : Schema → Edit → Type 0
+FitsEdit schema (Edit.Add given) = FitsValues schema.fields given.values
+FitsEdit schema (Edit.Replace id given) = (1 ≤ id) × FitsValues schema.fields given.values
+FitsEdit schema (Edit.ReplaceBy term given) = FitsValues schema.fields given.values
+FitsEdit schema (Edit.Delete id) = 1 ≤ id
+FitsEdit schema (Edit.DeleteBy term) = Unit {0}

@@ -1,12 +1,18 @@
 //! What a command line asks for.
 use crate::{Edit, Find, Join, Schema, Text};
 
-/// A command line that was understood.
+/// What is asked of the documents, which stay as they are.
 #[derive(Debug, Drop)]
-pub enum Command {
+pub enum Question<T> {
+    Find(Find<T>),
+    /// The query of a text.
+    Show(Text, Join),
+}
+
+/// A command line that was understood, with query trees of the type `T`.
+#[derive(Debug, Drop)]
+pub enum Command<T> {
     Schema(Schema),
     Edit(Edit),
-    Find(Find),
-    /// Prints the query of a text.
-    Show(Text, Join),
+    Ask(Question<T>),
 }

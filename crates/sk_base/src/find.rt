@@ -1,21 +1,14 @@
 //! What a find asks for.
-use crate::{Order, Text, Weight};
-use serde_json::Value;
+ghost use Rattle.std.specs.Prelude.{◌≡◌};
+ghost use Rattle.sk_base.specs.Finds.{default_options, default_paging};
+
+use crate::{Order, OrderBy, Text, Weight};
 
 /// Which words of a text a document must have.
 #[derive(Clone, Copy, Debug, PartialEq, Eq)]
 pub enum Join {
     Or,
     And,
-}
-
-/// The query of a find, as it was given.
-#[derive(Debug, Drop)]
-pub enum Ask {
-    /// A query text, and how its words are joined.
-    Text(Text, Join),
-    /// A query tree, as a JSON value.
-    Tree(Value),
 }
 
 /// How a term's wdf weighs: not at all, as one, or as it is.
@@ -48,11 +41,53 @@ pub struct Options {
     pub cutoff: Weight,
 }
 
-/// A find: its query, and which page of the matches is asked for.
-#[derive(Debug, Drop)]
-pub struct Find {
-    pub ask: Ask,
+/// Which page of the matches is asked for.
+#[derive(Clone, Copy, Debug, PartialEq, Eq)]
+pub struct Paging {
     pub options: Options,
     pub order: Order,
     pub collapse: Option<Collapse>,
+}
+
+/// The query of a find, as it was given, with trees of the type `T`.
+#[derive(Debug, Drop)]
+pub enum Ask<T> {
+    /// A query text, and how its words are joined.
+    Text(Text, Join),
+    /// A query tree.
+    Tree(T),
+}
+
+/// A find: its query, and which page of its matches is asked for.
+#[derive(Debug, Drop)]
+pub struct Find<T> {
+    pub ask: Ask<T>,
+    pub paging: Paging,
+}
+
+/// The options of a find that says nothing of them.
+pub fn default_options() -> Options
+    ensures { result ≡ default_options }
+{
+    Options {
+        scheme: Scheme::Nnn,
+        first: 0,
+        size: 10,
+        check: 0,
+        cutoff: 0,
+    }
+}
+
+/// The page of a find that says nothing of it.
+pub fn default_paging() -> Paging
+    ensures { result ≡ default_paging }
+{
+    Paging {
+        options: default_options(),
+        order: Order {
+            by: OrderBy::Relevance,
+            falling: false,
+        },
+        collapse: None,
+    }
 }

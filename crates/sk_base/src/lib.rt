@@ -10,6 +10,7 @@ mod find;
 mod fitting;
 mod items;
 mod limits;
+mod operands;
 mod positions;
 mod rank;
 mod record;
@@ -20,13 +21,16 @@ mod term;
 mod text;
 
 pub use bytes::Bytes;
-pub use command::Command;
+pub use command::{Command, Question};
 pub use doc::Doc;
 pub use doc_entry::{DocTerm, SlotValue};
 pub use doc_lists::{DocTerms, SlotValues};
-pub use find::{Ask, Collapse, Find, Join, Options, Scheme};
+pub use find::{
+    Ask, Collapse, Find, Join, Options, Paging, Scheme, default_options, default_paging,
+};
 pub use items::Items;
 pub use limits::{MOST_FIELDS, MOST_HITS, MOST_LEAVES, MOST_TERM, MOST_TEXT, MOST_WDF};
+pub use operands::Operands;
 pub use positions::Positions;
 pub use rank::{Order, OrderBy, Rank, SortKey, total_order};
 pub use record::{Edit, Entries, Entry, FieldValue, Record, Reply};

@@ -58,33 +58,42 @@ impl Rank {
     pub fn compare(&self, other: &Rank, order: &Order) -> Ordering
         ensures { result ≡ rank_cmp order.now self.now other.now }
     {
-        let weight = other.weight.cmp(&self.weight);
-        let id = if order.falling {
-            other.id.cmp(&self.id)
+        order.compare(self.weight, self.value.as_slice(), self.id, other)
+    }
+}
+
+impl Order {
+    /// How a match of this weight, value and id is ordered to another: the lesser is the better.
+    pub fn compare(&self, weight: Weight, value: &[u8], id: DocId, other: &Rank) -> Ordering
+        ensures { result ≡ rank_cmp self.now (record { weight = weight; value = value.now; id = id }) other.now }
+    {
+        let weights = other.weight.cmp(&weight);
+        let ids = if self.falling {
+            other.id.cmp(&id)
         } else {
-            self.id.cmp(&other.id)
+            id.cmp(&other.id)
         };
-        match &order.by {
-            OrderBy::Relevance => weight.then(id),
-            OrderBy::Value(key) => key.compare(&self.value, &other.value).then(id),
+        match &self.by {
+            OrderBy::Relevance => weights.then(ids),
+            OrderBy::Value(key) => key.compare(value, other.value.as_slice()).then(ids),
             OrderBy::ValueThenRelevance(key) => key
-                .compare(&self.value, &other.value)
-                .then(weight.then(id)),
-            OrderBy::RelevanceThenValue(key) => weight.then(
-                key.compare(&self.value, &other.value).then(id),
+                .compare(value, other.value.as_slice())
+                .then(weights.then(ids)),
+            OrderBy::RelevanceThenValue(key) => weights.then(
+                key.compare(value, other.value.as_slice()).then(ids),
             ),
         }
     }
 }
 
 impl SortKey {
-    fn compare(&self, value: &Bytes, other: &Bytes) -> Ordering
+    fn compare(&self, value: &[u8], other: &[u8]) -> Ordering
         ensures { result ≡ value_cmp self.now value.now other.now }
     {
         if self.reverse {
-            other.as_slice().cmp(value.as_slice())
+            other.cmp(value)
         } else {
-            value.as_slice().cmp(other.as_slice())
+            value.cmp(other)
         }
     }
 }

@@ -28,23 +28,20 @@ pub enum FieldKind {
     Word(u32),
 }
 
-/// Fields that were checked. Contracts see it as the list of its fields.
+/// Fields that were checked.
 #[derive(Debug, Drop)]
 pub struct Schema {
     fields: Items<Field>,
 }
 
 impl Model for Schema {
-    ghost use Rattle.std.specs.Prelude.{List};
-    ghost use Rattle.sk_base.specs.declared.schema.Field.{Field};
+    ghost use Rattle.sk_base.specs.Fields.{Schema, IsSchema};
 
-    ghost Value = { List Field };
+    ghost Value = { Schema };
 
-    ghost view = { λ s. s.fields };
+    ghost view = { λ s. record { fields = s.fields } };
 
-    ghost use Rattle.sk_base.specs.Fields.{IsSchema};
-
-    ghost invariant = { λ s. IsSchema s.fields };
+    ghost invariant = { λ s. IsSchema (record { fields = s.fields }) };
 }
 
 impl Schema {
@@ -52,7 +49,7 @@ impl Schema {
     pub fn check(fields: Vec<Field>) -> Option<Schema>
         requires some { 1 ≤ length fields.items }
         requires few { length fields.items ≤ 64 }
-        ensures { result ≡ (if are_fields fields.items then Some fields.items else None) }
+        ensures { result ≡ (if are_fields fields.items then Some (record { fields = fields.items }) else None) }
     {
         if are_fields(fields.as_slice()) {
             Some(Schema {
@@ -64,7 +61,7 @@ impl Schema {
     }
 
     pub fn fields(&self) -> &[Field]
-        ensures value { result.now ≡ self.now }
+        ensures value { result.now ≡ self.now.fields }
         ensures sound { IsSchema self.now }
     {
         self.fields.as_slice()
@@ -72,7 +69,7 @@ impl Schema {
 
     /// The place of the field with this name, from 0.
     pub fn find(&self, name: &str) -> Option<usize>
-        ensures { result ≡ place_of name.now self.now }
+        ensures { result ≡ place_of name.now self.now.fields }
     {
         self.fields
             .as_slice()

@@ -1,4 +1,4 @@
--- Documents of records, computed. (A text's words come from tables of characters, so rows with texts are in sk_rows and in stored runs.)
+-- Documents of records, computed. (A text's words come from tables of characters, so rows with texts are in try_rows and in stored runs.)
 use Rattle.std.proofs.Common.{◌≡◌, ℕ, List, [], ◌∷◌, codes, map, refl}
 use Rattle.sk_base.specs.declared.doc_entry.DocTerm.{DocTerm}
 use Rattle.sk_base.specs.declared.doc_entry.SlotValue.{SlotValue}
@@ -16,7 +16,7 @@ abbrev entry : ℕ → FieldValue → Entry
 entry place value = record { field = place; value = value }
 
 abbrev made : List FieldKind → List Entry → Document
-made kinds values = document_of (map of_kind kinds) (record { values = values; payload = [] })
+made kinds values = document_of (record { fields = map of_kind kinds }) (record { values = values; payload = [] })
 
 abbrev terms_made : List FieldKind → List Entry → List DocTerm
 terms_made kinds values = let doc : Document = made kinds values in doc.terms

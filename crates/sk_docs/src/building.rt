@@ -10,16 +10,15 @@ use std::alloc::{AllocError, Global};
 
 /// The document that the record makes under the schema.
 pub fn build(alloc: Global, schema: &Schema, given: Record) -> Result<Doc, AllocError>
-    requires fits { FitsValues schema.now given.values }
+    requires fits { FitsValues schema.now.fields given.values }
     ensures value { IfOk result (λ doc. doc ≡ document_of schema.now given) }
     ensures light { IfOk result (λ doc. (id : ℕ) → IsLight (id, doc)) }
 {
-    let fields = schema.fields();
     let Record { values, payload } = given;
     let values = values.as_slice();
     Ok(Doc {
-        terms: gathering::terms(alloc, fields, values)?,
-        values: slots::values(alloc, fields, values)?,
+        terms: gathering::terms(alloc, schema, values)?,
+        values: slots::values(alloc, schema.fields(), values)?,
         payload,
     })
 }

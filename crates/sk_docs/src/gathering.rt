@@ -12,20 +12,19 @@ ghost use Rattle.sk_base.specs.Loads.{AreLight};
 use crate::mentions::Mentions;
 use crate::taking::taken;
 use sk_base::{
-    DocTerms, Entry, Field, FieldKind, FieldValue, MOST_TERM, Text, into_prefixed, prefixed,
+    DocTerms, Entry, Field, FieldKind, FieldValue, MOST_TERM, Schema, Text, into_prefixed, prefixed,
 };
 use sk_text::{Word, words};
 use std::alloc::{AllocError, Global};
 
 /// The terms that the texts and the filters of a record give.
-pub fn terms(alloc: Global, fields: &[Field], values: &[Entry]) -> Result<DocTerms, AllocError>
-    requires sound { list_all is_field fields.now ≡ true }
-    requires few { length fields.now ≤ 64 }
+pub fn terms(alloc: Global, schema: &Schema, values: &[Entry]) -> Result<DocTerms, AllocError>
     requires rising { AllPairs (λ a b. a.field < b.field) values.now }
     requires small { bytes_of_values values.now ≤ most_bytes }
-    ensures value { IfOk result (λ terms. terms ≡ terms_of (mentions fields.now values.now)) }
+    ensures value { IfOk result (λ terms. terms ≡ terms_of (mentions schema.now values.now)) }
     ensures light { IfOk result (λ terms. AreLight terms) }
 {
+    let fields = schema.fields();
     let mut gathered = Mentions::new(alloc);
     note_texts(alloc, &mut gathered, fields, values)?;
     note_filters(alloc, &mut gathered, fields, values)?;

@@ -1,16 +1,16 @@
 -- Documents under one schema.
-use Rattle.std.specs.Prelude.{ℕ, ◌+◌, ◌≤◌, List}
+use Rattle.std.specs.Prelude.{ℕ, ◌+◌, ◌≤◌}
 use Rattle.std.specs.List.{AllByRecursion}
 use Rattle.sk_sorted.specs.Entries.{RiseAbove, LieBelow}
-use Rattle.sk_base.specs.declared.schema.Field.{Field}
+use Rattle.sk_base.specs.declared.schema.Schema.{Schema}
 use Rattle.sk_base.specs.Documents.{AreTerms}
 use Rattle.sk_base.specs.Loads.{IsLight}
 use Rattle.sk_model.specs.Documents.{Document}
 use Rattle.sk_model.specs.Edits.{Live, last_id}
 
--- The fields of the schema, the live documents, and what keeps them.
+-- The schema, the live documents, and what keeps them.
 pub record Documented (K : Type 0) : Type 0 where
-  pub fields : List Field
+  pub schema : Schema
   pub live : Live
   pub keeper : K
 

@@ -25,7 +25,7 @@ impl<K: Keeper> Model for Documents<K> {
 
     ghost Value = { Documented K };
 
-    ghost view = { λ d. record { fields = d.schema; live = record { documents = K.documents d.keeper; highest = d.highest }; keeper = d.keeper } };
+    ghost view = { λ d. record { schema = d.schema; live = record { documents = K.documents d.keeper; highest = d.highest }; keeper = d.keeper } };
 
     ghost invariant = { λ d. AreSound (record { documents = K.documents d.keeper; highest = d.highest }) };
 }
@@ -34,7 +34,7 @@ impl<K: Keeper> Documents<K> {
     /// No document. It takes no memory.
     pub fn new(alloc: Global, schema: Schema, keeper: K) -> Documents<K>
         requires { K.documents keeper ≡ [] }
-        ensures { result ≡ record { fields = schema; live = nothing_live; keeper = keeper } }
+        ensures { result ≡ record { schema = schema; live = nothing_live; keeper = keeper } }
     {
         Documents {
             alloc,
@@ -45,7 +45,7 @@ impl<K: Keeper> Documents<K> {
     }
 
     pub fn schema(&self) -> &Schema
-        ensures { result.now ≡ self.now.fields }
+        ensures { result.now ≡ self.now.schema }
     {
         &self.schema
     }

@@ -14,10 +14,10 @@ use std::alloc::AllocError;
 impl<K: Keeper> Documents<K> {
     /// Changes the documents. Where memory runs out they are given up.
     pub fn apply(self, edit: Edit) -> Result<(Documents<K>, Reply), AllocError>
-        requires fits { FitsEdit self.fields edit }
-        ensures live { IfOk result (λ p. p.0.live ≡ edited self.fields self.live edit) }
+        requires fits { FitsEdit self.schema edit }
+        ensures live { IfOk result (λ p. p.0.live ≡ edited self.schema self.live edit) }
         ensures reply { IfOk result (λ p. p.1 ≡ reply_to self.live edit) }
-        ensures schema { IfOk result (λ p. p.0.fields ≡ self.fields) }
+        ensures schema { IfOk result (λ p. p.0.schema ≡ self.schema) }
     {
         match edit {
             Edit::Add(given) => self.add(given),
@@ -29,10 +29,10 @@ impl<K: Keeper> Documents<K> {
     }
 
     fn add(self, given: Record) -> Result<(Documents<K>, Reply), AllocError>
-        requires fits { FitsValues self.fields given.values }
-        ensures live { IfOk result (λ p. p.0.live ≡ edited self.fields self.live (Edit.Add given)) }
+        requires fits { FitsValues self.schema.fields given.values }
+        ensures live { IfOk result (λ p. p.0.live ≡ edited self.schema self.live (Edit.Add given)) }
         ensures reply { IfOk result (λ p. p.1 ≡ reply_to self.live (Edit.Add given)) }
-        ensures schema { IfOk result (λ p. p.0.fields ≡ self.fields) }
+        ensures schema { IfOk result (λ p. p.0.schema ≡ self.schema) }
     {
         let doc = sk_docs::build(self.alloc, &self.schema, given)?;
         self.put_next(doc)
@@ -40,10 +40,10 @@ impl<K: Keeper> Documents<K> {
 
     fn replace(self, id: DocId, given: Record) -> Result<(Documents<K>, Reply), AllocError>
         requires id { 1 ≤ id }
-        requires fits { FitsValues self.fields given.values }
-        ensures live { IfOk result (λ p. p.0.live ≡ edited self.fields self.live (Edit.Replace id given)) }
+        requires fits { FitsValues self.schema.fields given.values }
+        ensures live { IfOk result (λ p. p.0.live ≡ edited self.schema self.live (Edit.Replace id given)) }
         ensures reply { IfOk result (λ p. p.1 ≡ reply_to self.live (Edit.Replace id given)) }
-        ensures schema { IfOk result (λ p. p.0.fields ≡ self.fields) }
+        ensures schema { IfOk result (λ p. p.0.schema ≡ self.schema) }
     {
         let doc = sk_docs::build(self.alloc, &self.schema, given)?;
         let documents = self.put(id, doc)?;
@@ -51,19 +51,19 @@ impl<K: Keeper> Documents<K> {
     }
 
     fn replace_by(self, term: &[u8], given: Record) -> Result<(Documents<K>, Reply), AllocError>
-        requires fits { FitsValues self.fields given.values }
-        ensures live { IfOk result (λ p. p.0.live ≡ edited self.fields self.live (Edit.ReplaceBy term.now given)) }
+        requires fits { FitsValues self.schema.fields given.values }
+        ensures live { IfOk result (λ p. p.0.live ≡ edited self.schema self.live (Edit.ReplaceBy term.now given)) }
         ensures reply { IfOk result (λ p. p.1 ≡ reply_to self.live (Edit.ReplaceBy term.now given)) }
-        ensures schema { IfOk result (λ p. p.0.fields ≡ self.fields) }
+        ensures schema { IfOk result (λ p. p.0.schema ≡ self.schema) }
     {
         let doc = sk_docs::build(self.alloc, &self.schema, given)?;
         self.put_first(term, doc)
     }
 
     fn delete(self, id: DocId) -> (Documents<K>, Reply)
-        ensures live { result.0.live ≡ edited self.fields self.live (Edit.Delete id) }
+        ensures live { result.0.live ≡ edited self.schema self.live (Edit.Delete id) }
         ensures reply { result.1 ≡ reply_to self.live (Edit.Delete id) }
-        ensures schema { result.0.fields ≡ self.fields }
+        ensures schema { result.0.schema ≡ self.schema }
     {
         let mut documents = self;
         if documents.remove(id) {
@@ -74,9 +74,9 @@ impl<K: Keeper> Documents<K> {
     }
 
     fn delete_by(self, term: &[u8]) -> Result<(Documents<K>, Reply), AllocError>
-        ensures live { IfOk result (λ p. p.0.live ≡ edited self.fields self.live (Edit.DeleteBy term.now)) }
+        ensures live { IfOk result (λ p. p.0.live ≡ edited self.schema self.live (Edit.DeleteBy term.now)) }
         ensures reply { IfOk result (λ p. p.1 ≡ reply_to self.live (Edit.DeleteBy term.now)) }
-        ensures schema { IfOk result (λ p. p.0.fields ≡ self.fields) }
+        ensures schema { IfOk result (λ p. p.0.schema ≡ self.schema) }
     {
         let mut documents = self;
         let ids = documents.remove_all(term)?;
@@ -88,7 +88,7 @@ impl<K: Keeper> Documents<K> {
         requires light { (id : ℕ) → IsLight (id, doc) }
         ensures live { IfOk result (λ p. p.0.live ≡ with_next self.live doc) }
         ensures reply { IfOk result (λ p. p.1 ≡ next_reply self.live) }
-        ensures schema { IfOk result (λ p. p.0.fields ≡ self.fields) }
+        ensures schema { IfOk result (λ p. p.0.schema ≡ self.schema) }
     {
         if self.highest == DocId::MAX {
             return Ok((self, Reply::NoIdLeft));
@@ -103,7 +103,7 @@ impl<K: Keeper> Documents<K> {
         requires light { (id : ℕ) → IsLight (id, doc) }
         ensures live { IfOk result (λ p. p.0.live ≡ with_first self.live doc term.now (first_with term.now self.live.documents)) }
         ensures reply { IfOk result (λ p. p.1 ≡ first_reply self.live (first_with term.now self.live.documents)) }
-        ensures schema { IfOk result (λ p. p.0.fields ≡ self.fields) }
+        ensures schema { IfOk result (λ p. p.0.schema ≡ self.schema) }
     {
         let mut documents = self;
         let ids = documents.remove_all(term)?;
@@ -120,7 +120,7 @@ impl<K: Keeper> Documents<K> {
         requires id { 1 ≤ id }
         requires light { (id : ℕ) → IsLight (id, doc) }
         ensures live { IfOk result (λ documents. documents.live ≡ with_document self.live id doc) }
-        ensures schema { IfOk result (λ documents. documents.fields ≡ self.fields) }
+        ensures schema { IfOk result (λ documents. documents.schema ≡ self.schema) }
     {
         let mut documents = self;
         documents.remove(id);
@@ -133,7 +133,7 @@ impl<K: Keeper> Documents<K> {
         requires free { document_at id self.live.documents ≡ None }
         requires light { (id : ℕ) → IsLight (id, doc) }
         ensures live { IfOk result (λ documents. documents.live ≡ with_document self.live id doc) }
-        ensures schema { IfOk result (λ documents. documents.fields ≡ self.fields) }
+        ensures schema { IfOk result (λ documents. documents.schema ≡ self.schema) }
     {
         let Documents {
             alloc,
@@ -157,7 +157,7 @@ impl<K: Keeper> Documents<K> {
         ensures there { result ≡ is_some (document_at id self.old.live.documents) }
         ensures free { document_at id self.new.live.documents ≡ None }
         ensures put_again { (document : Document) → put_document id document self.new.live.documents ≡ put_document id document self.old.live.documents }
-        ensures schema { self.new.fields ≡ self.old.fields }
+        ensures schema { self.new.schema ≡ self.old.schema }
     {
         self.keeper.remove(id)
     }
@@ -169,7 +169,7 @@ impl<K: Keeper> Documents<K> {
         ensures ids { IfOk result (λ ids. ids.items ≡ ids_with term.now self.old.live.documents) }
         ensures first { IfOk result (λ ids. (id : ℕ) → first_with term.now self.old.live.documents ≡ Some id → (1 ≤ id) × (id ≤ self.old.live.highest)) }
         ensures few { IfOk result (λ ids. length ids.items < 2 ^ 32) }
-        ensures schema { self.new.fields ≡ self.old.fields }
+        ensures schema { self.new.schema ≡ self.old.schema }
     {
         let ids = self.keeper.ids_with(term)?;
         self.remove_each(ids.as_slice());
@@ -179,7 +179,7 @@ impl<K: Keeper> Documents<K> {
     /// Removes the documents with these ids, the last first.
     fn remove_each(&mut self, ids: &[DocId])
         ensures live { self.new.live ≡ record { documents = without_ids ids.now self.old.live.documents; highest = self.old.live.highest } }
-        ensures schema { self.new.fields ≡ self.old.fields }
+        ensures schema { self.new.schema ≡ self.old.schema }
     {
         let mut i = ids.len();
         'ids: while i > 0 {

@@ -1,12 +1,12 @@
 //! A session: the documents under one schema.
 ghost use Rattle.std.specs.Prelude.{◌≡◌, IfOk};
 ghost use Rattle.sk_base.specs.Records.{FitsEdit, FitsFind};
-ghost use Rattle.sk_asked.specs.Asked.{asked};
+ghost use Rattle.sk_parser.specs.Asked.{asked};
 ghost use Rattle.sk_model.specs.Edits.{Live, nothing_live, edited, reply_to};
 ghost use Rattle.sk_run.specs.Asking.{Tells, Counts};
 ghost use Rattle.sk_engine.specs.Sessions.{SessionHolds, fields_of, MayFind};
 
-use sk_asked::{AskError, query_of};
+use sk_parser::{AskError, query_of};
 use sk_base::{Edit, Find, Reply, Report, Schema};
 use sk_index::Index;
 use sk_match::search;

@@ -1,6 +1,6 @@
 //! A session as the store of a run.
 use crate::Session;
-use sk_asked::AskError;
+use sk_parser::AskError;
 use sk_base::{Edit, Find, Reply, Report, Schema};
 use sk_run::{Response, Store};
 use sk_steps::Steps;

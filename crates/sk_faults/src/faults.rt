@@ -10,7 +10,7 @@ use crate::kinds::{
     is_close, is_item, is_joining, is_mark, is_mark_first, is_not, is_not_first, is_open,
     is_unit_first, is_word_first, leaves_of,
 };
-use sk_base::{Field, MOST_LEAVES};
+use sk_base::{MOST_LEAVES, Schema};
 use sk_grammar::{FaultKind, Kind, Token};
 
 /// How many brackets and marks stand one inside another at most.
@@ -72,11 +72,13 @@ fn is_bad_near(before: Before, kind: &Kind, behind: &[Token]) -> bool
     }
 }
 
-fn is_bad_range(fields: &[Field], kind: &Kind) -> bool
-    ensures { result ≡ is_bad_range fields.now kind.now }
+fn is_bad_range(schema: &Schema, kind: &Kind) -> bool
+    ensures { result ≡ is_bad_range schema.now kind.now }
 {
     match kind {
-        Kind::Range(field, text) => takes_numbers(fields, *field) && !are_numbers(text.as_str()),
+        Kind::Range(field, text) => {
+            takes_numbers(schema.fields(), *field) && !are_numbers(text.as_str())
+        }
         _ => false,
     }
 }
@@ -96,14 +98,14 @@ fn is_too_many(before: Before, kind: &Kind) -> bool
 
 /// The fault of a token, where it is known whether it opens a bracket that is never closed.
 fn fault_at(
-    fields: &[Field],
+    schema: &Schema,
     before: Before,
     kind: &Kind,
     behind: &[Token],
     unclosed: bool,
 ) -> Option<FaultKind>
     ensures value { (ks : List Kind) → Is before ks → unclosed ≡ is_unclosed ks kind.now (kinds_of behind.now)
-        → result ≡ fault_at fields.now ks kind.now (kinds_of behind.now) }
+        → result ≡ fault_at schema.now ks kind.now (kinds_of behind.now) }
     ensures few { result ≡ None → before.leaves ≤ 1024 → before.leaves + leaves_of kind.now ≤ 1024 }
     ensures closed { result ≡ None → unclosed ≡ false }
 {
@@ -115,7 +117,7 @@ fn fault_at(
         Some(FaultKind::MissingOperand)
     } else if is_bad_near(before, kind, behind) {
         Some(FaultKind::BadNear)
-    } else if is_bad_range(fields, kind) {
+    } else if is_bad_range(schema, kind) {
         Some(FaultKind::BadRange)
     } else if is_too_deep(before, kind) {
         Some(FaultKind::TooDeep)
@@ -174,15 +176,15 @@ fn behind(tokens: &[Token], i: usize) -> &[Token]
 }
 
 /// The fault at the least place, with the byte at which its token begins, or none where the tokens are a query.
-pub fn fault_in(fields: &[Field], tokens: &[Token]) -> Option<(FaultKind, usize)>
-    ensures { result ≡ fault_in fields.now tokens.now }
+pub fn fault_in(schema: &Schema, tokens: &[Token]) -> Option<(FaultKind, usize)>
+    ensures { result ≡ fault_in schema.now tokens.now }
 {
     let unclosed = first_unclosed(tokens);
     let mut before = Before::nothing();
     'tokens: for i in 0..tokens.len() {
         let token = &tokens[i];
         let behind = behind(tokens, i);
-        let fault = fault_at(fields, before, &token.kind, behind, is_at(unclosed, i));
+        let fault = fault_at(schema, before, &token.kind, behind, is_at(unclosed, i));
         if let Some(kind) = fault {
             return Some((kind, token.from));
         }

@@ -7,10 +7,9 @@ use Rattle.ucd_category.specs.GeneralCategoryRows.{general_category_rows}
 use lib.Utf8.{encode}
 use Rattle.sk_text.specs.Terms.{term_of}
 use Rattle.sk_grammar.specs.declared.token.Kind.{Kind}
-use Rattle.sk_grammar.specs.declared.token.Kind.TheVariants as Kind
 use Rattle.sk_grammar.specs.declared.token.Token.{Token}
 use Rattle.sk_grammar.specs.Cutting.{tokens_in}
-use Rattle.sk_grammar.proofs.ExampleFields.{fields}
+use Rattle.sk_grammar.proofs.ExampleFields.{schema}
 
 -- A text with its tokens.
 record Row : Type 0 where
@@ -26,7 +25,7 @@ cut text tokens = record { text = text; tokens = tokens }
 
 -- The tokens of these texts are those that stand beside them.
 abbrev AreCut : List Row → Type 0
-AreCut rows = map (λ (row : Row). tokens_in fields row.text) rows ≡ map Row.tokens rows
+AreCut rows = map (λ (row : Row). tokens_in schema row.text) rows ≡ map Row.tokens rows
 
 -- Words stand between other characters; a place is a byte.
 words : AreCut (

@@ -5,12 +5,10 @@ use Rattle.ucd_category.specs.GeneralCategory.{general_category}
 use Rattle.ucd_category.specs.GeneralCategoryRows.{general_category_rows}
 use lib.Utf8.{encode}
 use Rattle.sk_grammar.specs.declared.fault.FaultKind.{FaultKind}
-use Rattle.sk_grammar.specs.declared.fault.FaultKind.TheVariants as FaultKind
 use Rattle.sk_grammar.specs.declared.token.Kind.{Kind}
-use Rattle.sk_grammar.specs.declared.token.Kind.TheVariants as Kind
 use Rattle.sk_grammar.specs.Cutting.{tokens_in}
 use Rattle.sk_grammar.specs.Faults.{fault_at, fault_in}
-use Rattle.sk_grammar.proofs.ExampleFields.{fields}
+use Rattle.sk_grammar.proofs.ExampleFields.{schema}
 
 -- A text with its fault, and the byte of that.
 record Row : Type 0 where
@@ -22,7 +20,7 @@ row text fault = record { text = text; fault = fault }
 
 -- The faults of these texts are those that stand beside them.
 abbrev AreFaults : List Row → Type 0
-AreFaults rows = map (λ (r : Row). fault_in fields (tokens_in fields r.text)) rows ≡ map Row.fault rows
+AreFaults rows = map (λ (r : Row). fault_in schema (tokens_in schema r.text)) rows ≡ map Row.fault rows
 
 -- Texts without a fault.
 sound : AreFaults (
@@ -162,7 +160,7 @@ depths = refl
 
 -- So many words before a token.
 abbrev behind_words : ℕ → Kind → Option FaultKind
-behind_words n k = fault_at fields (replicate n (Kind.Word None [])) k []
+behind_words n k = fault_at schema (replicate n (Kind.Word None [])) k []
 
 -- Words without a text.
 abbrev several : ℕ → List (List ℕ)
@@ -181,6 +179,6 @@ once : behind_words 1025 (Kind.Word None []) ≡ None
 once = refl
 
 -- At one token the earlier row wins: a bracket that is never closed and too deep, a bad range that is one leaf too many, and an operator on one side of which nothing is right.
-one_place : fault_at fields (replicate 100 (Kind.Open None)) (Kind.Open None) [] ∷ behind_words 1024 (Kind.Range 3 (codes "x")) ∷ fault_at fields (Kind.Word None [] ∷ Kind.Adj 10 ∷ []) (Kind.Near 0) [] ∷ []
+one_place : fault_at schema (replicate 100 (Kind.Open None)) (Kind.Open None) [] ∷ behind_words 1024 (Kind.Range 3 (codes "x")) ∷ fault_at schema (Kind.Word None [] ∷ Kind.Adj 10 ∷ []) (Kind.Near 0) [] ∷ []
     ≡ Some FaultKind.UnclosedBracket ∷ Some FaultKind.BadRange ∷ Some FaultKind.BadNear ∷ []
 one_place = refl

@@ -6,13 +6,12 @@ use Rattle.std.specs.Option.{option_and_then}
 use Rattle.std.specs.Char.{is_whitespace}
 use Rattle.sk_base.proofs.Tests.{second_so}
 use Rattle.sk_base.specs.declared.schema.Field.{Field}
+use Rattle.sk_base.specs.declared.schema.Schema.{Schema}
 use Rattle.sk_base.specs.declared.schema.FieldKind.{FieldKind}
-use Rattle.sk_base.specs.declared.schema.FieldKind.TheVariants as FieldKind
 use Rattle.sk_base.specs.Names.{is_name_byte}
 use Rattle.sk_base.specs.Fields.{place_of}
 use Rattle.sk_text.specs.Characters.{is_word_char, belongs}
 use Rattle.sk_grammar.specs.declared.token.Kind.{Kind}
-use Rattle.sk_grammar.specs.declared.token.Kind.TheVariants as Kind
 use Rattle.sk_grammar.specs.Characters.{is_joiner, past_joiner, group_len, quote_len, is_good, runs_on, run_len, terms_in}
 use Rattle.sk_grammar.specs.Pieces.{Piece, token_piece, longer, is_starred, is_one, first_term, group_kind, group_of_len, group_piece, text_piece, filter_piece, range_piece, value_piece, colon_piece, field_piece, mark_piece, takes_mark, is_marked, last_piece, piece_at}
 
@@ -116,23 +115,23 @@ pub field_value_takes : (f : ℕ) (o : Option Field) (cs : List ℕ) → IfSome 
 field_value_takes f None cs = tt
 field_value_takes f (Some field) cs = value_takes f (Field.kind field) cs
 
-pub colon_takes : (fields : List Field) (f : ℕ) (cs : List ℕ) → IfSome (colon_piece fields f cs) (Takes (length cs))
-colon_takes fields f [] = tt
-colon_takes fields f (c ∷ cs) =
-    if_some (suc (length cs)) (c == 58) _ _ (λ _. more_takes _ 1 (length cs) (suc (length cs)) (omega arith) (field_value_takes f (slice_get fields f) cs)) (λ _. tt)
+pub colon_takes : (schema : Schema) (f : ℕ) (cs : List ℕ) → IfSome (colon_piece schema f cs) (Takes (length cs))
+colon_takes schema f [] = tt
+colon_takes schema f (c ∷ cs) =
+    if_some (suc (length cs)) (c == 58) _ _ (λ _. more_takes _ 1 (length cs) (suc (length cs)) (omega arith) (field_value_takes f (slice_get schema.fields f) cs)) (λ _. tt)
 
 -- The piece behind a name, if it is a field's.
-named_takes : (fields : List Field) (o : Option ℕ) (cs : List ℕ) → IfSome (option_and_then (λ f. colon_piece fields f cs) o) (Takes (length cs))
-named_takes fields None cs = tt
-named_takes fields (Some f) cs = colon_takes fields f cs
+named_takes : (schema : Schema) (o : Option ℕ) (cs : List ℕ) → IfSome (option_and_then (λ f. colon_piece schema f cs) o) (Takes (length cs))
+named_takes schema None cs = tt
+named_takes schema (Some f) cs = colon_takes schema f cs
 
-field_takes : (fields : List Field) (cs : List ℕ) → IfSome (field_piece fields cs) (Takes (length cs))
-field_takes fields cs =
+field_takes : (schema : Schema) (cs : List ℕ) → IfSome (field_piece schema cs) (Takes (length cs))
+field_takes schema cs =
     let n : ℕ = prefix_len is_name_byte cs in
     let whole : n ≤ length cs = prefix_len-le-length is_name_byte cs in
     let rest : length (drop n cs) ≡ length cs - n = length-drop n cs in
-    more_takes (option_and_then (λ f. colon_piece fields f (drop n cs)) (place_of (encode_utf8_all (take n cs)) fields)) n (length (drop n cs)) (length cs) (omega arith)
-    (named_takes fields (place_of (encode_utf8_all (take n cs)) fields) (drop n cs))
+    more_takes (option_and_then (λ f. colon_piece schema f (drop n cs)) (place_of (encode_utf8_all (take n cs)) schema.fields)) n (length (drop n cs)) (length cs) (omega arith)
+    (named_takes schema (place_of (encode_utf8_all (take n cs)) schema.fields) (drop n cs))
 
 mark_takes : (previous : Option ℕ) (c : ℕ) (cs : List ℕ) → IfSome (mark_piece previous c cs) (Takes (suc (length cs)))
 mark_takes previous c cs =
@@ -147,11 +146,11 @@ last_takes : (c : ℕ) (cs : List ℕ) → Takes (suc (length cs)) (last_piece c
 last_takes c cs = if_takes (suc (length cs)) (is_word_char c) _ _ (λ e. group_takes None c cs e) (λ _. one_takes (length cs) None)
 
 -- The piece at a place has the character there, and no more than there are.
-pub piece_takes : (fields : List Field) (previous : Option ℕ) (c : ℕ) (cs : List ℕ) → Takes (suc (length cs)) (piece_at fields previous c cs)
-piece_takes fields previous c cs =
+pub piece_takes : (schema : Schema) (previous : Option ℕ) (c : ℕ) (cs : List ℕ) → Takes (suc (length cs)) (piece_at schema previous c cs)
+piece_takes schema previous c cs =
     if_takes (suc (length cs)) (is_whitespace c) _ _ (λ _. one_takes (length cs) None) (λ _.
     if_takes (suc (length cs)) (c == 34) _ _ (λ _.
     if_takes (suc (length cs)) (is_good cs) _ _ (λ _. record { some = (quote_fits cs).0; whole = (quote_fits cs).1 }) (λ _. record { some = (quote_fits cs).0; whole = (quote_fits cs).1 })) (λ _.
     if_takes (suc (length cs)) (c == 40) _ _ (λ _. one_takes (length cs) (Some (Kind.Open None))) (λ _.
     if_takes (suc (length cs)) (c == 41) _ _ (λ _. one_takes (length cs) (Some Kind.Close)) (λ _.
-    or_takes (suc (length cs)) (mark_piece previous c cs) _ (mark_takes previous c cs) (or_takes (suc (length cs)) (field_piece fields (c ∷ cs)) _ (field_takes fields (c ∷ cs)) (last_takes c cs))))))
+    or_takes (suc (length cs)) (mark_piece previous c cs) _ (mark_takes previous c cs) (or_takes (suc (length cs)) (field_piece schema (c ∷ cs)) _ (field_takes schema (c ∷ cs)) (last_takes c cs))))))

@@ -6,12 +6,11 @@ use Rattle.ucd_category.specs.GeneralCategoryRows.{general_category_rows}
 use lib.Utf8.{encode}
 use Rattle.sk_text.specs.Terms.{term_of}
 use Rattle.sk_base.specs.declared.find.Join.{Join}
-use Rattle.sk_base.specs.declared.find.Join.TheVariants as Join
 use Rattle.sk_query.specs.declared.form.Form.TheVariants as Form
 use Rattle.sk_query.specs.Trees.{Tree, nothing, all, term, wildcard, near, phrase, range, unbounded, number, bytes, trees_from, parts}
 use Rattle.sk_grammar.specs.Cutting.{tokens_in}
 use Rattle.sk_grammar.specs.Meaning.{meant_in}
-use Rattle.sk_grammar.proofs.ExampleFields.{fields}
+use Rattle.sk_grammar.proofs.ExampleFields.{schema}
 
 -- A text with its query.
 record Row : Type 0 where
@@ -26,7 +25,7 @@ refused text = record { text = text; query = None }
 
 -- The queries of these texts are those that stand beside them.
 abbrev AreMeant : Join → List Row → Type 0
-AreMeant join rows = map (λ (r : Row). meant_in fields join (tokens_in fields r.text)) rows ≡ map Row.query rows
+AreMeant join rows = map (λ (r : Row). meant_in schema join (tokens_in schema r.text)) rows ≡ map Row.query rows
 
 -- A text with a fault has none.
 none : AreMeant Join.Or (

@@ -1,7 +1,6 @@
 -- The brackets of a list of tokens as a tree.
 use Rattle.std.specs.Prelude.{ℕ, List, [], ◌∷◌, Option}
 use Rattle.sk_grammar.specs.declared.token.Kind.{Kind}
-use Rattle.sk_grammar.specs.declared.token.Kind.TheVariants as Kind
 
 mutual
   -- A token that is no bracket, or a bracket with its field and what stands inside.

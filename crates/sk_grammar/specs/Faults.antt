@@ -1,13 +1,12 @@
 -- When a text is no query: each fault as a test of one token, by the tokens before it (the nearest first) and those behind it.
-use Rattle.std.specs.Prelude.{ℕ, zero, suc, pred, ◌+◌, ◌==◌, ◌&&◌, ◌||◌, not, nat_lt, nat_le, Bool, true, false, List, [], ◌∷◌, length, map, if◌then◌else◌, Option, Some, None}
+use Rattle.std.specs.Prelude.{ℕ, suc, pred, ◌+◌, ◌==◌, ◌&&◌, ◌||◌, not, nat_lt, nat_le, Bool, true, false, List, [], ◌∷◌, length, map, if◌then◌else◌, Option, Some, None}
 use Rattle.std.specs.List.{slice_get}
 use Rattle.sk_base.specs.declared.schema.Field.{Field}
+use Rattle.sk_base.specs.declared.schema.Schema.{Schema}
 use Rattle.sk_grammar.specs.Bounds.{halves, is_number_kind, are_numbers}
 use Rattle.sk_grammar.specs.Cutting.{tokens_of}
 use Rattle.sk_grammar.specs.declared.fault.FaultKind.{FaultKind}
-use Rattle.sk_grammar.specs.declared.fault.FaultKind.TheVariants as FaultKind
 use Rattle.sk_grammar.specs.declared.token.Kind.{Kind}
-use Rattle.sk_grammar.specs.declared.token.Kind.TheVariants as Kind
 use Rattle.sk_grammar.specs.declared.token.Token.{Token}
 
 -- A word, a filter or a range, alone or several: what a query is made of.
@@ -153,9 +152,9 @@ takes_numbers None = false
 takes_numbers (Some field) = is_number_kind (Field.kind field)
 
 -- A range on a field of numbers has a bound that is no number.
-abbrev pub is_bad_range : List Field → Kind → Bool
-is_bad_range fields (Kind.Range f text) = takes_numbers (slice_get fields f) && not (are_numbers (halves text))
-is_bad_range fields _ = false
+abbrev pub is_bad_range : Schema → Kind → Bool
+is_bad_range schema (Kind.Range f text) = takes_numbers (slice_get schema.fields f) && not (are_numbers (halves text))
+is_bad_range schema _ = false
 
 -- A bracket opens, and 100 are open already.
 abbrev pub is_too_deep : List Kind → Kind → Bool
@@ -166,13 +165,13 @@ abbrev pub is_too_many : List Kind → Kind → Bool
 is_too_many before k = is_item k && nat_le (leaves_in before) 1024 && nat_lt 1024 (leaves_in before + leaves_of k)
 
 -- The fault of a token: the first of these that it has.
-abbrev pub fault_at : List Field → List Kind → Kind → List Kind → Option FaultKind
-fault_at fields before k behind =
+abbrev pub fault_at : Schema → List Kind → Kind → List Kind → Option FaultKind
+fault_at schema before k behind =
     if is_stray before k then Some FaultKind.StrayBracket
     else (if is_unclosed before k behind then Some FaultKind.UnclosedBracket
     else (if lacks_operand before k behind then Some FaultKind.MissingOperand
     else (if is_bad_near before k behind then Some FaultKind.BadNear
-    else (if is_bad_range fields k then Some FaultKind.BadRange
+    else (if is_bad_range schema k then Some FaultKind.BadRange
     else (if is_too_deep before k then Some FaultKind.TooDeep
     else (if is_too_many before k then Some FaultKind.TooMany
     else None))))))
@@ -187,15 +186,15 @@ fault_or None place later = later
 fault_or (Some fault) place later = Some (fault, place)
 
 -- The first fault in tokens behind others, the last of which stands first, with the byte of its token.
-abbrev pub fault_behind : List Field → List Kind → List Token → Option (FaultKind × ℕ)
-fault_behind fields before [] = None
-fault_behind fields before (t ∷ ts) =
-    fault_or (fault_at fields before (Token.kind t) (kinds_of ts)) (Token.from t) (fault_behind fields (Token.kind t ∷ before) ts)
+abbrev pub fault_behind : Schema → List Kind → List Token → Option (FaultKind × ℕ)
+fault_behind schema before [] = None
+fault_behind schema before (t ∷ ts) =
+    fault_or (fault_at schema before (Token.kind t) (kinds_of ts)) (Token.from t) (fault_behind schema (Token.kind t ∷ before) ts)
 
 -- The fault of tokens.
-abbrev pub fault_in : List Field → List Token → Option (FaultKind × ℕ)
-fault_in fields tokens = fault_behind fields [] tokens
+abbrev pub fault_in : Schema → List Token → Option (FaultKind × ℕ)
+fault_in schema tokens = fault_behind schema [] tokens
 
 -- The fault of a text with its byte: the one at the least place, and there the first of the table; none where the text is a query.
-abbrev pub fault_of : List Field → List ℕ → Option (FaultKind × ℕ)
-fault_of fields text = fault_in fields (tokens_of fields text)
+abbrev pub fault_of : Schema → List ℕ → Option (FaultKind × ℕ)
+fault_of schema text = fault_in schema (tokens_of schema text)

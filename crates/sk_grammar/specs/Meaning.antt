@@ -1,12 +1,11 @@
 -- The query of a text, by splitting.
-use Rattle.std.specs.Prelude.{ℕ, ◌&&◌, not, Bool, true, false, List, [], ◌∷◌, map, reverse, filter, if◌then◌else◌, Option, Some, None}
-use Rattle.sk_base.specs.declared.schema.Field.{Field}
+use Rattle.std.specs.Prelude.{ℕ, not, Bool, true, false, List, [], ◌∷◌, map, reverse, filter, if◌then◌else◌, Option, Some, None}
+use Rattle.sk_base.specs.declared.schema.Schema.{Schema}
 use Rattle.sk_base.specs.declared.find.Join.{Join}
 use Rattle.sk_query.specs.declared.form.Form.TheVariants as Form
 use Rattle.sk_query.specs.Trees.{Tree}
 use Rattle.sk_grammar.specs.declared.fault.FaultKind.{FaultKind}
 use Rattle.sk_grammar.specs.declared.token.Kind.{Kind}
-use Rattle.sk_grammar.specs.declared.token.Kind.TheVariants as Kind
 use Rattle.sk_grammar.specs.declared.token.Token.{Token}
 use Rattle.sk_grammar.specs.Cutting.{tokens_of}
 use Rattle.sk_grammar.specs.Faults.{is_not, kinds_of, fault_in}
@@ -95,27 +94,27 @@ closed_part join (p ∷ ps) = unit (parts_tree join (reverse (p ∷ ps)))
 
 abbrev mutual
   -- The part that a token or a bracket is, where the brackets around it give this prefix. What a bracket's own field says holds inside.
-  pub nest_part : List Field → Join → List ℕ → Nest → Part
-  nest_part fields join around (single k) = part_of fields around k
-  nest_part fields join around (bracket field ns) = closed_part join (chained [] (nest_parts fields join (prefix_in fields around field) ns))
+  pub nest_part : Schema → Join → List ℕ → Nest → Part
+  nest_part schema join around (single k) = part_of schema around k
+  nest_part schema join around (bracket field ns) = closed_part join (chained [] (nest_parts schema join (prefix_in schema around field) ns))
 
-  pub nest_parts : List Field → Join → List ℕ → Nests → List Part
-  nest_parts fields join around no_nests = []
-  nest_parts fields join around (nest n ns) = nest_part fields join around n ∷ nest_parts fields join around ns
+  pub nest_parts : Schema → Join → List ℕ → Nests → List Part
+  nest_parts schema join around no_nests = []
+  nest_parts schema join around (nest n ns) = nest_part schema join around n ∷ nest_parts schema join around ns
 
 -- The query of tokens without a fault, by their kinds.
-abbrev pub tree_in : List Field → Join → List Kind → Tree
-tree_in fields join ks = parts_tree join (reverse (chained [] (nest_parts fields join [] (Levels.here (levels_of ks)))))
+abbrev pub tree_in : Schema → Join → List Kind → Tree
+tree_in schema join ks = parts_tree join (reverse (chained [] (nest_parts schema join [] (Levels.here (levels_of ks)))))
 
 -- The query of tokens that have this fault or none.
-abbrev pub meant_or : List Field → Join → Option (FaultKind × ℕ) → List Token → Option Tree
-meant_or fields join None tokens = Some (tree_in fields join (kinds_of tokens))
-meant_or fields join (Some fault) tokens = None
+abbrev pub meant_or : Schema → Join → Option (FaultKind × ℕ) → List Token → Option Tree
+meant_or schema join None tokens = Some (tree_in schema join (kinds_of tokens))
+meant_or schema join (Some fault) tokens = None
 
 -- The query of tokens, where they have no fault.
-abbrev pub meant_in : List Field → Join → List Token → Option Tree
-meant_in fields join tokens = meant_or fields join (fault_in fields tokens) tokens
+abbrev pub meant_in : Schema → Join → List Token → Option Tree
+meant_in schema join tokens = meant_or schema join (fault_in schema tokens) tokens
 
 -- The query of a text, where it has no fault.
-abbrev pub query_meant : List Field → Join → List ℕ → Option Tree
-query_meant fields join text = meant_in fields join (tokens_of fields text)
+abbrev pub query_meant : Schema → Join → List ℕ → Option Tree
+query_meant schema join text = meant_in schema join (tokens_of schema text)

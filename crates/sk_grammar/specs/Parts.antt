@@ -3,12 +3,12 @@ use Rattle.std.specs.Prelude.{ℕ, ◌+◌, ◌-◌, max, Bool, true, false, Lis
 use Rattle.std.specs.List.{slice_get}
 use Rattle.std.specs.Str.Parse.{digits_value}
 use Rattle.sk_base.specs.declared.schema.Field.{Field}
+use Rattle.sk_base.specs.declared.schema.Schema.{Schema}
 use Rattle.sk_base.specs.declared.schema.FieldKind.{FieldKind}
 use Rattle.sk_base.specs.Fields.{kind_prefix, kind_slot}
 use Rattle.sk_base.specs.Terms.{prefixed}
 use Rattle.sk_query.specs.Trees.{Tree, nothing, term, wildcard, near, phrase, range, Limit, unbounded, number, bytes}
 use Rattle.sk_grammar.specs.declared.token.Kind.{Kind}
-use Rattle.sk_grammar.specs.declared.token.Kind.TheVariants as Kind
 use Rattle.sk_grammar.specs.Bounds.{halves, is_number_kind}
 
 -- A part of a list of tokens.
@@ -32,9 +32,9 @@ prefix_of None = []
 prefix_of (Some field) = kind_prefix (Field.kind field)
 
 -- The prefix under a token's own field, or else the one of the brackets around it.
-abbrev pub prefix_in : List Field → List ℕ → Option ℕ → List ℕ
-prefix_in fields around None = around
-prefix_in fields around (Some f) = prefix_of (slice_get fields f)
+abbrev pub prefix_in : Schema → List ℕ → Option ℕ → List ℕ
+prefix_in schema around None = around
+prefix_in schema around (Some f) = prefix_of (slice_get schema.fields f)
 
 -- Words that stand side by side: in their order, within as many places as there are words; one word is a term.
 abbrev pub side_by_side : List (List ℕ) → Tree
@@ -62,16 +62,16 @@ abbrev pub all_prefixed : List ℕ → List (List ℕ) → List (List ℕ)
 all_prefixed prefix terms = map (prefixed prefix) terms
 
 -- The part that a token is, which is no bracket, where the brackets around it give this prefix.
-abbrev pub part_of : List Field → List ℕ → Kind → Part
-part_of fields around (Kind.Word field t) = chain false 0 (prefixed (prefix_in fields around field) t ∷ [])
-part_of fields around (Kind.Wild field t) = unit (wildcard (prefixed (prefix_in fields around field) t))
-part_of fields around (Kind.Joined field ts) = unit (side_by_side (all_prefixed (prefix_in fields around field) ts))
-part_of fields around (Kind.Quote field ts) = unit (side_by_side (all_prefixed (prefix_in fields around field) ts))
-part_of fields around (Kind.Filter f text) = chosen f (term (prefixed (prefix_of (slice_get fields f)) text))
-part_of fields around (Kind.Range f text) = chosen f (range_in (slice_get fields f) text)
-part_of fields around (Kind.Near n) = link false n
-part_of fields around (Kind.Adj n) = link true n
-part_of fields around k = operator k
+abbrev pub part_of : Schema → List ℕ → Kind → Part
+part_of schema around (Kind.Word field t) = chain false 0 (prefixed (prefix_in schema around field) t ∷ [])
+part_of schema around (Kind.Wild field t) = unit (wildcard (prefixed (prefix_in schema around field) t))
+part_of schema around (Kind.Joined field ts) = unit (side_by_side (all_prefixed (prefix_in schema around field) ts))
+part_of schema around (Kind.Quote field ts) = unit (side_by_side (all_prefixed (prefix_in schema around field) ts))
+part_of schema around (Kind.Filter f text) = chosen f (term (prefixed (prefix_of (slice_get schema.fields f)) text))
+part_of schema around (Kind.Range f text) = chosen f (range_in (slice_get schema.fields f) text)
+part_of schema around (Kind.Near n) = link false n
+part_of schema around (Kind.Adj n) = link true n
+part_of schema around k = operator k
 
 -- Words behind a link, with what stands before that, the last first: they go to the chain there, which then has the greater distance.
 abbrev pub linked : Bool → ℕ → List Part → Bool → ℕ → List (List ℕ) → List Part

@@ -5,13 +5,12 @@ use Rattle.std.specs.Option.{option_and_then}
 use Rattle.std.specs.Char.{is_whitespace, is_ascii_digit}
 use Rattle.std.specs.Str.Parse.{digits_value}
 use Rattle.sk_base.specs.declared.schema.Field.{Field}
+use Rattle.sk_base.specs.declared.schema.Schema.{Schema}
 use Rattle.sk_base.specs.declared.schema.FieldKind.{FieldKind}
-use Rattle.sk_base.specs.declared.schema.FieldKind.TheVariants as FieldKind
 use Rattle.sk_base.specs.Fields.{place_of}
 use Rattle.sk_base.specs.Names.{is_name_byte}
 use Rattle.sk_text.specs.Characters.{is_word_char, begins_word}
 use Rattle.sk_grammar.specs.declared.token.Kind.{Kind}
-use Rattle.sk_grammar.specs.declared.token.Kind.TheVariants as Kind
 use Rattle.sk_grammar.specs.Characters.{group_len, inner, quote_len, is_good, runs_on, run_len, terms_in}
 
 -- A piece of a text: a token, or none where it separates, and how many characters it has.
@@ -124,20 +123,20 @@ value_piece f (FieldKind.Number slot) cs = range_piece f cs
 value_piece f (FieldKind.Word slot) cs = range_piece f cs
 
 -- Behind the name of the field at this place of the schema: a colon (58), and what the field's kind needs.
-abbrev pub colon_piece : List Field → ℕ → List ℕ → Option Piece
-colon_piece fields f [] = None
-colon_piece fields f (c ∷ cs) =
-    if c == 58 then option_map (longer 1) (option_and_then (λ field. value_piece f (Field.kind field) cs) (slice_get fields f))
+abbrev pub colon_piece : Schema → ℕ → List ℕ → Option Piece
+colon_piece schema f [] = None
+colon_piece schema f (c ∷ cs) =
+    if c == 58 then option_map (longer 1) (option_and_then (λ field. value_piece f (Field.kind field) cs) (slice_get schema.fields f))
     else None
 
 -- Behind a name of so many characters.
-abbrev pub named_piece : List Field → ℕ → List ℕ → Option Piece
-named_piece fields n cs =
-    option_map (longer n) (option_and_then (λ f. colon_piece fields f (drop n cs)) (place_of (encode_utf8_all (take n cs)) fields))
+abbrev pub named_piece : Schema → ℕ → List ℕ → Option Piece
+named_piece schema n cs =
+    option_map (longer n) (option_and_then (λ f. colon_piece schema f (drop n cs)) (place_of (encode_utf8_all (take n cs)) schema.fields))
 
 -- A field's name, which is the longest run of a to z, 0 to 9 and `_`, a colon, and what the field's kind needs.
-abbrev pub field_piece : List Field → List ℕ → Option Piece
-field_piece fields cs = named_piece fields (prefix_len is_name_byte cs) cs
+abbrev pub field_piece : Schema → List ℕ → Option Piece
+field_piece schema cs = named_piece schema (prefix_len is_name_byte cs) cs
 
 -- A mark may stand behind nothing, white space or `(` (40).
 abbrev pub takes_mark : Option ℕ → Bool
@@ -160,10 +159,10 @@ abbrev pub last_piece : ℕ → List ℕ → Piece
 last_piece c cs = if is_word_char c then group_piece None (c ∷ cs) else separator 1
 
 -- The piece at a place, by the character before it, the character there and those behind: the first row that applies.
-abbrev pub piece_at : List Field → Option ℕ → ℕ → List ℕ → Piece
-piece_at fields previous c cs =
+abbrev pub piece_at : Schema → Option ℕ → ℕ → List ℕ → Piece
+piece_at schema previous c cs =
     if is_whitespace c then separator 1
     else (if c == 34 then (if is_good cs then quote_piece None cs else separator (quote_len cs))
     else (if c == 40 then token_piece (Kind.Open None) 1
     else (if c == 41 then token_piece Kind.Close 1
-    else unwrap_or (mark_piece previous c cs) (unwrap_or (field_piece fields (c ∷ cs)) (last_piece c cs)))))
+    else unwrap_or (mark_piece previous c cs) (unwrap_or (field_piece schema (c ∷ cs)) (last_piece c cs)))))

@@ -1,14 +1,10 @@
 -- The query of a run: its units, by their marks.
-use Rattle.std.specs.Prelude.{ℕ, ◌==◌, ◌&&◌, ◌||◌, not, Bool, true, false, List, [], ◌∷◌, ◌++◌, map, filter, if◌then◌else◌, Option, Some, None, is_some, is_none}
+use Rattle.std.specs.Prelude.{ℕ, ◌==◌, ◌&&◌, not, Bool, true, false, List, [], ◌∷◌, ◌++◌, map, filter, if◌then◌else◌, Option, Some, None, is_some, is_none}
 use Rattle.sk_base.specs.declared.find.Join.{Join}
-use Rattle.sk_base.specs.declared.find.Join.TheVariants as Join
 use Rattle.sk_query.specs.declared.form.Form.{Form}
-use Rattle.sk_query.specs.declared.form.Form.TheVariants as Form
-use Rattle.sk_query.specs.Trees.{Tree, nothing, all, parts, Trees, no_trees, tree, trees_from}
+use Rattle.sk_query.specs.Trees.{Tree, nothing, all, parts, no_trees, tree, trees_from}
 use Rattle.sk_grammar.specs.declared.token.Kind.{Kind}
-use Rattle.sk_grammar.specs.declared.token.Kind.TheVariants as Kind
 use Rattle.sk_grammar.specs.declared.token.Mark.{Mark}
-use Rattle.sk_grammar.specs.declared.token.Mark.TheVariants as Mark
 use Rattle.sk_grammar.specs.Parts.{Part, chain, unit, chosen, empty, link, operator, chain_tree}
 
 -- A unit of a run: its mark, its field where it is a filter or a range, and its query.

@@ -13,7 +13,7 @@ use Rattle.sk_base.specs.Documents.{AreTerms, has_term, wdf_of}
 use Rattle.sk_dict.specs.Terms.{term_at, number_of, number_for, with_term}
 use Rattle.sk_dict.proofs.NumberLaws.{number_of-Some, number_of-term_at, number_of-added, absent_from-number_of}
 use Rattle.sk_sorted.specs.Entries.{put, without}
-use Rattle.sk_runs.specs.Runs.{flat}
+use Rattle.sk_sorted.specs.Runs.{flat}
 use Rattle.sk_chunks.specs.Postings.{Postings}
 use Rattle.sk_lists.specs.Lists.{Runs}
 use Rattle.sk_index.specs.Listed.{Listed, list_under, list_of, IsListed, IsEdited, Puts, TakesOut, PutsAll, TakesOutAll}

@@ -10,7 +10,7 @@ use Rattle.sk_sorted.proofs.PickedLaws.{with_picked, without_picked, picked-put,
 use Rattle.sk_base.specs.declared.doc_entry.SlotValue.{SlotValue}
 use Rattle.sk_base.specs.Documents.{has_term, wdf_of, has_value, value_in}
 use Rattle.sk_base.specs.Numbers.{Docs}
-use Rattle.sk_runs.specs.Runs.{flat}
+use Rattle.sk_sorted.specs.Runs.{flat}
 use Rattle.sk_chunks.specs.Postings.{Postings}
 use Rattle.sk_lists.specs.Lists.{Runs}
 use Rattle.sk_values.specs.SlotValues.{SlotValues, found_value}

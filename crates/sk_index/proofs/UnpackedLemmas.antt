@@ -14,7 +14,7 @@ use Rattle.sk_dict.proofs.NumberLaws.{term_at-kept}
 use Rattle.sk_documents.specs.Documented.{HasTerms}
 use Rattle.sk_model.specs.Documents.{Document}
 use Rattle.sk_model.specs.Edits.{document_at, put_document, without_id}
-use Rattle.sk_runs.specs.Runs.{flat}
+use Rattle.sk_sorted.specs.Runs.{flat}
 use Rattle.sk_lists.specs.Lists.{Runs}
 use Rattle.sk_index.specs.declared.slot_lists.SlotEntry.{SlotEntry}
 use Rattle.sk_index.specs.Packed.{NumberedTerm, no_term, numbered_at, AreKnown}

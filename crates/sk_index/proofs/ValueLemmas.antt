@@ -8,7 +8,7 @@ use Rattle.sk_base.specs.declared.doc_entry.SlotValue.{SlotValue}
 use Rattle.sk_base.specs.Documents.{AreValues, has_value, value_in}
 use Rattle.sk_sorted.specs.Entries.{put, found}
 use Rattle.sk_sorted.proofs.EntryLaws.{found-put, found-put_other, found-without_other}
-use Rattle.sk_runs.specs.Runs.{flat}
+use Rattle.sk_sorted.specs.Runs.{flat}
 use Rattle.sk_index.specs.declared.slot_lists.SlotEntry.{SlotEntry}
 use Rattle.sk_index.specs.Slotted.{slot_list, SetsAll, ClearsAll, RiseFrom, values_at, KeepsOthers, IsNowhere}
 

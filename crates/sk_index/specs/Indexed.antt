@@ -4,7 +4,7 @@ use Rattle.std.specs.List.{filter_map, list_any}
 use Rattle.sk_chunks.specs.Postings.{Postings}
 use Rattle.sk_lists.specs.Lists.{Runs}
 use Rattle.sk_values.specs.SlotValues.{SlotValues, SlotRuns}
-use Rattle.sk_base.specs.declared.schema.Field.{Field}
+use Rattle.sk_base.specs.declared.schema.Schema.{Schema}
 use Rattle.sk_base.specs.Documents.{has_term, wdf_of, positions_of, begins_with, has_value, value_in}
 use Rattle.sk_base.specs.declared.doc_entry.DocTerm.{DocTerm}
 use Rattle.sk_base.specs.Numbers.{Docs, length_of, greatest_of, some_has, terms_with}
@@ -15,10 +15,10 @@ use Rattle.sk_model.specs.Scores.{wild_wdf}
 use Rattle.sk_index.specs.declared.slot_lists.SlotEntry.{SlotEntry}
 use Rattle.sk_index.specs.Slotted.{slot_pieces}
 
--- What an index holds: the fields of its schema, the live documents, the terms that were given a number, by number, and
+-- What an index holds: the schema, the live documents, the terms that were given a number, by number, and
 -- how the list of all documents, that of each term and that of each slot are cut.
 pub record Indexed : Type 0 where
-  pub fields : List Field
+  pub schema : Schema
   pub live : Live
   pub terms : List (List ℕ)
   pub all : Runs

@@ -5,7 +5,7 @@ use Rattle.sk_base.specs.declared.doc_entry.DocTerm.{DocTerm}
 use Rattle.sk_base.specs.Documents.{has_term, wdf_of}
 use Rattle.sk_dict.specs.Terms.{number_of}
 use Rattle.sk_sorted.specs.Entries.{put, without}
-use Rattle.sk_runs.specs.Runs.{flat}
+use Rattle.sk_sorted.specs.Runs.{flat}
 use Rattle.sk_chunks.specs.Postings.{Postings}
 use Rattle.sk_lists.specs.Lists.{Runs}
 

@@ -4,7 +4,7 @@ use Rattle.std.specs.List.{filter_map}
 use Rattle.sk_base.specs.declared.doc_entry.SlotValue.{SlotValue}
 use Rattle.sk_base.specs.Documents.{has_value, value_in}
 use Rattle.sk_sorted.specs.Entries.{put, without, found}
-use Rattle.sk_runs.specs.Runs.{flat}
+use Rattle.sk_sorted.specs.Runs.{flat}
 use Rattle.sk_values.specs.SlotValues.{SlotValues, SlotRuns}
 use Rattle.sk_index.specs.declared.slot_lists.SlotEntry.{SlotEntry}
 

@@ -1,7 +1,7 @@
 -- What the lists of an index are to its documents.
 use Rattle.std.specs.Prelude.{◌≡◌, ℕ, List}
 use Rattle.sk_base.specs.Numbers.{Docs}
-use Rattle.sk_runs.specs.Runs.{flat}
+use Rattle.sk_sorted.specs.Runs.{flat}
 use Rattle.sk_lists.specs.Lists.{Runs}
 use Rattle.sk_index.specs.declared.slot_lists.SlotEntry.{SlotEntry}
 use Rattle.sk_index.specs.Indexed.{postings, all_postings, slot_values}

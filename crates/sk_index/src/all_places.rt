@@ -10,7 +10,7 @@ ghost use Rattle.sk_index.specs.Unpacked.{named_all};
 use crate::packed_terms::PackedTerms;
 use crate::places::place_in;
 use crate::term_lists::TermLists;
-use sk_near::Operands;
+use sk_base::Operands;
 use sk_steps::Steps;
 use std::marker::Model;
 use std::sync::ledger::Ledger;

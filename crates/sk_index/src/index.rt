@@ -9,7 +9,7 @@ ghost use Rattle.sk_base.specs.Loads.{IsLight};
 ghost use Rattle.sk_base.specs.Numbers.{some_has};
 ghost use Rattle.sk_base.specs.Order.{ArePositions};
 ghost use Rattle.sk_dict.specs.Terms.{term_at, number_of};
-ghost use Rattle.sk_runs.specs.Runs.{flat};
+ghost use Rattle.sk_sorted.specs.Runs.{flat};
 ghost use Rattle.sk_model.specs.Documents.{keeps_slot, has_slot};
 ghost use Rattle.sk_model.specs.Edits.{nothing_live, edited, reply_to, document_at, IsLive};
 ghost use Rattle.sk_documents.specs.Documented.{HasTerms};
@@ -45,13 +45,13 @@ impl Model for Index {
 
     ghost Value = { Indexed };
 
-    ghost view = { λ i. record { fields = i.documents.fields; live = i.documents.live; terms = i.documents.keeper.listed.terms; all = i.documents.keeper.all; lists = i.documents.keeper.listed.lists; slots = i.documents.keeper.slots } };
+    ghost view = { λ i. record { schema = i.documents.schema; live = i.documents.live; terms = i.documents.keeper.listed.terms; all = i.documents.keeper.all; lists = i.documents.keeper.listed.lists; slots = i.documents.keeper.slots } };
 }
 
 impl Index {
     /// An index without documents.
     pub fn new(alloc: Global, schema: Schema) -> Result<Index, AllocError>
-        ensures { IfOk result (λ index. index ≡ record { fields = schema; live = nothing_live; terms = []; all = []; lists = []; slots = [] }) }
+        ensures { IfOk result (λ index. index ≡ record { schema = schema; live = nothing_live; terms = []; all = []; lists = []; slots = [] }) }
     {
         let lists = Lists::new(alloc, schema.fields().len())?;
         Ok(Index {
@@ -60,7 +60,7 @@ impl Index {
     }
 
     pub fn schema(&self) -> &Schema
-        ensures { result.now ≡ self.now.fields }
+        ensures { result.now ≡ self.now.schema }
     {
         self.documents.schema()
     }
@@ -85,10 +85,10 @@ impl Index {
 
     /// Changes the documents. Where memory runs out the index is given up.
     pub fn apply(self, edit: Edit) -> Result<(Index, Reply), AllocError>
-        requires fits { FitsEdit self.fields edit }
-        ensures live { IfOk result (λ p. p.0.live ≡ edited self.fields self.live edit) }
+        requires fits { FitsEdit self.schema edit }
+        ensures live { IfOk result (λ p. p.0.live ≡ edited self.schema self.live edit) }
         ensures reply { IfOk result (λ p. p.1 ≡ reply_to self.live edit) }
-        ensures schema { IfOk result (λ p. p.0.fields ≡ self.fields) }
+        ensures schema { IfOk result (λ p. p.0.schema ≡ self.schema) }
     {
         let Index { documents } = self;
         let (documents, reply) = documents.apply(edit)?;
@@ -130,8 +130,8 @@ impl Index {
 
     /// The values of a slot of the schema.
     pub fn slot(&self, slot: u32) -> Option<&SlotList>
-        ensures value { MatchOption result (has_slot slot self.now.fields ≡ false) (λ list. flat list.now ≡ slot_values slot self.now.live.documents) }
-        ensures found { has_slot slot self.now.fields ≡ true → IsSome result }
+        ensures value { MatchOption result (has_slot slot self.now.schema.fields ≡ false) (λ list. flat list.now ≡ slot_values slot self.now.live.documents) }
+        ensures found { has_slot slot self.now.schema.fields ≡ true → IsSome result }
     {
         if has_slot(self.schema().fields(), slot) {
             Some(self.values(slot))

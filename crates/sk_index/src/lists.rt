@@ -2,7 +2,7 @@
 ghost use Rattle.std.specs.Prelude.{◌≡◌, ℕ, [], length, IfOk, IfSome};
 ghost use Rattle.std.specs.Option.{option_map};
 ghost use Rattle.sk_base.specs.Documents.{AreTerms};
-ghost use Rattle.sk_runs.specs.Runs.{flat};
+ghost use Rattle.sk_sorted.specs.Runs.{flat};
 ghost use Rattle.sk_model.specs.Edits.{document_at};
 ghost use Rattle.sk_index.specs.Indexed.{HavePositions, all_postings};
 ghost use Rattle.sk_index.specs.Packed.{AreKnown};
@@ -36,7 +36,7 @@ pub(crate) struct Lists {
 
 impl Model for Lists {
     ghost use Rattle.std.specs.Prelude.{◌≡◌, []};
-    ghost use Rattle.sk_runs.specs.Runs.{flat};
+    ghost use Rattle.sk_sorted.specs.Runs.{flat};
     ghost use Rattle.sk_index.specs.Unpacked.{Kept, AreWhole, unpacked_all};
 
     ghost Value = { Kept };

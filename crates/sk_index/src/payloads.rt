@@ -14,7 +14,7 @@ pub(crate) struct Payloads {
 }
 
 impl Model for Payloads {
-    ghost use Rattle.sk_runs.specs.Runs.{flat};
+    ghost use Rattle.sk_sorted.specs.Runs.{flat};
     ghost use Rattle.sk_index.specs.Payloads.{Payloads as Seen};
 
     ghost Value = { Seen };

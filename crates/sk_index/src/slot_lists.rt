@@ -1,7 +1,7 @@
 //! The lists of the slots' values.
 ghost use Rattle.std.specs.Prelude.{◌≡◌, ◌≤◌, ◌<◌, ◌==◌, [], length, position, IfOk, OnOk, IfSome};
 ghost use Rattle.sk_base.specs.Documents.{AreValues};
-ghost use Rattle.sk_runs.specs.Runs.{flat};
+ghost use Rattle.sk_sorted.specs.Runs.{flat};
 ghost use Rattle.sk_index.specs.Slotted.{slot_pieces, slot_list, Sets, SetsAll, ClearsAll, RiseFrom, IsNowhere, KeepsOthers, values_at};
 
 use sk_base::{Bytes, DocId, SlotValue};

@@ -3,7 +3,7 @@ ghost use Rattle.std.specs.Prelude.{◌≡◌, ◌≤◌, ◌<◌, ◌+◌, [], 
 ghost use Rattle.sk_base.specs.Documents.{AreTerms};
 ghost use Rattle.sk_dict.specs.Terms.{term_at, number_of, begins_with, IsNext, HasNoNext, IsWalk};
 ghost use Rattle.sk_sorted.specs.Entries.{put, without, ids_of};
-ghost use Rattle.sk_runs.specs.Runs.{flat};
+ghost use Rattle.sk_sorted.specs.Runs.{flat};
 ghost use Rattle.sk_index.specs.Listed.{list_of, IsListed, IsEdited, SameLists, Puts, TakesOut, PutsAll, TakesOutAll};
 ghost use Rattle.sk_index.specs.Packed.{AreKnown};
 ghost use Rattle.sk_index.specs.Unpacked.{named_all, Grows};

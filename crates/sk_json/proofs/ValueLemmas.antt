@@ -6,7 +6,8 @@ use Rattle.serde_json.specs.Data.{Data, null, boolean, number, string, array, ob
 use Rattle.serde_json.specs.View.{items_view, members_view}
 use Rattle.serde_json.specs.Find.{as_object, as_array}
 use Rattle.serde_json.specs.declared.value.Value.{Value}
-use Rattle.sk_json.specs.Values.{all_names, pair_of, room_behind}
+use Rattle.sk_base.specs.Rooms.{room_behind}
+use Rattle.sk_json.specs.Values.{all_names, pair_of}
 
 abbrev pub Entry : Type 0
 Entry = String Global × Value

@@ -1,5 +1,5 @@
 -- What stands in a JSON value: its members, their names, and texts and numbers.
-use Rattle.std.specs.Prelude.{ℕ, suc, ◌+◌, ◌-◌, ◌&&◌, nat_le, Bool, true, false, List, [], ◌∷◌, length, Option, Some, None, is_some, bytes_eq, if◌then◌else◌}
+use Rattle.std.specs.Prelude.{ℕ, suc, ◌+◌, ◌&&◌, nat_le, Bool, true, false, List, [], ◌∷◌, length, Option, Some, None, is_some, bytes_eq, if◌then◌else◌}
 use Rattle.std.specs.Option.{option_and_then, option_map}
 use Rattle.std.specs.List.{list_any}
 use Rattle.serde_json.specs.Data.{Data, null, boolean, number, string, array, object, Items, no_items, item, Members, no_members, member}
@@ -94,7 +94,3 @@ abbrev mutual
   pub bytes_in_members : Members → ℕ
   bytes_in_members no_members = 0
   bytes_in_members (member name d ms) = bytes_in d + bytes_in_members ms
-
--- What is left of a room behind so many bytes, and none where they do not fit.
-abbrev pub room_behind : ℕ → ℕ → Option ℕ
-room_behind room n = if nat_le n room then Some (room - n) else None

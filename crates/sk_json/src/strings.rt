@@ -1,7 +1,8 @@
 //! The strings in a value.
 ghost use Rattle.std.specs.Prelude.{◌≡◌, ◌+◌, IfOk, nat_le, option_map};
 ghost use Rattle.serde_json.specs.View.{view, items_view, members_view};
-ghost use Rattle.sk_json.specs.Values.{texts_of, two_texts, pair_of, bytes_in, bytes_in_items, bytes_in_members, room_behind};
+ghost use Rattle.sk_json.specs.Values.{texts_of, two_texts, pair_of, bytes_in, bytes_in_items, bytes_in_members};
+ghost use Rattle.sk_base.specs.Rooms.{room_behind};
 
 use serde_json::{Map, Value};
 use sk_base::{Items, Text, Texts};

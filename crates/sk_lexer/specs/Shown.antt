@@ -4,6 +4,7 @@ use Rattle.std.specs.Char.{is_ascii_digit}
 use Rattle.std.specs.List.{slice_get}
 use Rattle.std.specs.Option.{option_and_then}
 use Rattle.sk_base.specs.declared.schema.Field.{Field}
+use Rattle.sk_base.specs.declared.schema.Schema.{Schema}
 use Rattle.sk_grammar.specs.Pieces.{Piece, separator, piece_at, mark_piece, field_piece, last_piece, value_piece}
 use Rattle.sk_lexer.specs.declared.piece.Cut.{Cut}
 
@@ -12,9 +13,9 @@ abbrev pub shown : Cut → Piece
 shown cut = record { kind = cut.kind; size = cut.size }
 
 -- The piece at the front of what is left.
-abbrev pub piece_in : List Field → Option ℕ → List ℕ → Piece
-piece_in fields previous [] = separator 1
-piece_in fields previous (c ∷ cs) = piece_at fields previous c cs
+abbrev pub piece_in : Schema → Option ℕ → List ℕ → Piece
+piece_in schema previous [] = separator 1
+piece_in schema previous (c ∷ cs) = piece_at schema previous c cs
 
 -- The distance that digits say, where those before them say this one.
 abbrev pub distance_behind : ℕ → List ℕ → Option ℕ
@@ -37,9 +38,9 @@ last_in [] = separator 1
 last_in (c ∷ cs) = last_piece c cs
 
 -- As a mark, a field, a group or any other character.
-abbrev pub other_in : List Field → Option ℕ → List ℕ → Piece
-other_in fields previous here = unwrap_or (mark_in previous here) (unwrap_or (field_piece fields here) (last_in here))
+abbrev pub other_in : Schema → Option ℕ → List ℕ → Piece
+other_in schema previous here = unwrap_or (mark_in previous here) (unwrap_or (field_piece schema here) (last_in here))
 
 -- What the kind of the field at this place of the schema needs, behind the colon.
-abbrev pub field_value : List Field → ℕ → List ℕ → Option Piece
-field_value fields f cs = option_and_then (λ field. value_piece f (Field.kind field) cs) (slice_get fields f)
+abbrev pub field_value : Schema → ℕ → List ℕ → Option Piece
+field_value schema f cs = option_and_then (λ field. value_piece f (Field.kind field) cs) (slice_get schema.fields f)

@@ -94,15 +94,15 @@ fn value_piece(
 /// Behind the colon of the field at this place of the schema.
 fn field_value(
     alloc: Global,
-    fields: &[Field],
+    schema: &Schema,
     field: usize,
     cs: &[char],
 ) -> Result<Option<Cut>, AllocError>
     requires { byte_len cs.now ≤ 1048576 }
-    ensures value { IfOk result (λ p. option_map shown p ≡ field_value fields.now field cs.now) }
+    ensures value { IfOk result (λ p. option_map shown p ≡ field_value schema.now field cs.now) }
     ensures short { IfOk result (λ p. IfSome p (λ cut. cut.size ≤ 1048576)) }
 {
-    match fields.get(field) {
+    match schema.fields().get(field) {
         Some(found) => value_piece(alloc, field, &found.kind, cs),
         None => Ok(None),
     }
@@ -138,7 +138,7 @@ fn colon_piece(
     if *c != ':' {
         return Ok(None);
     }
-    let value = field_value(alloc, schema.fields(), field, behind)?;
+    let value = field_value(alloc, schema, field, behind)?;
     Ok(longer(1, value))
 }
 

@@ -1,11 +1,11 @@
 //! Runs of characters.
 ghost use Rattle.std.specs.Prelude.{◌≡◌, ◌≤◌, ◌<◌, ◌+◌, false, not, length, drop, position};
-ghost use Rattle.std.specs.List.{prefix_len};
+ghost use Rattle.std.specs.List.{prefix_len, slice_get};
 ghost use Rattle.sk_base.specs.Names.{is_name_byte};
-ghost use Rattle.sk_text.specs.Characters.{is_apostrophe, begins_word, belongs};
+ghost use Rattle.sk_text.specs.Characters.{begins_word};
 ghost use Rattle.sk_grammar.specs.Characters.{is_joiner, group_len, runs_on, run_len};
 
-use sk_text::is_word;
+use sk_text::{belongs, is_word};
 
 pub(crate) fn is_joiner(c: char) -> bool
     ensures { result ≡ is_joiner c }
@@ -22,25 +22,12 @@ pub(crate) fn begins_word(cs: &[char]) -> bool
     }
 }
 
-fn is_apostrophe(c: char) -> bool
-    ensures { result ≡ is_apostrophe c }
-{
-    c == '\'' || c == '\u{2019}'
-}
-
-/// Whether the first character belongs to a word, where `after` says that a word character stands right before it.
-fn belongs(after: bool, c: char, behind: &[char]) -> bool
-    ensures { result ≡ belongs after c behind.now }
-{
-    is_word(c) || (after && is_apostrophe(c) && begins_word(behind))
-}
-
-/// The characters behind a place.
-fn behind(cs: &[char], i: usize) -> &[char]
+/// The character behind a place.
+fn first_behind(cs: &[char], i: usize) -> Option<char>
     requires { i < length cs.now }
-    ensures { result.now ≡ drop (i + 1) cs.now }
+    ensures { result ≡ slice_get (drop (i + 1) cs.now) 0 }
 {
-    &cs[i + 1..]
+    cs[i + 1..].first().copied()
 }
 
 /// The characters behind the first so many.
@@ -60,12 +47,13 @@ pub(crate) fn group_len(cs: &[char]) -> usize
     let mut after = false;
     'cs: for i in 0..cs.len() {
         let c = cs[i];
-        if belongs(after, c, behind(cs, i)) {
+        let in_word = is_word(c);
+        if belongs(in_word, after, c, first_behind(cs, i)) {
             end = i + 1;
         } else if !is_joiner(c) {
             return end;
         }
-        after = is_word(c);
+        after = in_word;
     }
     end
 }

@@ -3,8 +3,8 @@ use Rattle.std.proofs.Common.{◌≡◌, ℕ, zero, suc, ◌+◌, ◌-◌, ◌<�
 use Rattle.std.proofs.lemmas.Bool.{cases_eq}
 use Rattle.std.proofs.lemmas.List.{length-drop, get_or-drop, get_or_default}
 use Rattle.sk_sorted.specs.Entries.{RiseAbove, LieBelow, top_id}
-use Rattle.sk_runs.specs.Runs.{flat, RunsRise, AreRuns}
-use Rattle.sk_runs.proofs.RunLaws.{below-top, flat-rise, rise_drop, all_below}
+use Rattle.sk_sorted.specs.Runs.{flat, RunsRise, AreRuns}
+use Rattle.sk_sorted.proofs.RunLaws.{below-top, flat-rise, rise_drop, all_below}
 use Rattle.sk_chunks.specs.Postings.{Postings, greatest_wdf}
 use Rattle.sk_lists.specs.Lists.{Runs}
 use Rattle.sk_lists.specs.Seeks.{AreWithin}

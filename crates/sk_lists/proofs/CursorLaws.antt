@@ -3,8 +3,8 @@ use Rattle.std.proofs.Common.{◌≡◌, ℕ, ◌+◌, ◌-◌, ◌<◌, ◌≤�
 use Rattle.std.proofs.lemmas.List.{drop_more, length-append, get_or_append_left}
 use Rattle.sk_sorted.specs.Entries.{AreSorted}
 use Rattle.sk_sorted.proofs.EntryLaws.{AreSorted-drop}
-use Rattle.sk_runs.specs.Runs.{flat, AreRuns}
-use Rattle.sk_runs.proofs.RunLaws.{AreRuns-sorted, AreRuns-drop, flat-drop}
+use Rattle.sk_sorted.specs.Runs.{flat, AreRuns}
+use Rattle.sk_sorted.proofs.RunLaws.{AreRuns-sorted, AreRuns-drop, flat-drop}
 use Rattle.sk_chunks.specs.Postings.{Postings}
 use Rattle.sk_lists.specs.declared.cursor.Cursor.{Cursor}
 use Rattle.sk_lists.specs.Lists.{Runs}

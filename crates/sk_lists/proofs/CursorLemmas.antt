@@ -3,8 +3,8 @@ use Rattle.std.proofs.Common.{◌≡◌, ◌≢◌, ℕ, ◌+◌, ◌-◌, ◌<�
 use Rattle.std.proofs.lemmas.Bool.{cases_eq, ltb-true}
 use Rattle.std.proofs.lemmas.List.{take_more, length-drop, get_or-drop, get_or_default}
 use Rattle.sk_sorted.specs.Entries.{LieBelow, top_id}
-use Rattle.sk_runs.specs.Runs.{AreRuns}
-use Rattle.sk_runs.proofs.RunLaws.{top-at, tops_rise}
+use Rattle.sk_sorted.specs.Runs.{AreRuns}
+use Rattle.sk_sorted.proofs.RunLaws.{top-at, tops_rise}
 use Rattle.sk_chunks.specs.Postings.{Postings, greatest_wdf, is_below}
 use Rattle.sk_lists.specs.Lists.{Runs}
 use Rattle.sk_lists.specs.Seeks.{Reads, IsSkipped}

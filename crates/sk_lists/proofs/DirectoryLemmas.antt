@@ -6,9 +6,9 @@ use Rattle.std.proofs.lemmas.Bool.Decides.{nat_tests}
 use Rattle.std.proofs.lemmas.List.{length-append, length-take, length-drop, set-get_or, get_or_default, get_or-set_same, append_assoc, take_more, map-append}
 use Rattle.sk_sorted.specs.Entries.{RiseAbove, LieBelow, put, without, has, found, ids_of, top_id}
 use Rattle.sk_sorted.proofs.EntryLaws.{LieBelow-put, length_fits, put-last, without-absent}
-use Rattle.sk_runs.specs.Runs.{flat, RunsRise, AreRuns, FitsAt}
-use Rattle.sk_runs.proofs.RunLaws.{put_in_run, without_in_run, found_in_run, rise_cut, flat-cut, flat-join, fits-cut, fits-behind, cut-first, cut-second, cut-length, before-removed, put-back, next-rises, all_below, flat-drop, flat-remove, flat-last, rise_last, AreRuns-sorted}
-use Rattle.sk_runs.proofs.EditLaws.{length_set, AreRuns-put, AreRuns-without, AreRuns-gone, AreRuns-cut, AreRuns-join}
+use Rattle.sk_sorted.specs.Runs.{flat, RunsRise, AreRuns, FitsAt}
+use Rattle.sk_sorted.proofs.RunLaws.{put_in_run, without_in_run, found_in_run, rise_cut, flat-cut, flat-join, fits-cut, fits-behind, cut-first, cut-second, cut-length, before-removed, put-back, next-rises, all_below, flat-drop, flat-remove, flat-last, rise_last, AreRuns-sorted}
+use Rattle.sk_sorted.proofs.RunEditLaws.{length_set, AreRuns-put, AreRuns-without, AreRuns-gone, AreRuns-cut, AreRuns-join}
 use Rattle.sk_chunks.specs.Postings.{Postings, greatest_wdf}
 use Rattle.sk_chunks.proofs.GreatestLaws.{greatest-append}
 use Rattle.sk_lists.specs.Lists.{Runs, IsDirectory}

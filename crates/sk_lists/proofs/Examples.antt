@@ -1,7 +1,7 @@
 -- The words on postings, computed.
 use Rattle.std.proofs.Common.{◌≡◌, [], ◌∷◌, None, Some, true, false, refl}
 use Rattle.sk_sorted.specs.Entries.{put, without, from, first_id}
-use Rattle.sk_runs.specs.Runs.{flat}
+use Rattle.sk_sorted.specs.Runs.{flat}
 use Rattle.sk_chunks.specs.Postings.{Postings, greatest_wdf, first_wdf, is_below}
 use Rattle.sk_lists.specs.Lists.{Runs, one_run}
 use Rattle.sk_lists.specs.Seeks.{count_below, count_to}

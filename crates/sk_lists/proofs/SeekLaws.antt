@@ -5,8 +5,8 @@ use Rattle.std.proofs.lemmas.List.{append_assoc, append-nil, take-append-drop, l
 use Rattle.std.proofs.Math.Seq.{drop-append_seam, drop-append-add, drop-length}
 use Rattle.sk_sorted.specs.Entries.{RiseAbove, LieBelow, from, top_id}
 use Rattle.sk_sorted.proofs.EntryLaws.{from-below, from-at}
-use Rattle.sk_runs.specs.Runs.{flat, RunsRise}
-use Rattle.sk_runs.proofs.RunLaws.{below-top, flat-append, flat-drop, rise_drop, rise_take}
+use Rattle.sk_sorted.specs.Runs.{flat, RunsRise}
+use Rattle.sk_sorted.proofs.RunLaws.{below-top, flat-append, flat-drop, rise_drop, rise_take}
 use Rattle.sk_chunks.specs.Postings.{Postings, greatest_wdf, is_below}
 use Rattle.sk_lists.specs.Lists.{Runs}
 use Rattle.sk_lists.specs.Seeks.{ArePassed, Passes, Reads, count_below, IsSkipped}

@@ -1,7 +1,7 @@
 -- A place in a list: what a cursor has read, and what is left to it.
 use Rattle.std.specs.Prelude.{◌≡◌, ◌<◌, ◌≤◌, ◌-◌, ◌+◌, ℕ, Option, None, Some, [], ◌∷◌, length, take, drop, get_or}
 use Rattle.sk_sorted.specs.Entries.{LieBelow}
-use Rattle.sk_runs.specs.Runs.{flat}
+use Rattle.sk_sorted.specs.Runs.{flat}
 use Rattle.sk_chunks.specs.Postings.{Postings}
 use Rattle.sk_lists.specs.declared.cursor.Cursor.{Cursor}
 use Rattle.sk_lists.specs.Lists.{Runs}

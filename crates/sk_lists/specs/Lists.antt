@@ -1,6 +1,6 @@
 -- A posting list in chunks.
 use Rattle.std.specs.Prelude.{◌≡◌, ℕ, List, [], ◌∷◌, length}
-use Rattle.sk_runs.specs.Runs.{flat, AreRuns}
+use Rattle.sk_sorted.specs.Runs.{flat, AreRuns}
 use Rattle.sk_chunks.specs.Postings.{Postings, greatest_wdf}
 
 -- The entries of a list, chunk by chunk.

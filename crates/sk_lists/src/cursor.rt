@@ -1,7 +1,7 @@
 //! A place in a posting list, which only moves on.
 ghost use Rattle.std.specs.Prelude.{◌≡◌, ◌+◌, ◌<◌, ◌≤◌, ℕ, length, drop, get_or, min, [], true, false, Option, Some};
 ghost use Rattle.sk_sorted.specs.Entries.{first_id, top_id};
-ghost use Rattle.sk_runs.specs.Runs.{flat};
+ghost use Rattle.sk_sorted.specs.Runs.{flat};
 ghost use Rattle.sk_chunks.specs.Postings.{first_wdf, is_below};
 ghost use Rattle.sk_lists.specs.Lists.{Runs};
 ghost use Rattle.sk_lists.specs.Seeks.{Passes, Reads, count_below, IsSkipped, AreWithin};

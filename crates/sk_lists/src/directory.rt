@@ -3,7 +3,7 @@ ghost use Rattle.std.specs.Prelude.{◌≡◌, ◌≤◌, ◌<◌, ◌+◌, ◌�
 ghost use Rattle.std.specs.List.{insert};
 ghost use Rattle.std.specs.Vec.{vec_len, vec_capacity};
 ghost use Rattle.sk_sorted.specs.Entries.{put, without, has, ids_of, top_id};
-ghost use Rattle.sk_runs.specs.Runs.{flat, AreRuns, FitsAt};
+ghost use Rattle.sk_sorted.specs.Runs.{flat, AreRuns, FitsAt};
 ghost use Rattle.sk_chunks.specs.Postings.{greatest_wdf};
 ghost use Rattle.sk_lists.specs.Lists.{IsDirectory};
 

@@ -1,7 +1,7 @@
 //! A posting list: entries in order of their ids, in chunks.
 ghost use Rattle.std.specs.Prelude.{◌≡◌, ◌≤◌, ◌<◌, [], length, get_or, true, IfOk, IsOk, OnOk, OnErr};
 ghost use Rattle.sk_sorted.specs.Entries.{AreSorted, put, without, has, ids_of};
-ghost use Rattle.sk_runs.specs.Runs.{flat, AreRuns};
+ghost use Rattle.sk_sorted.specs.Runs.{flat, AreRuns};
 ghost use Rattle.sk_chunks.specs.Postings.{greatest_wdf};
 ghost use Rattle.sk_lists.specs.Lists.{one_run};
 

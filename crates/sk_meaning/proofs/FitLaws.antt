@@ -4,7 +4,7 @@ use Rattle.std.proofs.lemmas.Bool.Decides.{nat_tests}
 use Rattle.std.specs.List.{list_all}
 use Rattle.std.proofs.lemmas.Bool.{and_from}
 use Rattle.sk_base.proofs.Tests.{first_so}
-use Rattle.sk_base.specs.declared.schema.Field.{Field}
+use Rattle.sk_base.specs.declared.schema.Schema.{Schema}
 use Rattle.sk_base.specs.declared.find.Join.{Join}
 use Rattle.sk_base.specs.Fields.{IsSchema, is_field, are_apart}
 use Rattle.sk_query.specs.Trees.{Tree}
@@ -24,31 +24,32 @@ few_fit t f few =
     let deep = f.deep in
     and_from (is_sound 1 t && nat_le (leaves_of t) 1024) (nat_le (depth_of t) 1000) (and_from (is_sound 1 t) (nat_le (leaves_of t) 1024) (f.sound few) (grind (arith, nat_tests))) (grind (arith, nat_tests))
 
-tree_fits : (fields : List Field) (join : Join) (text : List ℕ) → list_all is_field fields ≡ true → fault_in fields (tokens_of fields text) ≡ None
-    → fits_tree (tree_in fields join (kinds_of (tokens_of fields text))) ≡ true
-tree_fits fields join text sound none =
-    let faultless : AreFaultless [] (kinds_of (tokens_of fields text)) = faultless_in fields (tokens_of fields text) none in
+tree_fits : (schema : Schema) (join : Join) (text : List ℕ) → list_all is_field schema.fields ≡ true → fault_in schema (tokens_of schema text) ≡ None
+    → fits_tree (tree_in schema join (kinds_of (tokens_of schema text))) ≡ true
+tree_fits schema join text sound none =
+    let faultless : AreFaultless [] (kinds_of (tokens_of schema text)) = faultless_in schema (tokens_of schema text) none in
     let few = faultless.few (omega arith) in
-    let leaves = tree_in_leaves fields join (kinds_of (tokens_of fields text)) in
-    few_fit (tree_in fields join (kinds_of (tokens_of fields text)))
-    (tree_in_fits fields join (kinds_of (tokens_of fields text)) sound (are_good fields (kinds_of (tokens_of fields text)) (tokens_filled fields text sound) faultless.links) faultless.shallow)
+    let leaves = tree_in_leaves schema join (kinds_of (tokens_of schema text)) in
+    few_fit (tree_in schema join (kinds_of (tokens_of schema text)))
+    (tree_in_fits schema join (kinds_of (tokens_of schema text)) sound (are_good schema (kinds_of (tokens_of schema text)) (tokens_filled schema text sound) faultless.links) faultless.shallow)
     (omega (arith, few, leaves))
 
-or_fits : (fields : List Field) (join : Join) (o : Option (FaultKind × ℕ)) (tokens : List Token) (t : Tree) → (o ≡ None → fits_tree (tree_in fields join (kinds_of tokens)) ≡ true)
-    → meant_or fields join o tokens ≡ Some t → fits_tree t ≡ true
-or_fits fields join None tokens t f e = let same : t ≡ tree_in fields join (kinds_of tokens) = cc in ap fits_tree same ∙ f refl
-or_fits fields join (Some fault) tokens t f e = absurd (cc)
+or_fits : (schema : Schema) (join : Join) (o : Option (FaultKind × ℕ)) (tokens : List Token) (t : Tree) → (o ≡ None → fits_tree (tree_in schema join (kinds_of tokens)) ≡ true)
+    → meant_or schema join o tokens ≡ Some t → fits_tree t ≡ true
+or_fits schema join None tokens t f e = let same : t ≡ tree_in schema join (kinds_of tokens) = cc in ap fits_tree same ∙ f refl
+or_fits schema join (Some fault) tokens t f e = absurd (cc)
 
 -- The query that a text means.
-pub meant_fits : (fields : List Field) (join : Join) (text : List ℕ) (t : Tree) → IsSchema fields → query_meant fields join text ≡ Some t → fits_tree t ≡ true
-meant_fits fields join text t schema e =
-    or_fits fields join (fault_in fields (tokens_of fields text)) (tokens_of fields text) t
-    (tree_fits fields join text (first_so (list_all is_field fields) (are_apart fields) schema.sound)) e
+pub meant_fits : (schema : Schema) (join : Join) (text : List ℕ) (t : Tree) → IsSchema schema → query_meant schema join text ≡ Some t → fits_tree t ≡ true
+meant_fits schema join text t is e =
+    or_fits schema join (fault_in schema (tokens_of schema text)) (tokens_of schema text) t
+    (tree_fits schema join text (first_so (list_all is_field schema.fields) (are_apart schema.fields) is.sound)) e
 
 -- So does the one that is made of a text's tokens, which have no fault.
-pub made_fits : (schema fields : List Field) (join : Join) (text : List ℕ) (found tokens : List Token) (t : Tree) → IsSchema schema → fields ≡ schema → found ≡ tokens_of schema text
-    → tokens ≡ found → fault_in fields tokens ≡ None → t ≡ tree_in fields join (kinds_of tokens) → fits_tree t ≡ true
-made_fits schema fields join text found tokens t sound same cut as_found none made =
+pub made_fits : (schema : Schema) (join : Join) (text : List ℕ) (found tokens : List Token) (t : Tree) → IsSchema schema → found ≡ tokens_of schema text
+    → tokens ≡ found → fault_in schema tokens ≡ None → t ≡ tree_in schema join (kinds_of tokens) → fits_tree t ≡ true
+made_fits schema join text found tokens t is cut as_found none made =
     let all : tokens ≡ tokens_of schema text = as_found ∙ cut in
-    let faultless : fault_in schema (tokens_of schema text) ≡ None = sym (λ i. fault_in (same i) (all i)) ∙ none in
-    ap fits_tree (made ∙ (λ i. tree_in (same i) join (kinds_of (all i)))) ∙ tree_fits schema join text (first_so (list_all is_field schema) (are_apart schema) sound.sound) faultless
+    let faultless : fault_in schema (tokens_of schema text) ≡ None = ap (fault_in schema) (sym all) ∙ none in
+    ap fits_tree (made ∙ ap (λ ts. tree_in schema join (kinds_of ts)) all)
+    ∙ tree_fits schema join text (first_so (list_all is_field schema.fields) (are_apart schema.fields) is.sound) faultless

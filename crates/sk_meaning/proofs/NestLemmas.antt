@@ -6,6 +6,7 @@ use Rattle.std.specs.List.{list_all, slice_get}
 use Rattle.std.proofs.lemmas.Bool.{and_from}
 use Rattle.sk_base.proofs.Tests.{first_so, second_so}
 use Rattle.sk_base.specs.declared.schema.Field.{Field}
+use Rattle.sk_base.specs.declared.schema.Schema.{Schema}
 use Rattle.sk_base.specs.declared.schema.FieldKind.{FieldKind}
 use Rattle.sk_base.specs.declared.find.Join.{Join}
 use Rattle.sk_base.specs.Fields.{is_field, is_kind}
@@ -23,18 +24,18 @@ use Rattle.sk_meaning.proofs.FitLemmas.{Fits, PartFits, PartsFit, part_deeper, p
 use Rattle.sk_meaning.proofs.LeafLemmas.{part_leaves, parts_leaves, chained_leaves, closed_leaves, reverse_leaves, parts_tree_leaves}
 
 -- A token that is as it is in a text without a fault.
-abbrev pub IsGood : List Field → Kind → Type 0
-IsGood fields k = (is_filled fields k ≡ true) × (is_linkable k ≡ true)
+abbrev pub IsGood : Schema → Kind → Type 0
+IsGood schema k = (is_filled schema k ≡ true) × (is_linkable k ≡ true)
 
-abbrev pub AreGood : List Field → List Kind → Type 0
-AreGood fields [] = Unit {0}
-AreGood fields (k ∷ ks) = IsGood fields k × AreGood fields ks
+abbrev pub AreGood : Schema → List Kind → Type 0
+AreGood schema [] = Unit {0}
+AreGood schema (k ∷ ks) = IsGood schema k × AreGood schema ks
 
-pub are_good : (fields : List Field) (ks : List Kind) → list_all (is_filled fields) ks ≡ true → list_all is_linkable ks ≡ true → AreGood fields ks
-are_good fields [] e f = tt
-are_good fields (k ∷ ks) e f = (
-  (first_so (is_filled fields k) (list_all (is_filled fields) ks) e, first_so (is_linkable k) (list_all is_linkable ks) f),
-  are_good fields ks (second_so (is_filled fields k) (list_all (is_filled fields) ks) e) (second_so (is_linkable k) (list_all is_linkable ks) f),
+pub are_good : (schema : Schema) (ks : List Kind) → list_all (is_filled schema) ks ≡ true → list_all is_linkable ks ≡ true → AreGood schema ks
+are_good schema [] e f = tt
+are_good schema (k ∷ ks) e f = (
+  (first_so (is_filled schema k) (list_all (is_filled schema) ks) e, first_so (is_linkable k) (list_all is_linkable ks) f),
+  are_good schema ks (second_so (is_filled schema k) (list_all (is_filled schema) ks) e) (second_so (is_linkable k) (list_all is_linkable ks) f),
 )
 
 -- The terms of a token under a prefix.
@@ -81,37 +82,37 @@ distance_within : (n : ℕ) → is_distance n ≡ true → n ≤ 10000
 distance_within n e = grind (arith, nat_tests)
 
 -- The part that a token is.
-part_fits : (fields : List Field) (around : List ℕ) (k : Kind) → list_all is_field fields ≡ true → IsGood fields k → PartFits 1 (part_of fields around k)
-part_fits fields around (Kind.Word field t) sound h = (omega arith, and_from (is_given (prefixed (prefix_in fields around field) t)) true (text_prefixed (prefix_in fields around field) t h.0) refl)
-part_fits fields around (Kind.Wild field t) sound h = record { sound = λ few. text_prefixed (prefix_in fields around field) t h.0; deep = omega arith }
-part_fits fields around (Kind.Joined field ts) sound h = side_fits (all_prefixed (prefix_in fields around field) ts) (all_given (prefix_in fields around field) ts h.0)
-part_fits fields around (Kind.Quote field ts) sound h = side_fits (all_prefixed (prefix_in fields around field) ts) (all_given (prefix_in fields around field) ts h.0)
-part_fits fields around (Kind.Filter f text) sound h = record { sound = λ few. prefix_prefixed (prefix_of (slice_get fields f)) text h.0; deep = omega arith }
-part_fits fields around (Kind.Range f text) sound h = range_fits (slice_get fields f) text (field_sound fields f sound)
-part_fits fields around (Kind.Near n) sound h = distance_within n h.1
-part_fits fields around (Kind.Adj n) sound h = distance_within n h.1
-part_fits fields around k sound h = tt
+part_fits : (schema : Schema) (around : List ℕ) (k : Kind) → list_all is_field schema.fields ≡ true → IsGood schema k → PartFits 1 (part_of schema around k)
+part_fits schema around (Kind.Word field t) sound h = (omega arith, and_from (is_given (prefixed (prefix_in schema around field) t)) true (text_prefixed (prefix_in schema around field) t h.0) refl)
+part_fits schema around (Kind.Wild field t) sound h = record { sound = λ few. text_prefixed (prefix_in schema around field) t h.0; deep = omega arith }
+part_fits schema around (Kind.Joined field ts) sound h = side_fits (all_prefixed (prefix_in schema around field) ts) (all_given (prefix_in schema around field) ts h.0)
+part_fits schema around (Kind.Quote field ts) sound h = side_fits (all_prefixed (prefix_in schema around field) ts) (all_given (prefix_in schema around field) ts h.0)
+part_fits schema around (Kind.Filter f text) sound h = record { sound = λ few. prefix_prefixed (prefix_of (slice_get schema.fields f)) text h.0; deep = omega arith }
+part_fits schema around (Kind.Range f text) sound h = range_fits (slice_get schema.fields f) text (field_sound schema.fields f sound)
+part_fits schema around (Kind.Near n) sound h = distance_within n h.1
+part_fits schema around (Kind.Adj n) sound h = distance_within n h.1
+part_fits schema around k sound h = tt
 
-part_few : (fields : List Field) (around : List ℕ) (k : Kind) → part_leaves (part_of fields around k) ≤ leaves_of k
-part_few fields around (Kind.Word field t) = omega arith
-part_few fields around (Kind.Wild field t) = omega arith
-part_few fields around (Kind.Joined field ts) =
-    let a = side_leaves (all_prefixed (prefix_in fields around field) ts) in let b = length-map ts (prefixed (prefix_in fields around field)) in omega (arith, a, b)
-part_few fields around (Kind.Quote field ts) =
-    let a = side_leaves (all_prefixed (prefix_in fields around field) ts) in let b = length-map ts (prefixed (prefix_in fields around field)) in omega (arith, a, b)
-part_few fields around (Kind.Filter f text) = omega arith
-part_few fields around (Kind.Range f text) = range_leaves (slice_get fields f) text
-part_few fields around k = omega arith
+part_few : (schema : Schema) (around : List ℕ) (k : Kind) → part_leaves (part_of schema around k) ≤ leaves_of k
+part_few schema around (Kind.Word field t) = omega arith
+part_few schema around (Kind.Wild field t) = omega arith
+part_few schema around (Kind.Joined field ts) =
+    let a = side_leaves (all_prefixed (prefix_in schema around field) ts) in let b = length-map ts (prefixed (prefix_in schema around field)) in omega (arith, a, b)
+part_few schema around (Kind.Quote field ts) =
+    let a = side_leaves (all_prefixed (prefix_in schema around field) ts) in let b = length-map ts (prefixed (prefix_in schema around field)) in omega (arith, a, b)
+part_few schema around (Kind.Filter f text) = omega arith
+part_few schema around (Kind.Range f text) = range_leaves (slice_get schema.fields f) text
+part_few schema around k = omega arith
 
 -- What brackets hold.
 abbrev mutual
-  NestGood : List Field → Nest → Type 0
-  NestGood fields (single k) = IsGood fields k
-  NestGood fields (bracket field ns) = NestsGood fields ns
+  NestGood : Schema → Nest → Type 0
+  NestGood schema (single k) = IsGood schema k
+  NestGood schema (bracket field ns) = NestsGood schema ns
 
-  NestsGood : List Field → Nests → Type 0
-  NestsGood fields no_nests = Unit {0}
-  NestsGood fields (nest n ns) = NestGood fields n × NestsGood fields ns
+  NestsGood : Schema → Nests → Type 0
+  NestsGood schema no_nests = Unit {0}
+  NestsGood schema (nest n ns) = NestGood schema n × NestsGood schema ns
 
 abbrev mutual
   nest_leaves : Nest → ℕ
@@ -133,34 +134,34 @@ abbrev mutual
   nests_depth (nest n ns) = max (nest_depth n) (nests_depth ns)
 
 mutual
-  nest_fits : (fields : List Field) (join : Join) (around : List ℕ) (n : Nest) → list_all is_field fields ≡ true → NestGood fields n
-      → PartFits (1 + 8 * nest_depth n) (nest_part fields join around n)
-  nest_fits fields join around (single k) sound h = part_fits fields around k sound h
-  nest_fits fields join around (bracket field ns) sound h =
-      part_deeper (1 + 8 * nests_depth ns + 8) (1 + 8 * suc (nests_depth ns)) (closed_part join (chained [] (nest_parts fields join (prefix_in fields around field) ns))) (omega arith)
-      (closed_fits (1 + 8 * nests_depth ns) join (chained [] (nest_parts fields join (prefix_in fields around field) ns)) (omega arith)
-      (chained_fit (1 + 8 * nests_depth ns) [] (nest_parts fields join (prefix_in fields around field) ns) tt (nests_fit fields join (prefix_in fields around field) ns sound h)))
+  nest_fits : (schema : Schema) (join : Join) (around : List ℕ) (n : Nest) → list_all is_field schema.fields ≡ true → NestGood schema n
+      → PartFits (1 + 8 * nest_depth n) (nest_part schema join around n)
+  nest_fits schema join around (single k) sound h = part_fits schema around k sound h
+  nest_fits schema join around (bracket field ns) sound h =
+      part_deeper (1 + 8 * nests_depth ns + 8) (1 + 8 * suc (nests_depth ns)) (closed_part join (chained [] (nest_parts schema join (prefix_in schema around field) ns))) (omega arith)
+      (closed_fits (1 + 8 * nests_depth ns) join (chained [] (nest_parts schema join (prefix_in schema around field) ns)) (omega arith)
+      (chained_fit (1 + 8 * nests_depth ns) [] (nest_parts schema join (prefix_in schema around field) ns) tt (nests_fit schema join (prefix_in schema around field) ns sound h)))
 
-  nests_fit : (fields : List Field) (join : Join) (around : List ℕ) (ns : Nests) → list_all is_field fields ≡ true → NestsGood fields ns
-      → PartsFit (1 + 8 * nests_depth ns) (nest_parts fields join around ns)
-  nests_fit fields join around no_nests sound h = tt
-  nests_fit fields join around (nest n ns) sound h = (
-    part_deeper (1 + 8 * nest_depth n) (1 + 8 * max (nest_depth n) (nests_depth ns)) (nest_part fields join around n) (omega arith) (nest_fits fields join around n sound h.0),
-    parts_deeper (1 + 8 * nests_depth ns) (1 + 8 * max (nest_depth n) (nests_depth ns)) (nest_parts fields join around ns) (omega arith) (nests_fit fields join around ns sound h.1),
+  nests_fit : (schema : Schema) (join : Join) (around : List ℕ) (ns : Nests) → list_all is_field schema.fields ≡ true → NestsGood schema ns
+      → PartsFit (1 + 8 * nests_depth ns) (nest_parts schema join around ns)
+  nests_fit schema join around no_nests sound h = tt
+  nests_fit schema join around (nest n ns) sound h = (
+    part_deeper (1 + 8 * nest_depth n) (1 + 8 * max (nest_depth n) (nests_depth ns)) (nest_part schema join around n) (omega arith) (nest_fits schema join around n sound h.0),
+    parts_deeper (1 + 8 * nests_depth ns) (1 + 8 * max (nest_depth n) (nests_depth ns)) (nest_parts schema join around ns) (omega arith) (nests_fit schema join around ns sound h.1),
   )
 
 mutual
-  nest_few : (fields : List Field) (join : Join) (around : List ℕ) (n : Nest) → part_leaves (nest_part fields join around n) ≤ nest_leaves n
-  nest_few fields join around (single k) = part_few fields around k
-  nest_few fields join around (bracket field ns) =
-      let a = closed_leaves join (chained [] (nest_parts fields join (prefix_in fields around field) ns)) in
-      let b = chained_leaves [] (nest_parts fields join (prefix_in fields around field) ns) in
-      let c = nests_few fields join (prefix_in fields around field) ns in
+  nest_few : (schema : Schema) (join : Join) (around : List ℕ) (n : Nest) → part_leaves (nest_part schema join around n) ≤ nest_leaves n
+  nest_few schema join around (single k) = part_few schema around k
+  nest_few schema join around (bracket field ns) =
+      let a = closed_leaves join (chained [] (nest_parts schema join (prefix_in schema around field) ns)) in
+      let b = chained_leaves [] (nest_parts schema join (prefix_in schema around field) ns) in
+      let c = nests_few schema join (prefix_in schema around field) ns in
       omega (arith, a, b, c)
 
-  nests_few : (fields : List Field) (join : Join) (around : List ℕ) (ns : Nests) → parts_leaves (nest_parts fields join around ns) ≤ nests_leaves ns
-  nests_few fields join around no_nests = omega arith
-  nests_few fields join around (nest n ns) = let a = nest_few fields join around n in let b = nests_few fields join around ns in omega (arith, a, b)
+  nests_few : (schema : Schema) (join : Join) (around : List ℕ) (ns : Nests) → parts_leaves (nest_parts schema join around ns) ≤ nests_leaves ns
+  nests_few schema join around no_nests = omega arith
+  nests_few schema join around (nest n ns) = let a = nest_few schema join around n in let b = nests_few schema join around ns in omega (arith, a, b)
 
 -- What stands behind a place: no bracket there stands inside more than 100, where so many are open before it.
 abbrev BehindShallow : ℕ → List Nests → Type 0
@@ -191,26 +192,26 @@ levels_shallow [] depth h f = record { here = omega arith; outside = tt }
 levels_shallow (k ∷ ks) depth h f = token_shallow depth k (levels_of ks) h (levels_shallow ks (depth_behind depth k) (step_within depth k h f.0) f.1)
 
 -- The tokens behind a place, by their brackets.
-abbrev AllNestsGood : List Field → List Nests → Type 0
-AllNestsGood fields [] = Unit {0}
-AllNestsGood fields (ns ∷ more) = NestsGood fields ns × AllNestsGood fields more
+abbrev AllNestsGood : Schema → List Nests → Type 0
+AllNestsGood schema [] = Unit {0}
+AllNestsGood schema (ns ∷ more) = NestsGood schema ns × AllNestsGood schema more
 
-record LevelsGood (fields : List Field) (behind : Levels) : Type 0 where
-  here : NestsGood fields (Levels.here behind)
-  outside : AllNestsGood fields (Levels.outside behind)
+record LevelsGood (schema : Schema) (behind : Levels) : Type 0 where
+  here : NestsGood schema (Levels.here behind)
+  outside : AllNestsGood schema (Levels.outside behind)
 
-opened_good : (fields : List Field) (field : Option ℕ) (here : Nests) (outside : List Nests) → NestsGood fields here → AllNestsGood fields outside → LevelsGood fields (opened field here outside)
-opened_good fields field here [] f g = record { here = (f, tt); outside = tt }
-opened_good fields field here (next ∷ more) f g = record { here = (f, g.0); outside = g.1 }
+opened_good : (schema : Schema) (field : Option ℕ) (here : Nests) (outside : List Nests) → NestsGood schema here → AllNestsGood schema outside → LevelsGood schema (opened field here outside)
+opened_good schema field here [] f g = record { here = (f, tt); outside = tt }
+opened_good schema field here (next ∷ more) f g = record { here = (f, g.0); outside = g.1 }
 
-token_good : (fields : List Field) (k : Kind) (behind : Levels) → IsGood fields k → LevelsGood fields behind → LevelsGood fields (with_token k behind)
-token_good fields (Kind.Open field) behind h f = opened_good fields field (Levels.here behind) (Levels.outside behind) f.here f.outside
-token_good fields Kind.Close behind h f = record { here = tt; outside = (f.here, f.outside) }
-token_good fields k behind h f = record { here = (h, f.here); outside = f.outside }
+token_good : (schema : Schema) (k : Kind) (behind : Levels) → IsGood schema k → LevelsGood schema behind → LevelsGood schema (with_token k behind)
+token_good schema (Kind.Open field) behind h f = opened_good schema field (Levels.here behind) (Levels.outside behind) f.here f.outside
+token_good schema Kind.Close behind h f = record { here = tt; outside = (f.here, f.outside) }
+token_good schema k behind h f = record { here = (h, f.here); outside = f.outside }
 
-levels_good : (fields : List Field) (ks : List Kind) → AreGood fields ks → LevelsGood fields (levels_of ks)
-levels_good fields [] h = record { here = tt; outside = tt }
-levels_good fields (k ∷ ks) h = token_good fields k (levels_of ks) h.0 (levels_good fields ks h.1)
+levels_good : (schema : Schema) (ks : List Kind) → AreGood schema ks → LevelsGood schema (levels_of ks)
+levels_good schema [] h = record { here = tt; outside = tt }
+levels_good schema (k ∷ ks) h = token_good schema k (levels_of ks) h.0 (levels_good schema ks h.1)
 
 abbrev outside_leaves : List Nests → ℕ
 outside_leaves [] = 0
@@ -233,23 +234,23 @@ all_leaves [] = refl
 all_leaves (k ∷ ks) = token_leaves k (levels_of ks) ∙ ap (λ n. leaves_of k + n) (all_leaves ks)
 
 -- The query of tokens.
-pub tree_in_fits : (fields : List Field) (join : Join) (ks : List Kind) → list_all is_field fields ≡ true → AreGood fields ks → IsShallow 0 ks → Fits 809 (tree_in fields join ks)
-tree_in_fits fields join ks sound good shallow =
+pub tree_in_fits : (schema : Schema) (join : Join) (ks : List Kind) → list_all is_field schema.fields ≡ true → AreGood schema ks → IsShallow 0 ks → Fits 809 (tree_in schema join ks)
+tree_in_fits schema join ks sound good shallow =
     let here : Nests = Levels.here (levels_of ks) in
     let deep : 0 + nests_depth here ≤ 100 = (levels_shallow ks 0 (omega arith) shallow).here in
-    let made : PartsFit (1 + 8 * nests_depth here) (nest_parts fields join [] here) = nests_fit fields join [] here sound (levels_good fields ks good).here in
-    let turned : PartsFit 801 (reverse (chained [] (nest_parts fields join [] here))) =
-    reverse_fit 801 (chained [] (nest_parts fields join [] here))
-    (chained_fit 801 [] (nest_parts fields join [] here) tt (parts_deeper (1 + 8 * nests_depth here) 801 (nest_parts fields join [] here) (omega arith) made)) in
-    parts_tree_fits 801 join (reverse (chained [] (nest_parts fields join [] here))) (omega arith) turned
+    let made : PartsFit (1 + 8 * nests_depth here) (nest_parts schema join [] here) = nests_fit schema join [] here sound (levels_good schema ks good).here in
+    let turned : PartsFit 801 (reverse (chained [] (nest_parts schema join [] here))) =
+    reverse_fit 801 (chained [] (nest_parts schema join [] here))
+    (chained_fit 801 [] (nest_parts schema join [] here) tt (parts_deeper (1 + 8 * nests_depth here) 801 (nest_parts schema join [] here) (omega arith) made)) in
+    parts_tree_fits 801 join (reverse (chained [] (nest_parts schema join [] here))) (omega arith) turned
 
-pub tree_in_leaves : (fields : List Field) (join : Join) (ks : List Kind) → tree_leaves (tree_in fields join ks) ≤ leaves_in ks
-tree_in_leaves fields join ks =
+pub tree_in_leaves : (schema : Schema) (join : Join) (ks : List Kind) → tree_leaves (tree_in schema join ks) ≤ leaves_in ks
+tree_in_leaves schema join ks =
     let here : Nests = Levels.here (levels_of ks) in
-    let parts : List Part = nest_parts fields join [] here in
+    let parts : List Part = nest_parts schema join [] here in
     let a = parts_tree_leaves join (reverse (chained [] parts)) in
     let b = reverse_leaves (chained [] parts) in
     let c = chained_leaves [] parts in
-    let d = nests_few fields join [] here in
+    let d = nests_few schema join [] here in
     let e = all_leaves ks in
     omega (arith, a, b, c, d, e)

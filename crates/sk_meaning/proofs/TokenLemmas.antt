@@ -3,7 +3,7 @@ use Rattle.std.proofs.Common.{◌≡◌, ◌≤◌, ◌<◌, ℕ, zero, suc, pre
 use Rattle.std.proofs.lemmas.Bool.Decides.{nat_tests}
 use Rattle.std.specs.List.{list_all}
 use Rattle.std.proofs.lemmas.Bool.{and_from}
-use Rattle.sk_base.specs.declared.schema.Field.{Field}
+use Rattle.sk_base.specs.declared.schema.Schema.{Schema}
 use Rattle.sk_base.specs.Fields.{is_field}
 use Rattle.sk_grammar.specs.declared.fault.FaultKind.{FaultKind}
 use Rattle.sk_grammar.specs.declared.token.Kind.{Kind}
@@ -14,29 +14,29 @@ use Rattle.sk_grammar.specs.Faults.{is_item, is_open, is_distance, is_between, d
 use Rattle.sk_meaning.proofs.PieceLemmas.{is_filled, KindFilled, PieceFilled, piece_filled}
 
 -- The tokens of a text are filled.
-abbrev AllFilled : List Field → List Piece → Type 0
-AllFilled fields [] = Unit {0}
-AllFilled fields (p ∷ ps) = PieceFilled fields p × AllFilled fields ps
+abbrev AllFilled : Schema → List Piece → Type 0
+AllFilled schema [] = Unit {0}
+AllFilled schema (p ∷ ps) = PieceFilled schema p × AllFilled schema ps
 
-behind_filled : (fields : List Field) (cs : List ℕ) (before : Option ℕ) (n : ℕ) → list_all is_field fields ≡ true → AllFilled fields (pieces_behind fields before n cs)
-behind_filled fields [] before n sound = tt
-behind_filled fields (c ∷ cs) before (suc n) sound = behind_filled fields cs (Some c) n sound
-behind_filled fields (c ∷ cs) before zero sound =
-    (piece_filled fields before c cs sound, behind_filled fields cs (Some c) (pred (Piece.size (piece_at fields before c cs))) sound)
+behind_filled : (schema : Schema) (cs : List ℕ) (before : Option ℕ) (n : ℕ) → list_all is_field schema.fields ≡ true → AllFilled schema (pieces_behind schema before n cs)
+behind_filled schema [] before n sound = tt
+behind_filled schema (c ∷ cs) before (suc n) sound = behind_filled schema cs (Some c) n sound
+behind_filled schema (c ∷ cs) before zero sound =
+    (piece_filled schema before c cs sound, behind_filled schema cs (Some c) (pred (Piece.size (piece_at schema before c cs))) sound)
 
-placed_filled : (fields : List Field) (o : Option Kind) (from to : ℕ) (ts : List Token) → KindFilled fields o → list_all (is_filled fields) (kinds_of ts) ≡ true
-    → list_all (is_filled fields) (kinds_of (placed o from to ++ ts)) ≡ true
-placed_filled fields None from to ts f g = g
-placed_filled fields (Some k) from to ts f g = and_from (is_filled fields k) (list_all (is_filled fields) (kinds_of ts)) f g
+placed_filled : (schema : Schema) (o : Option Kind) (from to : ℕ) (ts : List Token) → KindFilled schema o → list_all (is_filled schema) (kinds_of ts) ≡ true
+    → list_all (is_filled schema) (kinds_of (placed o from to ++ ts)) ≡ true
+placed_filled schema None from to ts f g = g
+placed_filled schema (Some k) from to ts f g = and_from (is_filled schema k) (list_all (is_filled schema) (kinds_of ts)) f g
 
-from_filled : (fields : List Field) (ps : List Piece) (at : ℕ) (left : List ℕ) → AllFilled fields ps → list_all (is_filled fields) (kinds_of (tokens_from at left ps)) ≡ true
-from_filled fields [] at left h = refl
-from_filled fields (p ∷ ps) at left h =
-    placed_filled fields p.kind at (at + byte_len (take p.size left)) (tokens_from (at + byte_len (take p.size left)) (drop p.size left) ps) h.0
-    (from_filled fields ps (at + byte_len (take p.size left)) (drop p.size left) h.1)
+from_filled : (schema : Schema) (ps : List Piece) (at : ℕ) (left : List ℕ) → AllFilled schema ps → list_all (is_filled schema) (kinds_of (tokens_from at left ps)) ≡ true
+from_filled schema [] at left h = refl
+from_filled schema (p ∷ ps) at left h =
+    placed_filled schema p.kind at (at + byte_len (take p.size left)) (tokens_from (at + byte_len (take p.size left)) (drop p.size left) ps) h.0
+    (from_filled schema ps (at + byte_len (take p.size left)) (drop p.size left) h.1)
 
-pub tokens_filled : (fields : List Field) (text : List ℕ) → list_all is_field fields ≡ true → list_all (is_filled fields) (kinds_of (tokens_of fields text)) ≡ true
-tokens_filled fields text sound = from_filled fields (pieces_of fields (chars text)) 0 (chars text) (behind_filled fields (chars text) None 0 sound)
+pub tokens_filled : (schema : Schema) (text : List ℕ) → list_all is_field schema.fields ≡ true → list_all (is_filled schema) (kinds_of (tokens_of schema text)) ≡ true
+tokens_filled schema text sound = from_filled schema (pieces_of schema (chars text)) 0 (chars text) (behind_filled schema (chars text) None 0 sound)
 
 -- The distance of NEAR and ADJ is one.
 abbrev pub is_linkable : Kind → Bool
@@ -88,13 +88,13 @@ few_within : (b : Bool) (n m : ℕ) → (b ≡ false → m ≡ 0) → (b && nat_
 few_within true n m f e h = grind (arith, nat_tests)
 few_within false n m f e h = let none = f refl in omega arith
 
-faultless : (fields : List Field) (before : List Kind) (k : Kind) (behind : List Kind) → fault_at fields before k behind ≡ None → IsFaultless before k
-faultless fields before k behind e =
+faultless : (schema : Schema) (before : List Kind) (k : Kind) (behind : List Kind) → fault_at schema before k behind ≡ None → IsFaultless before k
+faultless schema before k behind e =
     let a = past (is_stray before k) FaultKind.StrayBracket _ e in
     let b = past (is_unclosed before k behind) FaultKind.UnclosedBracket _ a.1 in
     let c = past (lacks_operand before k behind) FaultKind.MissingOperand _ b.1 in
     let d = past (is_bad_near before k behind) FaultKind.BadNear _ c.1 in
-    let f = past (is_bad_range fields k) FaultKind.BadRange _ d.1 in
+    let f = past (is_bad_range schema k) FaultKind.BadRange _ d.1 in
     let g = past (is_too_deep before k) FaultKind.TooDeep _ f.1 in
     let h = past (is_too_many before k) FaultKind.TooMany _ g.1 in
     record {
@@ -116,11 +116,11 @@ more_faultless before k ks one more = record {
   few = λ h. let first = one.few h in let rest = more.few (omega arith) in omega arith;
 }
 
-faultless_behind : (fields : List Field) (before : List Kind) (ts : List Token) → fault_behind fields before ts ≡ None → AreFaultless before (kinds_of ts)
-faultless_behind fields before [] e = record { links = refl; shallow = tt; few = λ h. omega arith }
-faultless_behind fields before (t ∷ ts) e =
-    let parts = or_none (fault_at fields before (Token.kind t) (kinds_of ts)) (Token.from t) (fault_behind fields (Token.kind t ∷ before) ts) e in
-    more_faultless before (Token.kind t) (kinds_of ts) (faultless fields before (Token.kind t) (kinds_of ts) parts.0) (faultless_behind fields (Token.kind t ∷ before) ts parts.1)
+faultless_behind : (schema : Schema) (before : List Kind) (ts : List Token) → fault_behind schema before ts ≡ None → AreFaultless before (kinds_of ts)
+faultless_behind schema before [] e = record { links = refl; shallow = tt; few = λ h. omega arith }
+faultless_behind schema before (t ∷ ts) e =
+    let parts = or_none (fault_at schema before (Token.kind t) (kinds_of ts)) (Token.from t) (fault_behind schema (Token.kind t ∷ before) ts) e in
+    more_faultless before (Token.kind t) (kinds_of ts) (faultless schema before (Token.kind t) (kinds_of ts) parts.0) (faultless_behind schema (Token.kind t ∷ before) ts parts.1)
 
-pub faultless_in : (fields : List Field) (ts : List Token) → fault_in fields ts ≡ None → AreFaultless [] (kinds_of ts)
-faultless_in fields ts e = faultless_behind fields [] ts e
+pub faultless_in : (schema : Schema) (ts : List Token) → fault_in schema ts ≡ None → AreFaultless [] (kinds_of ts)
+faultless_in schema ts e = faultless_behind schema [] ts e

@@ -1,7 +1,7 @@
 -- There are bounds that a find may have.
 use Rattle.std.proofs.Common.{◌≡◌, ◌≤◌, ◌+◌, ◌-◌, ℕ, Bool, true, nat_le, List, length, filter, drop, min, refl, arith, length-take, length-drop}
 use Rattle.std.proofs.lemmas.List.Sums.{length-filter, count_by-le-length}
-use Rattle.sk_base.specs.declared.find.Find.{Find}
+use Rattle.sk_base.specs.declared.find.Paging.{Paging}
 use Rattle.sk_base.specs.declared.rank.Rank.{Rank}
 use Rattle.sk_base.specs.Numbers.{Docs}
 use Rattle.sk_query.specs.Trees.{Tree}
@@ -13,14 +13,14 @@ use Rattle.sk_model.proofs.KeptLaws.{kept_front, kept_others, dropped_front, kep
 use Rattle.sk_model.proofs.StaticLaws.{matches_within}
 
 -- the true count lies within the bounds on it
-pub true_counts : (find : Find) (docs : Docs) (ranks : List Rank) (greatest static : ℕ) → length ranks ≤ static → Counts find docs ranks greatest static (length (kept_by find docs ranks)) (length (kept_by find docs ranks))
-true_counts find docs ranks greatest static within =
-    let first : length (kept_by find docs (seen find ranks)) ≤ length (kept_by find docs ranks) = kept_front find.order find.collapse (key_of find.collapse docs) (wanted find) ranks in
-    let others : length (kept_by find docs ranks) ≤ length (kept_by find docs (seen find ranks)) + length (drop (wanted find) ranks) =
-    kept_others find.order find.collapse (key_of find.collapse docs) (wanted find) ranks in
-    let front : length (seen find ranks) ≡ min (wanted find) (length ranks) = length-take (wanted find) ranks in
-    let rest : length (drop (wanted find) ranks) ≡ length ranks - wanted find = length-drop (wanted find) ranks in
-    let few : length (kept_by find docs (seen find ranks)) ≤ length (seen find ranks) = kept_few find.order find.collapse (key_of find.collapse docs) (seen find ranks) in
+pub true_counts : (paging : Paging) (docs : Docs) (ranks : List Rank) (greatest static : ℕ) → length ranks ≤ static → Counts paging docs ranks greatest static (length (kept_by paging docs ranks)) (length (kept_by paging docs ranks))
+true_counts paging docs ranks greatest static within =
+    let first : length (kept_by paging docs (seen paging ranks)) ≤ length (kept_by paging docs ranks) = kept_front paging.order paging.collapse (key_of paging.collapse docs) (wanted paging) ranks in
+    let others : length (kept_by paging docs ranks) ≤ length (kept_by paging docs (seen paging ranks)) + length (drop (wanted paging) ranks) =
+    kept_others paging.order paging.collapse (key_of paging.collapse docs) (wanted paging) ranks in
+    let front : length (seen paging ranks) ≡ min (wanted paging) (length ranks) = length-take (wanted paging) ranks in
+    let rest : length (drop (wanted paging) ranks) ≡ length ranks - wanted paging = length-drop (wanted paging) ranks in
+    let few : length (kept_by paging docs (seen paging ranks)) ≤ length (seen paging ranks) = kept_few paging.order paging.collapse (key_of paging.collapse docs) (seen paging ranks) in
     record {
       of_seen = first;
       at_least = omega arith;
@@ -34,16 +34,16 @@ pub within : (p : Rank → Bool) (xs : List Rank) → length (filter p xs) ≤ l
 within p xs = omega (arith, length-filter p xs, count_by-le-length p xs)
 
 -- no more than match without a cutoff
-pub found_within : (query : Tree) (find : Find) (above : ℕ) (docs : Docs) → is_sound above query ≡ true → length (found_by query find docs) ≤ static_count query docs
-found_within query find above docs e =
-    let few : length (found_by query find docs) ≤ length (matches query find.options.scheme find.order docs) = within (λ (x : Rank). nat_le find.options.cutoff x.weight) (matches query find.options.scheme find.order docs) in
-    let most : length (matches query find.options.scheme find.order docs) ≤ static_count query docs = matches_within query find.options.scheme find.order above docs e in
+pub found_within : (query : Tree) (paging : Paging) (above : ℕ) (docs : Docs) → is_sound above query ≡ true → length (found_by query paging docs) ≤ static_count query docs
+found_within query paging above docs e =
+    let few : length (found_by query paging docs) ≤ length (matches query paging.options.scheme paging.order docs) = within (λ (x : Rank). nat_le paging.options.cutoff x.weight) (matches query paging.options.scheme paging.order docs) in
+    let most : length (matches query paging.options.scheme paging.order docs) ≤ static_count query docs = matches_within query paging.options.scheme paging.order above docs e in
     omega (arith, few, most)
 
-pub found_counts : (query : Tree) (find : Find) (above greatest : ℕ) (docs : Docs) → is_sound above query ≡ true
-    → Counts find docs (found_by query find docs) greatest (static_count query docs) (length (kept_by find docs (found_by query find docs))) (length (kept_by find docs (found_by query find docs)))
-found_counts query find above greatest docs e = true_counts find docs (found_by query find docs) greatest (static_count query docs) (found_within query find above docs e)
+pub found_counts : (query : Tree) (paging : Paging) (above greatest : ℕ) (docs : Docs) → is_sound above query ≡ true
+    → Counts paging docs (found_by query paging docs) greatest (static_count query docs) (length (kept_by paging docs (found_by query paging docs))) (length (kept_by paging docs (found_by query paging docs)))
+found_counts query paging above greatest docs e = true_counts paging docs (found_by query paging docs) greatest (static_count query docs) (found_within query paging above docs e)
 
 -- what is dropped of a key lies within the bounds on it
-pub true_collapse : (find : Find) (docs : Docs) (ranks : List Rank) (k : List ℕ) → CollapseCount find docs ranks k (dropped_by find docs k ranks)
-true_collapse find docs ranks k = record { at_least = dropped_front find.order find.collapse (key_of find.collapse docs) k (wanted find) ranks; at_most = omega arith }
+pub true_collapse : (paging : Paging) (docs : Docs) (ranks : List Rank) (k : List ℕ) → CollapseCount paging docs ranks k (dropped_by paging docs k ranks)
+true_collapse paging docs ranks k = record { at_least = dropped_front paging.order paging.collapse (key_of paging.collapse docs) k (wanted paging) ranks; at_most = omega arith }

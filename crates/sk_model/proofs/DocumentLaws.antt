@@ -14,6 +14,7 @@ use Rattle.sk_base.specs.declared.record.Record.{Record}
 use Rattle.sk_base.specs.declared.record.Entry.{Entry}
 use Rattle.sk_base.specs.declared.record.FieldValue.{FieldValue}
 use Rattle.sk_base.specs.declared.schema.Field.{Field}
+use Rattle.sk_base.specs.declared.schema.Schema.{Schema}
 use Rattle.sk_base.specs.declared.schema.FieldKind.{FieldKind}
 use Rattle.sk_base.specs.Documents.{has_value, AreValues}
 use Rattle.sk_base.specs.Fields.{clash, kinds_clash, are_apart}
@@ -76,9 +77,10 @@ or_false true h = refl
 or_false false h = h
 
 -- a value of a document stands in a slot of its schema
-pub slots_are_kept : (slot : ℕ) (fields : List Field) (given : Record) → has_value slot (document_of fields given).values ≡ true → has_slot slot fields ≡ true
-slots_are_kept slot fields given h =
-    has_slot_from slot 0 fields given.values (or_false (has_value slot (slot_values_from 0 fields given.values)) (sym (has-fold slot [] (slot_values_from 0 fields given.values)) ∙ h))
+pub slots_are_kept : (slot : ℕ) (schema : Schema) (given : Record) → has_value slot (document_of schema given).values ≡ true → has_slot slot schema.fields ≡ true
+slots_are_kept slot schema given h =
+    has_slot_from slot 0 schema.fields given.values
+    (or_false (has_value slot (slot_values_from 0 schema.fields given.values)) (sym (has-fold slot [] (slot_values_from 0 schema.fields given.values)) ∙ h))
 
 -- ---- the order of the values
 

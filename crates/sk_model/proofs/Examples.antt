@@ -5,13 +5,11 @@ use Rattle.sk_base.specs.declared.doc_entry.DocTerm.{DocTerm}
 use Rattle.sk_base.specs.declared.record.Edit.{Edit}
 use Rattle.sk_base.specs.declared.record.FieldValue.TheVariants as FieldValue
 use Rattle.sk_base.specs.declared.record.Reply.TheVariants as Reply
-use Rattle.sk_base.specs.declared.schema.Field.{Field}
+use Rattle.sk_base.specs.declared.schema.Schema.{Schema}
 use Rattle.sk_base.specs.declared.schema.FieldKind.TheVariants as FieldKind
 use Rattle.sk_base.specs.declared.doc_entry.SlotValue.{SlotValue}
-use Rattle.sk_base.specs.declared.find.Ask.TheVariants as Ask
 use Rattle.sk_base.specs.declared.find.Collapse.{Collapse}
-use Rattle.sk_base.specs.declared.find.Find.{Find}
-use Rattle.sk_base.specs.declared.find.Join.TheVariants as Join
+use Rattle.sk_base.specs.declared.find.Paging.{Paging}
 use Rattle.sk_base.specs.declared.find.Scheme.{Scheme}
 use Rattle.sk_base.specs.declared.rank.Order.{Order}
 use Rattle.sk_base.specs.declared.rank.OrderBy.{OrderBy}
@@ -40,15 +38,15 @@ abbrev pub relevance : Order
 relevance = rising OrderBy.Relevance
 
 -- a filter `lang` and a number `year`
-abbrev fields : List Field
-fields = record { name = codes "lang"; kind = FieldKind.Filter (codes "L") } ∷ record { name = codes "year"; kind = FieldKind.Number 3 } ∷ []
+abbrev schema : Schema
+schema = record { fields = record { name = codes "lang"; kind = FieldKind.Filter (codes "L") } ∷ record { name = codes "year"; kind = FieldKind.Number 3 } ∷ [] }
 
 -- a record in English of this year
 abbrev added : ℕ → Edit
 added year = Edit.Add (record { values = record { field = 0; value = FieldValue.Filter (codes "en" ∷ [] ∷ codes "en" ∷ []) } ∷ record { field = 1; value = FieldValue.Number year } ∷ []; payload = codes "p" })
 
 -- a repeated text of a filter counts once, an empty one not at all, and the number 0 is a value of eight bytes
-filtered : document_of fields (record { values = record { field = 0; value = FieldValue.Filter (codes "en" ∷ [] ∷ codes "en" ∷ []) } ∷ record { field = 1; value = FieldValue.Number 0 } ∷ []; payload = codes "p" })
+filtered : document_of schema (record { values = record { field = 0; value = FieldValue.Filter (codes "en" ∷ [] ∷ codes "en" ∷ []) } ∷ record { field = 1; value = FieldValue.Number 0 } ∷ []; payload = codes "p" })
     ≡ record { terms = record { term = codes "Len"; wdf = 0; positions = [] } ∷ []; values = record { slot = 3; value = 0 ∷ 0 ∷ 0 ∷ 0 ∷ 0 ∷ 0 ∷ 0 ∷ 0 ∷ [] } ∷ []; payload = codes "p" }
 filtered = refl
 
@@ -67,7 +65,7 @@ gathered = refl
 
 -- two documents in English
 abbrev two : Live
-two = live_after fields nothing_live (added 1990 ∷ added 2000 ∷ [])
+two = live_after schema nothing_live (added 1990 ∷ added 2000 ∷ [])
 
 -- ids begin at 1 and rise
 ids : map (λ one. one.0) two.documents ≡ 1 ∷ 2 ∷ []
@@ -83,11 +81,11 @@ last_reply = refl
 no_reply : reply_to (record { documents = []; highest = 4294967295 }) (added 1990) ≡ Reply.NoIdLeft
 no_reply = refl
 
-no_edit : edited fields (record { documents = []; highest = 4294967295 }) (added 1990) ≡ record { documents = []; highest = 4294967295 }
+no_edit : edited schema (record { documents = []; highest = 4294967295 }) (added 1990) ≡ record { documents = []; highest = 4294967295 }
 no_edit = refl
 
 -- a deleted id is not given again
-not_again : map (λ one. one.0) (let live : Live = live_after fields two (Edit.Delete 2 ∷ added 1990 ∷ []) in live.documents) ≡ 1 ∷ 3 ∷ []
+not_again : map (λ one. one.0) (let live : Live = live_after schema two (Edit.Delete 2 ∷ added 1990 ∷ []) in live.documents) ≡ 1 ∷ 3 ∷ []
 not_again = refl
 
 -- only a live document is deleted
@@ -98,14 +96,14 @@ found_none : reply_to two (Edit.Delete 3) ≡ Reply.NotFound
 found_none = refl
 
 -- the lowest that has the term is replaced, and the others are gone
-replaced : map (λ one. one.0) (let live : Live = edited fields two (Edit.ReplaceBy (codes "Len") (record { values = []; payload = [] })) in live.documents) ≡ 1 ∷ []
+replaced : map (λ one. one.0) (let live : Live = edited schema two (Edit.ReplaceBy (codes "Len") (record { values = []; payload = [] })) in live.documents) ≡ 1 ∷ []
 replaced = refl
 
 deleted : reply_to two (Edit.DeleteBy (codes "Len")) ≡ Reply.Done 2
 deleted = refl
 
 -- an id above the highest becomes the highest
-raised : (let live : Live = edited fields two (Edit.Replace 9 (record { values = []; payload = [] })) in live.highest) ≡ 9
+raised : (let live : Live = edited schema two (Edit.Replace 9 (record { values = []; payload = [] })) in live.highest) ≡ 9
 raised = refl
 
 -- ---- what one document scores
@@ -402,10 +400,10 @@ four =
     ∷ []
 
 -- a find of its first hits, so many, counting no further than it must
-abbrev first_hits : Scheme → ℕ → Order → Option Collapse → Find
-first_hits scheme size order collapse = record { ask = Ask.Text (codes "red") Join.Or; options = record { scheme = scheme; first = 0; size = size; check = 0; cutoff = 0 }; order = order; collapse = collapse }
+abbrev first_hits : Scheme → ℕ → Order → Option Collapse → Paging
+first_hits scheme size order collapse = record { options = record { scheme = scheme; first = 0; size = size; check = 0; cutoff = 0 }; order = order; collapse = collapse }
 
-abbrev ten : Find
+abbrev ten : Paging
 ten = first_hits Scheme.Nnn 10 relevance None
 
 -- ids with weights
@@ -413,8 +411,8 @@ abbrev weights : List Rank → List (ℕ × ℕ)
 weights ranks = map (λ rank. (rank.id, rank.weight)) ranks
 
 -- what a find keeps, and what a query finds as it is
-abbrev hits : Tree → Find → List (ℕ × ℕ)
-hits query find = weights (kept_by find four (matches query find.options.scheme find.order four))
+abbrev hits : Tree → Paging → List (ℕ × ℕ)
+hits query paging = weights (kept_by paging four (matches query paging.options.scheme paging.order four))
 
 abbrev finds : Tree → List (ℕ × ℕ)
 finds query = hits query ten
@@ -481,7 +479,7 @@ second_page = refl
 -- ---- collapsing
 
 -- collapsed on the site, so many of each
-abbrev sites : ℕ → Order → Find
+abbrev sites : ℕ → Order → Paging
 sites most order = first_hits Scheme.Nnn 10 order (Some (record { slot = 1; max = most }))
 
 -- the best of each site, and one dropped of each
@@ -522,7 +520,7 @@ wanted_check = refl
 seen_first : weights (seen (record ten { options = record ten.options { size = 2 } }) (matches red_fox Scheme.Nnn relevance four)) ≡ (1, 3) ∷ (2, 1) ∷ []
 seen_first = refl
 
-one_duplicate : (let find : Find = record (sites 1 relevance) { options = record (first_hits Scheme.Nnn 2 relevance None).options { size = 2 } } in duplicates find four (seen find (matches red_fox Scheme.Nnn relevance four))) ≡ 1
+one_duplicate : (let paging : Paging = record (sites 1 relevance) { options = record (first_hits Scheme.Nnn 2 relevance None).options { size = 2 } } in duplicates paging four (seen paging (matches red_fox Scheme.Nnn relevance four))) ≡ 1
 one_duplicate = refl
 
 -- ---- bounds

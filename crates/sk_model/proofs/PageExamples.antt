@@ -1,9 +1,7 @@
 -- Pages of hits, each with its id, its weight and how many were collapsed into it, and the true counts, worked out by hand.
 use Rattle.std.proofs.Common.{◌≡◌, ℕ, Bool, true, false, ◌∷◌, [], List, length, refl, Option, Some, None, map, codes}
-use Rattle.sk_base.specs.declared.find.Ask.TheVariants as Ask
 use Rattle.sk_base.specs.declared.find.Collapse.{Collapse}
-use Rattle.sk_base.specs.declared.find.Find.{Find}
-use Rattle.sk_base.specs.declared.find.Join.TheVariants as Join
+use Rattle.sk_base.specs.declared.find.Paging.{Paging}
 use Rattle.sk_base.specs.declared.find.Scheme.{Scheme}
 use Rattle.sk_base.specs.declared.rank.Order.{Order}
 use Rattle.sk_base.specs.declared.rank.OrderBy.{OrderBy}
@@ -22,23 +20,23 @@ key slot reverse = record { slot = slot; reverse = reverse }
 abbrev by : ℕ → ℕ → Option Collapse
 by slot most = Some (record { slot = slot; max = most })
 
--- a find, of which the query is given beside it
-abbrev asks : Scheme → Order → Option Collapse → ℕ → ℕ → Find
-asks scheme order collapse first size = record { ask = Ask.Text (codes "red") Join.Or; options = record { scheme = scheme; first = first; size = size; check = 0; cutoff = 0 }; order = order; collapse = collapse }
+-- a page
+abbrev asks : Scheme → Order → Option Collapse → ℕ → ℕ → Paging
+asks scheme order collapse first size = record { options = record { scheme = scheme; first = first; size = size; check = 0; cutoff = 0 }; order = order; collapse = collapse }
 
 -- its page over documents
-abbrev page : Docs → Tree → Find → List (ℕ × ℕ × ℕ)
-page docs query find = map (λ rank. (rank.id, rank.weight, dropped_by find docs (key_of find.collapse docs rank) (found_by query find docs))) (page_of query find docs)
+abbrev page : Docs → Tree → Paging → List (ℕ × ℕ × ℕ)
+page docs query paging = map (λ rank. (rank.id, rank.weight, dropped_by paging docs (key_of paging.collapse docs rank) (found_by query paging docs))) (page_of query paging docs)
 
 -- how many it keeps in all
-abbrev count : Docs → Tree → Find → ℕ
-count docs query find = length (kept_by find docs (found_by query find docs))
+abbrev count : Docs → Tree → Paging → ℕ
+count docs query paging = length (kept_by paging docs (found_by query paging docs))
 
 abbrev red_fox : Tree
 red_fox = parts Form.Or (trees_from (term (codes "red") ∷ term (codes "fox") ∷ []))
 
 -- `red` or `fox` in the orders, and pages of them
-abbrev ordered : List (Find × List (ℕ × ℕ × ℕ))
+abbrev ordered : List (Paging × List (ℕ × ℕ × ℕ))
 ordered =
     (asks Scheme.Nnn relevance None 0 10, (1, 3, 0) ∷ (4, 2, 0) ∷ (2, 1, 0) ∷ (3, 1, 0) ∷ [])
     ∷ (asks Scheme.Coord relevance None 0 10, (1, 2, 0) ∷ (4, 2, 0) ∷ (2, 1, 0) ∷ (3, 1, 0) ∷ [])
@@ -68,7 +66,7 @@ ordered_pages = refl
 abbrev falls : OrderBy → Order
 falls order = record { by = order; falling = true }
 
-abbrev fallen : List (Find × List (ℕ × ℕ × ℕ))
+abbrev fallen : List (Paging × List (ℕ × ℕ × ℕ))
 fallen =
     (asks Scheme.Nnn (falls OrderBy.Relevance) None 0 10, (1, 3, 0) ∷ (4, 2, 0) ∷ (3, 1, 0) ∷ (2, 1, 0) ∷ [])
     ∷ (asks Scheme.Nnn (falls (OrderBy.Value (key 1 false))) None 0 10, (2, 1, 0) ∷ (1, 3, 0) ∷ (4, 2, 0) ∷ (3, 1, 0) ∷ [])
@@ -80,11 +78,11 @@ fallen_pages : map (λ row. page four red_fox row.0) fallen ≡ map (λ row. row
 fallen_pages = refl
 
 -- the same find with a cutoff
-abbrev above : ℕ → Find → Find
-above cutoff find = record find { options = record find.options { cutoff = cutoff } }
+abbrev above : ℕ → Paging → Paging
+above cutoff paging = record paging { options = record paging.options { cutoff = cutoff } }
 
 -- what weighs less is in no page, in no count, and collapses nothing
-abbrev cut : List (Find × List (ℕ × ℕ × ℕ) × ℕ)
+abbrev cut : List (Paging × List (ℕ × ℕ × ℕ) × ℕ)
 cut =
     (above 1 (asks Scheme.Nnn relevance None 0 10), (1, 3, 0) ∷ (4, 2, 0) ∷ (2, 1, 0) ∷ (3, 1, 0) ∷ [], 4)
     ∷ (above 2 (asks Scheme.Nnn relevance None 0 10), (1, 3, 0) ∷ (4, 2, 0) ∷ [], 2)
@@ -123,7 +121,7 @@ query_counts : map (λ row. count four row.0 (asks Scheme.Nnn relevance None 0 1
 query_counts = refl
 
 -- collapsed on the site or the year
-abbrev collapsed : List (Find × List (ℕ × ℕ × ℕ) × ℕ)
+abbrev collapsed : List (Paging × List (ℕ × ℕ × ℕ) × ℕ)
 collapsed =
     (asks Scheme.Nnn relevance (by 1 1) 0 10, (1, 3, 1) ∷ (4, 2, 1) ∷ [], 2)
     ∷ (asks Scheme.Nnn relevance (by 1 2) 0 10, (1, 3, 0) ∷ (4, 2, 0) ∷ (2, 1, 0) ∷ (3, 1, 0) ∷ [], 4)
@@ -154,7 +152,7 @@ six =
     ∷ []
 
 -- documents of no site are kept apart
-abbrev apart : List (Find × List (ℕ × ℕ × ℕ) × ℕ)
+abbrev apart : List (Paging × List (ℕ × ℕ × ℕ) × ℕ)
 apart =
     (asks Scheme.Nnn relevance None 0 10, (5, 4, 0) ∷ (3, 3, 0) ∷ (2, 2, 0) ∷ (1, 1, 0) ∷ (4, 1, 0) ∷ (6, 1, 0) ∷ [], 6)
     ∷ (asks Scheme.Nnn relevance (by 1 1) 0 10, (5, 4, 0) ∷ (3, 3, 2) ∷ (4, 1, 0) ∷ (6, 1, 0) ∷ [], 4)

@@ -3,7 +3,7 @@ use Rattle.std.proofs.Common.{◌≡◌, ◌<◌, ◌≤◌, ◌+◌, ◌-◌, �
 use Rattle.std.proofs.lemmas.Bool.Decides.{nat_tests}
 use Rattle.std.proofs.lemmas.List.Sums.{sum_by-cons}
 use Rattle.std.proofs.lemmas.Bool.{and_parts, le-leb, le-ltb, leb-false, leb-true, lt-leb, lt-ltb}
-use Rattle.sk_base.specs.declared.find.Find.{Find}
+use Rattle.sk_base.specs.declared.find.Paging.{Paging}
 use Rattle.sk_base.specs.declared.rank.Rank.{Rank}
 use Rattle.sk_base.specs.Numbers.{Docs}
 use Rattle.sk_query.specs.declared.form.Form.{Form}
@@ -103,11 +103,11 @@ want_least id n k weight ranks true low e rest = omega arith
 want_least id n k weight ranks false true e rest = omega arith
 want_least id n k weight ranks false false e rest = rest (is_some n e)
 
-pub least : (find : Find) (ranks : List Rank) (weight id : ℕ) → AllPairs (λ (x y : Rank). x.id < y.id) ranks → wanted find ≤ seen_up_to id ranks → find.options.first + find.options.size ≤ heavy_up_to (settling_weight find weight) id ranks
-    → settled find ranks weight ≤ id
-least find ranks weight id rising a b =
-    want_least id (wanted find) (find.options.first + find.options.size) (settling_weight find weight) ranks (wanted find == 0) (nat_lt weight find.options.cutoff) refl
-    (λ some. least_from (settling_weight find weight) id (wanted find) (find.options.first + find.options.size) ranks (rising_of ranks rising) (omega (arith, some)) a b)
+pub least : (paging : Paging) (ranks : List Rank) (weight id : ℕ) → AllPairs (λ (x y : Rank). x.id < y.id) ranks → wanted paging ≤ seen_up_to id ranks → paging.options.first + paging.options.size ≤ heavy_up_to (settling_weight paging weight) id ranks
+    → settled paging ranks weight ≤ id
+least paging ranks weight id rising a b =
+    want_least id (wanted paging) (paging.options.first + paging.options.size) (settling_weight paging weight) ranks (wanted paging == 0) (nat_lt weight paging.options.cutoff) refl
+    (λ some. least_from (settling_weight paging weight) id (wanted paging) (paging.options.first + paging.options.size) ranks (rising_of ranks rising) (omega (arith, some)) a b)
 
 -- ---- leb-true to it there is enough
 
@@ -157,21 +157,21 @@ want_enough n k weight ranks none true e high within some rest = absurd (true≢
 want_enough n k weight ranks true false e high within some rest = let zero_is : n ≡ 0 = is_none n e in (omega (arith, zero_is), omega (arith, zero_is, within))
 want_enough n k weight ranks false false e high within some rest = rest some
 
-pub enough : (find : Find) (ranks : List Rank) (weight : ℕ) → AllPairs (λ (x y : Rank). x.id < y.id) ranks → settled find ranks weight < last_id → find.options.cutoff ≤ weight
-    → Enough (wanted find) (find.options.first + find.options.size) (settling_weight find weight) (settled find ranks weight) ranks
-enough find ranks weight rising within high =
-    want_enough (wanted find) (find.options.first + find.options.size) (settling_weight find weight) ranks (wanted find == 0) (nat_lt weight find.options.cutoff) refl (le-ltb weight find.options.cutoff high) (omega arith) within
-    (enough_from (settling_weight find weight) (wanted find) (find.options.first + find.options.size) ranks (rising_of ranks rising))
+pub enough : (paging : Paging) (ranks : List Rank) (weight : ℕ) → AllPairs (λ (x y : Rank). x.id < y.id) ranks → settled paging ranks weight < last_id → paging.options.cutoff ≤ weight
+    → Enough (wanted paging) (paging.options.first + paging.options.size) (settling_weight paging weight) (settled paging ranks weight) ranks
+enough paging ranks weight rising within high =
+    want_enough (wanted paging) (paging.options.first + paging.options.size) (settling_weight paging weight) ranks (wanted paging == 0) (nat_lt weight paging.options.cutoff) refl (le-ltb weight paging.options.cutoff high) (omega arith) within
+    (enough_from (settling_weight paging weight) (wanted paging) (paging.options.first + paging.options.size) ranks (rising_of ranks rising))
 
 -- no match can weigh as much as the cutoff
 or_true : (b : Bool) → (b || true) ≡ true
 or_true true = refl
 or_true false = refl
 
-pub below : (find : Find) (ranks : List Rank) (weight : ℕ) → weight < find.options.cutoff → settled find ranks weight ≡ 0
-below find ranks weight lt =
-    ap (λ (b : Bool). cond ((wanted find == 0) || b) 0 (settled_from (wanted find) (find.options.first + find.options.size) (settling_weight find weight) ranks)) (lt-ltb weight find.options.cutoff lt)
-    ∙ ap (λ (b : Bool). cond b 0 (settled_from (wanted find) (find.options.first + find.options.size) (settling_weight find weight) ranks)) (or_true (wanted find == 0))
+pub below : (paging : Paging) (ranks : List Rank) (weight : ℕ) → weight < paging.options.cutoff → settled paging ranks weight ≡ 0
+below paging ranks weight lt =
+    ap (λ (b : Bool). cond ((wanted paging == 0) || b) 0 (settled_from (wanted paging) (paging.options.first + paging.options.size) (settling_weight paging weight) ranks)) (lt-ltb weight paging.options.cutoff lt)
+    ∙ ap (λ (b : Bool). cond b 0 (settled_from (wanted paging) (paging.options.first + paging.options.size) (settling_weight paging weight) ranks)) (or_true (wanted paging == 0))
 
 -- ---- the least of several numbers
 
@@ -182,40 +182,40 @@ within_first n (Some m) = omega arith
 within_other : (n m : ℕ) (o : Option ℕ) → o ≡ Some m → at_most n o ≤ m
 within_other n m o e = subst (λ (p : Option ℕ). at_most n p ≤ m) (sym e) (omega arith)
 
-module _ (query : Tree) (find : Find) (docs : Docs) (hits : ℕ) where
+module _ (query : Tree) (paging : Paging) (docs : Docs) (hits : ℕ) where
   abbrev of_list : ℕ
-  of_list = allowance query find docs (length (found_by query find docs)) hits
+  of_list = allowance query paging docs (length (found_by query paging docs)) hits
 
   abbrev of_stop : Option ℕ
-  of_stop = stop_number query find docs hits
+  of_stop = stop_number query paging docs hits
 
   abbrev of_rare : Option ℕ
-  of_rare = rare_number query find docs (length (found_by query find docs)) hits
+  of_rare = rare_number query paging docs (length (found_by query paging docs)) hits
 
   abbrev of_decay : Option ℕ
-  of_decay = decay_number query find docs hits
+  of_decay = decay_number query paging docs hits
 
-  pub sharp_allowed : sharp query find docs hits ≤ allowance query find docs (length (found_by query find docs)) hits
+  pub sharp_allowed : sharp query paging docs hits ≤ allowance query paging docs (length (found_by query paging docs)) hits
   sharp_allowed =
       let one = within_first of_list of_stop in
       let two = within_first (at_most of_list of_stop) of_rare in
       let three = within_first (at_most (at_most of_list of_stop) of_rare) of_decay in
       omega (arith, one, two, three)
 
-  pub sharp_stop : (n : ℕ) → stop_number query find docs hits ≡ Some n → sharp query find docs hits ≤ n
+  pub sharp_stop : (n : ℕ) → stop_number query paging docs hits ≡ Some n → sharp query paging docs hits ≤ n
   sharp_stop n e =
       let one = within_other of_list n of_stop e in
       let two = within_first (at_most of_list of_stop) of_rare in
       let three = within_first (at_most (at_most of_list of_stop) of_rare) of_decay in
       omega (arith, one, two, three)
 
-  pub sharp_rare : (n : ℕ) → rare_number query find docs (length (found_by query find docs)) hits ≡ Some n → sharp query find docs hits ≤ n
+  pub sharp_rare : (n : ℕ) → rare_number query paging docs (length (found_by query paging docs)) hits ≡ Some n → sharp query paging docs hits ≤ n
   sharp_rare n e =
       let two = within_other (at_most of_list of_stop) n of_rare e in
       let three = within_first (at_most (at_most of_list of_stop) of_rare) of_decay in
       omega (arith, two, three)
 
-  pub sharp_decay : (n : ℕ) → decay_number query find docs hits ≡ Some n → sharp query find docs hits ≤ n
+  pub sharp_decay : (n : ℕ) → decay_number query paging docs hits ≡ Some n → sharp query paging docs hits ≤ n
   sharp_decay n e =
       within_other (at_most (at_most of_list of_stop) of_rare) n of_decay e
 
@@ -237,31 +237,31 @@ where_applies : (h : ℕ) (test : Bool) (o : Option ℕ) → AtLeast h o → AtL
 where_applies h true o so = so
 where_applies h false o so = tt
 
-module _ (find : Find) (docs : Docs) (hits : ℕ) where
-  stop_hits : (query : Tree) → AtLeast hits (stop_number query find docs hits)
+module _ (paging : Paging) (docs : Docs) (hits : ℕ) where
+  stop_hits : (query : Tree) → AtLeast hits (stop_number query paging docs hits)
   stop_hits query =
-      where_applies hits (is_plain find) (option_map (λ lists. ups lists (stop_point query find docs) docs + hits) (flat_lists query docs))
-      (mapped hits (λ (lists : List (List ℕ)). ups lists (stop_point query find docs) docs + hits) (flat_lists query docs) (λ lists. omega arith))
+      where_applies hits (is_plain paging) (option_map (λ lists. ups lists (stop_point query paging docs) docs + hits) (flat_lists query docs))
+      (mapped hits (λ (lists : List (List ℕ)). ups lists (stop_point query paging docs) docs + hits) (flat_lists query docs) (λ lists. omega arith))
 
-  rare_hits : (query : Tree) (matching : ℕ) → AtLeast hits (rare_number query find docs matching hits)
+  rare_hits : (query : Tree) (matching : ℕ) → AtLeast hits (rare_number query paging docs matching hits)
   rare_hits query matching =
-      mapped hits (λ (p : List (List ℕ) × ℕ). rare_readings p.0 p.1 docs + extra find matching hits) (rare_lists query docs) (λ p. omega arith)
+      mapped hits (λ (p : List (List ℕ) × ℕ). rare_readings p.0 p.1 docs + extra paging matching hits) (rare_lists query docs) (λ p. omega arith)
 
-  decay_of_hits : (query : Tree) (lists : Option (List (List ℕ))) → AtLeast hits (decay_of query find docs hits lists)
+  decay_of_hits : (query : Tree) (lists : Option (List (List ℕ))) → AtLeast hits (decay_of query paging docs hits lists)
   decay_of_hits query None = tt
   decay_of_hits query (Some []) = tt
   decay_of_hits query (Some (a ∷ [])) = tt
   decay_of_hits query (Some (a ∷ b ∷ [])) = omega arith
   decay_of_hits query (Some (a ∷ b ∷ c ∷ more)) = tt
 
-  decay_hits : (query : Tree) → AtLeast hits (decay_number query find docs hits)
+  decay_hits : (query : Tree) → AtLeast hits (decay_number query paging docs hits)
   decay_hits nothing = tt
   decay_hits all = tt
   decay_hits (term t) = tt
   decay_hits (wildcard prefix) = tt
   decay_hits (parts Form.And ts) = tt
   decay_hits (parts Form.Or ts) =
-      where_applies hits (is_plain find) (decay_of (parts Form.Or ts) find docs hits (of_two (terms_in ts))) (decay_of_hits (parts Form.Or ts) (of_two (terms_in ts)))
+      where_applies hits (is_plain paging) (decay_of (parts Form.Or ts) paging docs hits (of_two (terms_in ts))) (decay_of_hits (parts Form.Or ts) (of_two (terms_in ts)))
   decay_hits (parts Form.Xor ts) = tt
   decay_hits (parts Form.Max ts) = tt
   decay_hits (parts Form.AndNot ts) = tt
@@ -274,12 +274,12 @@ module _ (find : Find) (docs : Docs) (hits : ℕ) where
   decay_hits (range slot lo hi) = tt
 
   -- the hits are steps in each number
-  pub sharp_hits : (query : Tree) → hits ≤ sharp query find docs hits
+  pub sharp_hits : (query : Tree) → hits ≤ sharp query paging docs hits
   sharp_hits query =
-      least_above hits (at_most (at_most (of_list query find docs hits) (of_stop query find docs hits)) (of_rare query find docs hits)) (of_decay query find docs hits)
+      least_above hits (at_most (at_most (of_list query paging docs hits) (of_stop query paging docs hits)) (of_rare query paging docs hits)) (of_decay query paging docs hits)
       (
-      least_above hits (at_most (of_list query find docs hits) (of_stop query find docs hits)) (of_rare query find docs hits)
-      (least_above hits (of_list query find docs hits) (of_stop query find docs hits) (omega arith) (stop_hits query))
-      (rare_hits query (length (found_by query find docs)))
+      least_above hits (at_most (of_list query paging docs hits) (of_stop query paging docs hits)) (of_rare query paging docs hits)
+      (least_above hits (of_list query paging docs hits) (of_stop query paging docs hits) (omega arith) (stop_hits query))
+      (rare_hits query (length (found_by query paging docs)))
       )
       (decay_hits query)

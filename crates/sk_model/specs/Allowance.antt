@@ -2,7 +2,7 @@
 -- Source: Own.
 use Rattle.std.specs.Prelude.{ℕ, ◌+◌, sum_by, Option, Some, None}
 use Rattle.sk_base.specs.declared.find.Collapse.{Collapse}
-use Rattle.sk_base.specs.declared.find.Find.{Find}
+use Rattle.sk_base.specs.declared.find.Paging.{Paging}
 use Rattle.sk_base.specs.declared.rank.OrderBy.{OrderBy}
 use Rattle.sk_base.specs.Numbers.{Docs, live_of, length_of, slot_length_of, terms_with}
 use Rattle.sk_query.specs.Trees.{Tree, nothing, all, term, wildcard, parts, near, phrase, synonym, scale, range, Trees, no_trees, tree}
@@ -40,9 +40,9 @@ value_readings (OrderBy.ValueThenRelevance key) matching = matching
 value_readings (OrderBy.RelevanceThenValue key) matching = matching
 
 -- Beside the lists: the keys and the values of matches, and the payloads of hits.
-abbrev pub extra : Find → ℕ → ℕ → ℕ
-extra find matching hits = key_readings find.collapse matching + value_readings find.order.by matching + hits
+abbrev pub extra : Paging → ℕ → ℕ → ℕ
+extra paging matching hits = key_readings paging.collapse matching + value_readings paging.order.by matching + hits
 
 -- Each list once, and the extra readings.
-abbrev pub allowance : Tree → Find → Docs → ℕ → ℕ → ℕ
-allowance query find docs matching hits = leaf_readings query docs + extra find matching hits
+abbrev pub allowance : Tree → Paging → Docs → ℕ → ℕ → ℕ
+allowance query paging docs matching hits = leaf_readings query docs + extra paging matching hits

@@ -15,6 +15,7 @@ use Rattle.sk_base.specs.declared.record.Entry.{Entry}
 use Rattle.sk_base.specs.declared.record.FieldValue.{FieldValue}
 use Rattle.sk_base.specs.declared.schema.Field.{Field}
 use Rattle.sk_base.specs.declared.schema.FieldKind.{FieldKind}
+use Rattle.sk_base.specs.declared.schema.Schema.{Schema}
 use Rattle.sk_base.specs.Fields.{kind_slot}
 use Rattle.sk_base.specs.Terms.{prefixed}
 
@@ -73,8 +74,8 @@ placed_from p [] = []
 placed_from p (o ∷ os) = placed_at p o ∷ placed_from (p + 1) os
 
 -- The indexed words of a record, each with its position.
-abbrev pub placed_words : List Field → List Entry → List DocTerm
-placed_words fields values = placed_from 1 (occurrences_from 0 0 fields values)
+abbrev pub placed_words : Schema → List Entry → List DocTerm
+placed_words schema values = placed_from 1 (occurrences_from 0 0 schema.fields values)
 
 -- A filter's text as a term, with wdf 0 and no position. It is not folded.
 abbrev pub filter_term : List ℕ → List ℕ → DocTerm
@@ -95,8 +96,8 @@ filter_terms_from place [] values = []
 filter_terms_from place (field ∷ fields) values = filter_terms_of field.kind (value_at place values) ++ filter_terms_from (place + 1) fields values
 
 -- All that a record mentions: its indexed words and the texts of its filters.
-abbrev pub mentions : List Field → List Entry → List DocTerm
-mentions fields values = placed_words fields values ++ filter_terms_from 0 fields values
+abbrev pub mentions : Schema → List Entry → List DocTerm
+mentions schema values = placed_words schema values ++ filter_terms_from 0 schema.fields values
 
 -- A term with one mention more: the wdfs are added, and its places put last.
 abbrev pub joined : DocTerm → DocTerm → DocTerm
@@ -140,11 +141,11 @@ with_value (one ∷ more) v = if nat_lt v.slot one.slot then v ∷ one ∷ more 
 abbrev pub values_of : List SlotValue → List SlotValue
 values_of given = fold with_value [] given
 
--- The document that a record makes under the fields of a schema.
-abbrev pub document_of : List Field → Record → Document
-document_of fields given = record {
-  terms = terms_of (mentions fields given.values);
-  values = values_of (slot_values_from 0 fields given.values);
+-- The document that a record makes under a schema.
+abbrev pub document_of : Schema → Record → Document
+document_of schema given = record {
+  terms = terms_of (mentions schema given.values);
+  values = values_of (slot_values_from 0 schema.fields given.values);
   payload = given.payload;
 }
 
@@ -157,6 +158,6 @@ is_own slot (Some own) = own == slot
 abbrev pub keeps_slot : ℕ → FieldKind → Bool
 keeps_slot slot kind = is_own slot (kind_slot kind)
 
--- A field of the schema keeps its values in the slot.
+-- One of the fields keeps its values in the slot.
 abbrev pub has_slot : ℕ → List Field → Bool
 has_slot slot fields = list_any (λ field. keeps_slot slot field.kind) fields

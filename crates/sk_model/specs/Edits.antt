@@ -4,7 +4,7 @@ use Rattle.std.specs.Prelude.{ℕ, ◌+◌, ◌≤◌, ◌<◌, max, not, nat_lt
 use Rattle.sk_sorted.specs.Entries.{put, without, found}
 use Rattle.sk_base.specs.declared.record.Edit.{Edit}
 use Rattle.sk_base.specs.declared.record.Reply.{Reply}
-use Rattle.sk_base.specs.declared.schema.Field.{Field}
+use Rattle.sk_base.specs.declared.schema.Schema.{Schema}
 use Rattle.sk_base.specs.Documents.{has_term}
 use Rattle.sk_base.specs.Numbers.{Docs, length_of}
 use Rattle.sk_model.specs.Documents.{Document, document_of}
@@ -65,13 +65,13 @@ abbrev pub first_reply : Live → Option ℕ → Reply
 first_reply live None = next_reply live
 first_reply live (Some id) = Reply.Id id
 
--- What an edit leaves live, under the fields of a schema.
-abbrev pub edited : List Field → Live → Edit → Live
-edited fields live (Edit.Add given) = with_next live (document_of fields given)
-edited fields live (Edit.Replace id given) = with_document live id (document_of fields given)
-edited fields live (Edit.ReplaceBy t given) = with_first live (document_of fields given) t (first_with t live.documents)
-edited fields live (Edit.Delete id) = record { documents = without_id id live.documents; highest = live.highest }
-edited fields live (Edit.DeleteBy t) = record { documents = without_term t live.documents; highest = live.highest }
+-- What an edit leaves live, under a schema.
+abbrev pub edited : Schema → Live → Edit → Live
+edited schema live (Edit.Add given) = with_next live (document_of schema given)
+edited schema live (Edit.Replace id given) = with_document live id (document_of schema given)
+edited schema live (Edit.ReplaceBy t given) = with_first live (document_of schema given) t (first_with t live.documents)
+edited schema live (Edit.Delete id) = record { documents = without_id id live.documents; highest = live.highest }
+edited schema live (Edit.DeleteBy t) = record { documents = without_term t live.documents; highest = live.highest }
 
 -- What an edit is answered.
 abbrev pub reply_to : Live → Edit → Reply
@@ -82,9 +82,9 @@ reply_to live (Edit.Delete id) = if is_some (document_at id live.documents) then
 reply_to live (Edit.DeleteBy t) = Reply.Done (length_of t live.documents)
 
 -- The live documents after a list of edits.
-abbrev pub live_after : List Field → Live → List Edit → Live
-live_after fields live [] = live
-live_after fields live (edit ∷ edits) = live_after fields (edited fields live edit) edits
+abbrev pub live_after : Schema → Live → List Edit → Live
+live_after schema live [] = live
+live_after schema live (edit ∷ edits) = live_after schema (edited schema live edit) edits
 
 -- Ids rise from 1, none is above the highest used, and that is no greater than an id may be.
 pub record IsLive (live : Live) : Type 0 where

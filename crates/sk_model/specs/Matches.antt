@@ -4,7 +4,7 @@ use Rattle.std.specs.Prelude.{ℕ, nat_le, List, [], filter, Option, Some, None}
 use Rattle.std.specs.List.{filter_map}
 use Rattle.std.specs.Option.{option_map}
 use Rattle.sk_base.specs.declared.find.Collapse.{Collapse}
-use Rattle.sk_base.specs.declared.find.Find.{Find}
+use Rattle.sk_base.specs.declared.find.Paging.{Paging}
 use Rattle.sk_base.specs.declared.find.Scheme.{Scheme}
 use Rattle.sk_base.specs.declared.rank.Order.{Order}
 use Rattle.sk_base.specs.declared.rank.OrderBy.{OrderBy}
@@ -39,8 +39,8 @@ abbrev pub at_least : ℕ → List Rank → List Rank
 at_least cutoff ranks = filter (λ rank. nat_le cutoff rank.weight) ranks
 
 -- All that a find matches: what weighs less than its cutoff is no match.
-abbrev pub found_by : Tree → Find → Docs → List Rank
-found_by query find docs = at_least find.options.cutoff (matches query find.options.scheme find.order docs)
+abbrev pub found_by : Tree → Paging → Docs → List Rank
+found_by query paging docs = at_least paging.options.cutoff (matches query paging.options.scheme paging.order docs)
 
 -- The key that a document is collapsed on: its value in the slot, and the empty one where it has none, or where nothing is collapsed.
 abbrev pub key_for : Option Collapse → Option Document → List ℕ

@@ -1,7 +1,7 @@
 -- The page that a find asks for, and what a hit of it tells.
 -- Source: Xapian's API documentation (`MSet`).
 use Rattle.std.specs.Prelude.{◌≡◌, ℕ, List, [], Option, Some, None}
-use Rattle.sk_base.specs.declared.find.Find.{Find}
+use Rattle.sk_base.specs.declared.find.Paging.{Paging}
 use Rattle.sk_base.specs.declared.rank.Rank.{Rank}
 use Rattle.sk_base.specs.declared.report.Ranked.{Ranked}
 use Rattle.sk_base.specs.Numbers.{Docs}
@@ -18,12 +18,12 @@ payload_of None = []
 payload_of (Some document) = document.payload
 
 -- The page that a find asks for.
-abbrev pub page_of : Tree → Find → Docs → List Rank
-page_of query find docs = slice find.options.first find.options.size (kept_by find docs (found_by query find docs))
+abbrev pub page_of : Tree → Paging → Docs → List Rank
+page_of query paging docs = slice paging.options.first paging.options.size (kept_by paging docs (found_by query paging docs))
 
 -- A hit is a match of the page: its id and weight, its document's payload, and how many were collapsed into it.
-pub record IsHit (query : Tree) (find : Find) (docs : Docs) (rank : Rank) (hit : Ranked) : Type 0 where
+pub record IsHit (query : Tree) (paging : Paging) (docs : Docs) (rank : Rank) (hit : Ranked) : Type 0 where
   pub id : hit.id ≡ rank.id
   pub weight : hit.weight ≡ rank.weight
   pub payload : hit.payload ≡ payload_of (document_at rank.id docs)
-  pub collapsed : CollapseCount find docs (found_by query find docs) (key_of find.collapse docs rank) hit.collapsed
+  pub collapsed : CollapseCount paging docs (found_by query paging docs) (key_of paging.collapse docs rank) hit.collapsed

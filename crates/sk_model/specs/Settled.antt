@@ -1,7 +1,7 @@
 -- The ids at which a page is settled.
 -- Source: Own.
 use Rattle.std.specs.Prelude.{ℕ, ◌+◌, ◌-◌, ◌==◌, ◌&&◌, ◌||◌, nat_le, nat_lt, List, [], ◌∷◌, count_by, if◌then◌else◌}
-use Rattle.sk_base.specs.declared.find.Find.{Find}
+use Rattle.sk_base.specs.declared.find.Paging.{Paging}
 use Rattle.sk_base.specs.declared.rank.Rank.{Rank}
 use Rattle.sk_base.specs.Numbers.{Docs}
 use Rattle.sk_query.specs.Trees.{Tree}
@@ -21,21 +21,21 @@ settled_from n m weight (rank ∷ ranks) =
     if ((n - 1) == 0) && (less_heavy weight m rank == 0) then rank.id else settled_from (n - 1) (less_heavy weight m rank) weight ranks
 
 -- The least weight whose matches come before any later one of this weight: this one, and one more where ids fall, since then of equal matches the later comes first.
-abbrev pub settling_weight : Find → ℕ → ℕ
-settling_weight find weight = if find.order.falling then weight + 1 else weight
+abbrev pub settling_weight : Paging → ℕ → ℕ
+settling_weight paging weight = if paging.order.falling then weight + 1 else weight
 
 -- The least id up to which there are as many matches as a find wants to see, and as many as its page needs that no later match of this weight comes before: 0 where it wants none, or where this weight is below the cutoff, and the last id where there is no such id.
-abbrev pub settled : Find → List Rank → ℕ → ℕ
-settled find ranks weight =
-    if (wanted find == 0) || nat_lt weight find.options.cutoff then 0 else settled_from (wanted find) (find.options.first + find.options.size) (settling_weight find weight) ranks
+abbrev pub settled : Paging → List Rank → ℕ → ℕ
+settled paging ranks weight =
+    if (wanted paging == 0) || nat_lt weight paging.options.cutoff then 0 else settled_from (wanted paging) (paging.options.first + paging.options.size) (settling_weight paging weight) ranks
 
 -- The stop point: behind it no document can enter the page, since none weighs more.
-abbrev pub stop_point : Tree → Find → Docs → ℕ
-stop_point query find docs = settled find (found_by query find docs) (ceil query find.options.scheme 1 docs)
+abbrev pub stop_point : Tree → Paging → Docs → ℕ
+stop_point query paging docs = settled paging (found_by query paging docs) (ceil query paging.options.scheme 1 docs)
 
 -- The point from which on a part of an or cannot bring a document into the page by itself.
-abbrev pub decay_point : Tree → Tree → Find → Docs → ℕ
-decay_point query part find docs = settled find (found_by query find docs) (ceil part find.options.scheme 1 docs)
+abbrev pub decay_point : Tree → Tree → Paging → Docs → ℕ
+decay_point query part paging docs = settled paging (found_by query paging docs) (ceil part paging.options.scheme 1 docs)
 
 -- How many matches have ids up to this one.
 abbrev pub seen_up_to : ℕ → List Rank → ℕ

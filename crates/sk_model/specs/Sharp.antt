@@ -2,7 +2,7 @@
 -- Source: Own.
 use Rattle.std.specs.Prelude.{ℕ, ◌+◌, ◌*◌, ◌&&◌, min, nat_le, nat_lt, Bool, true, false, List, [], ◌∷◌, length, count_by, is_none, Option, Some, None, if◌then◌else◌}
 use Rattle.std.specs.Option.{option_map}
-use Rattle.sk_base.specs.declared.find.Find.{Find}
+use Rattle.sk_base.specs.declared.find.Paging.{Paging}
 use Rattle.sk_base.specs.declared.rank.OrderBy.{OrderBy}
 use Rattle.sk_base.specs.Documents.{has_term}
 use Rattle.sk_base.specs.Numbers.{Docs, length_of, terms_with}
@@ -42,8 +42,8 @@ ups [] id docs = 0
 ups (t ∷ ts) id docs = (up t id docs + 1) + ups ts id docs
 
 -- The heavier first, and nothing collapsed.
-abbrev pub is_plain : Find → Bool
-is_plain find = is_relevance find.order.by && is_none find.collapse
+abbrev pub is_plain : Paging → Bool
+is_plain paging = is_relevance paging.order.by && is_none paging.collapse
   where
     is_relevance : OrderBy → Bool
     is_relevance OrderBy.Relevance = true
@@ -52,9 +52,9 @@ is_plain find = is_relevance find.order.by && is_none find.collapse
     is_relevance (OrderBy.RelevanceThenValue key) = false
 
 -- The stop number: each list up to the stop point and one more, and the hits. It applies to flat queries, by relevance and without collapsing.
-abbrev pub stop_number : Tree → Find → Docs → ℕ → Option ℕ
-stop_number query find docs hits =
-    if is_plain find then option_map (λ lists. ups lists (stop_point query find docs) docs + hits) (flat_lists query docs) else None
+abbrev pub stop_number : Tree → Paging → Docs → ℕ → Option ℕ
+stop_number query paging docs hits =
+    if is_plain paging then option_map (λ lists. ups lists (stop_point query paging docs) docs + hits) (flat_lists query docs) else None
 
 -- The terms, and the length of the first one's list.
 abbrev pub led_by_first : Option (List (List ℕ)) → Docs → Option (List (List ℕ) × ℕ)
@@ -81,23 +81,23 @@ rare_readings [] m docs = 0
 rare_readings (t ∷ ts) m docs = min (length_of t docs) (128 * (m + 1)) + rare_readings ts m docs
 
 -- The rare number.
-abbrev pub rare_number : Tree → Find → Docs → ℕ → ℕ → Option ℕ
-rare_number query find docs matching hits = option_map (λ p. rare_readings p.0 p.1 docs + extra find matching hits) (rare_lists query docs)
+abbrev pub rare_number : Tree → Paging → Docs → ℕ → ℕ → Option ℕ
+rare_number query paging docs matching hits = option_map (λ p. rare_readings p.0 p.1 docs + extra paging matching hits) (rare_lists query docs)
 
 -- The decay number of an or of two terms, the first of which is read out: the second is read up to the point at which it cannot matter alone, and behind that sought at most twice for each posting of the first.
 abbrev pub decay_readings : List ℕ → List ℕ → ℕ → Docs → ℕ → ℕ
 decay_readings a b point docs hits = length_of a docs + up b point docs + 256 * (1 + past a point docs) + hits
 
 -- The lesser of the two.
-abbrev pub decay_of : Tree → Find → Docs → ℕ → Option (List (List ℕ)) → Option ℕ
-decay_of query find docs hits (Some (a ∷ b ∷ [])) =
-    Some (min (decay_readings a b (decay_point query (term b) find docs) docs hits) (decay_readings b a (decay_point query (term a) find docs) docs hits))
-decay_of query find docs hits _ = None
+abbrev pub decay_of : Tree → Paging → Docs → ℕ → Option (List (List ℕ)) → Option ℕ
+decay_of query paging docs hits (Some (a ∷ b ∷ [])) =
+    Some (min (decay_readings a b (decay_point query (term b) paging docs) docs hits) (decay_readings b a (decay_point query (term a) paging docs) docs hits))
+decay_of query paging docs hits _ = None
 
 -- The decay number: of an or of exactly two terms, by relevance and without collapsing.
-abbrev pub decay_number : Tree → Find → Docs → ℕ → Option ℕ
-decay_number (parts Form.Or ts) find docs hits = if is_plain find then decay_of (parts Form.Or ts) find docs hits (of_two (terms_in ts)) else None
-decay_number _ find docs hits = None
+abbrev pub decay_number : Tree → Paging → Docs → ℕ → Option ℕ
+decay_number (parts Form.Or ts) paging docs hits = if is_plain paging then decay_of (parts Form.Or ts) paging docs hits (of_two (terms_in ts)) else None
+decay_number _ paging docs hits = None
 
 -- The lesser of a number and one that may apply.
 abbrev pub at_most : ℕ → Option ℕ → ℕ
@@ -105,7 +105,7 @@ at_most n None = n
 at_most n (Some m) = min n m
 
 -- The least of the allowance and of the numbers that apply.
-abbrev pub sharp : Tree → Find → Docs → ℕ → ℕ
-sharp query find docs hits =
-    at_most (at_most (at_most (allowance query find docs (length (found_by query find docs)) hits) (stop_number query find docs hits))
-    (rare_number query find docs (length (found_by query find docs)) hits)) (decay_number query find docs hits)
+abbrev pub sharp : Tree → Paging → Docs → ℕ → ℕ
+sharp query paging docs hits =
+    at_most (at_most (at_most (allowance query paging docs (length (found_by query paging docs)) hits) (stop_number query paging docs hits))
+    (rare_number query paging docs (length (found_by query paging docs)) hits)) (decay_number query paging docs hits)

@@ -1,6 +1,6 @@
 //! Laws of counts.
 ghost use Rattle.std.specs.Prelude.{◌≡◌, ◌≤◌, ℕ, true, List, length};
-ghost use Rattle.sk_base.specs.declared.find.Find.{Find};
+ghost use Rattle.sk_base.specs.declared.find.Paging.{Paging};
 ghost use Rattle.sk_base.specs.declared.rank.Rank.{Rank};
 ghost use Rattle.sk_base.specs.Numbers.{Docs};
 ghost use Rattle.sk_query.specs.Trees.{Tree};
@@ -11,16 +11,16 @@ ghost use Rattle.sk_model.specs.Matches.{found_by};
 
 /// A law: the lower bound on the number of matches is not above the upper one.
 pub fn counts_in_order()
-    ensures { (find : Find) (docs : Docs) (ranks : List Rank) (greatest static lower upper : ℕ)
-        → Counts find docs ranks greatest static lower upper → lower ≤ upper }
+    ensures { (paging : Paging) (docs : Docs) (ranks : List Rank) (greatest static lower upper : ℕ)
+        → Counts paging docs ranks greatest static lower upper → lower ≤ upper }
 {}
 
 /// Laws: whatever a sound query finds, the true count may stand as both bounds, and what is dropped of a key as its
 /// collapse count. So no find is without bounds that it may have.
 pub fn counts_are_there()
-    ensures both { (query : Tree) (find : Find) (above greatest : ℕ) (docs : Docs) → is_sound above query ≡ true
-        → Counts find docs (found_by query find docs) greatest (static_count query docs)
-        (length (kept_by find docs (found_by query find docs))) (length (kept_by find docs (found_by query find docs))) }
-    ensures collapsed { (find : Find) (docs : Docs) (ranks : List Rank) (k : List ℕ)
-        → CollapseCount find docs ranks k (dropped_by find docs k ranks) }
+    ensures both { (query : Tree) (paging : Paging) (above greatest : ℕ) (docs : Docs) → is_sound above query ≡ true
+        → Counts paging docs (found_by query paging docs) greatest (static_count query docs)
+        (length (kept_by paging docs (found_by query paging docs))) (length (kept_by paging docs (found_by query paging docs))) }
+    ensures collapsed { (paging : Paging) (docs : Docs) (ranks : List Rank) (k : List ℕ)
+        → CollapseCount paging docs ranks k (dropped_by paging docs k ranks) }
 {}

@@ -6,6 +6,5 @@ mod phrases;
 mod places;
 mod windows;
 
-pub use operands::Operands;
 pub use phrases::phrase;
 pub use windows::near;

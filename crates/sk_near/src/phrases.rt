@@ -3,8 +3,8 @@ ghost use Rattle.std.specs.Prelude.{◌≡◌, ◌≤◌, ◌<◌, ◌^◌, drop
 ghost use Rattle.sk_model.specs.Positions.{is_phrase};
 ghost use Rattle.sk_near.specs.Soonest.{soonest_end};
 
-use crate::Operands;
 use crate::operands::position_from;
+use sk_base::Operands;
 
 /// Where the operands behind the first end, each taken as soon as can be from the bound on.
 fn end_from<P: Operands>(lists: &P, mut bound: u64, marks: &mut [u32]) -> Option<u64>

@@ -3,8 +3,8 @@ ghost use Rattle.std.specs.Prelude.{◌≡◌, ◌≤◌, ◌<◌, ◌^◌, leng
 ghost use Rattle.sk_model.specs.Positions.{is_near};
 ghost use Rattle.sk_near.specs.Windows.{WindowsFrom, HasNoWindow, IsRaised};
 
-use crate::Operands;
 use crate::operands::position_from;
+use sk_base::Operands;
 
 /// Goes over all operands once. Each raises the bound to the first window that reaches its first position from there on.
 fn raise<P: Operands>(lists: &P, window: u32, low: u64, marks: &mut [u32]) -> Option<u64>

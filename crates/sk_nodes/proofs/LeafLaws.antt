@@ -8,7 +8,7 @@ use Rattle.sk_sorted.specs.Entries.{RiseAbove, LieBelow, AreSorted, found, from,
 use Rattle.sk_sorted.proofs.EntryLaws.{RiseAbove-lower, found-here, found-other, found-below, from-below, from-at}
 use Rattle.sk_lists.specs.declared.cursor.Cursor.{Cursor}
 use Rattle.sk_chunks.specs.Postings.{Postings, first_wdf, is_below}
-use Rattle.sk_runs.specs.Runs.{AreRuns}
+use Rattle.sk_sorted.specs.Runs.{AreRuns}
 use Rattle.sk_lists.specs.Lists.{Runs}
 use Rattle.sk_lists.specs.Seeks.{ArePassed, Passes}
 use Rattle.sk_lists.specs.Cursor.{left, IsOn}

@@ -20,7 +20,7 @@ use Rattle.sk_model.specs.Scores.{weight_if}
 use Rattle.sk_model.specs.Bounds.{term_ceil}
 use Rattle.sk_index.specs.Indexed.{Indexed, runs_in, postings, all_postings}
 use Rattle.sk_index.proofs.NumberLemmas.{length-postings, greatest-postings}
-use Rattle.sk_runs.specs.Runs.{AreRuns}
+use Rattle.sk_sorted.specs.Runs.{AreRuns}
 use Rattle.sk_lists.specs.Cursor.{IsOn}
 use Rattle.sk_nodes.specs.declared.leaf.Leaf.{Leaf}
 use Rattle.sk_nodes.specs.Leaves.{list_in, entries_of, IsThere, weighed, leaf_greatest, AtMost, IsLeafOn}

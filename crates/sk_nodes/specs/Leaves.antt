@@ -4,7 +4,7 @@ use Rattle.std.specs.Option.{option_map}
 use Rattle.sk_base.specs.declared.find.Scheme.{Scheme}
 use Rattle.sk_sorted.specs.Entries.{found}
 use Rattle.sk_chunks.specs.Postings.{Postings, greatest_wdf}
-use Rattle.sk_runs.specs.Runs.{AreRuns}
+use Rattle.sk_sorted.specs.Runs.{AreRuns}
 use Rattle.sk_lists.specs.Cursor.{unread, left, IsOn}
 use Rattle.sk_dict.specs.Terms.{term_at}
 use Rattle.sk_model.specs.Edits.{document_at}

@@ -2,7 +2,7 @@
 use Rattle.std.specs.Prelude.{◌≡◌, ℕ, length, map, Option, None}
 use Rattle.sk_base.specs.declared.find.Scheme.{Scheme}
 use Rattle.sk_sorted.specs.Entries.{AreSorted}
-use Rattle.sk_runs.specs.Runs.{flat}
+use Rattle.sk_sorted.specs.Runs.{flat}
 use Rattle.sk_chunks.specs.Postings.{Postings}
 use Rattle.sk_values.specs.SlotValues.{SlotValues}
 use Rattle.sk_values.specs.RangeCursor.{unread, left, IsOn}

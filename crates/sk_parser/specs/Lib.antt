@@ -3,3 +3,4 @@ pub mod Views
 pub mod Base
 pub mod Stack
 pub mod Sound
+pub mod Asked

@@ -1,6 +1,6 @@
 -- What the code asks of tokens before it makes their query.
 use Rattle.std.specs.Prelude.{◌≡◌, false, List, [], ◌∷◌}
-use Rattle.sk_base.specs.declared.schema.Field.{Field}
+use Rattle.sk_base.specs.declared.schema.Schema.{Schema}
 use Rattle.sk_base.specs.declared.find.Join.{Join}
 use Rattle.sk_grammar.specs.declared.token.Kind.{Kind}
 use Rattle.sk_grammar.specs.declared.token.Token.{Token}
@@ -10,13 +10,13 @@ use Rattle.sk_grammar.specs.Meaning.{nest_parts}
 use Rattle.sk_grammar.specs.Parts.{Part, chained}
 
 -- No range has a bound that can't be read.
-abbrev pub AreSound : List Field → List Token → Type 0
-AreSound fields [] = Unit {0}
-AreSound fields (t ∷ ts) = (is_bad_range fields (Token.kind t) ≡ false) × AreSound fields ts
+abbrev pub AreSound : Schema → List Token → Type 0
+AreSound schema [] = Unit {0}
+AreSound schema (t ∷ ts) = (is_bad_range schema (Token.kind t) ≡ false) × AreSound schema ts
 
 -- The parts of tokens outside all brackets, the last of which stands first.
-abbrev pub outside_of : List Field → Join → List Kind → List Part
-outside_of fields join ks = chained [] (nest_parts fields join [] (Levels.here (levels_of ks)))
+abbrev pub outside_of : Schema → Join → List Kind → List Part
+outside_of schema join ks = chained [] (nest_parts schema join [] (Levels.here (levels_of ks)))
 
 -- Nothing follows.
 abbrev pub nothing_behind : Levels

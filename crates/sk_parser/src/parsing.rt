@@ -47,12 +47,13 @@ pub fn parse(alloc: Global, text: &str, schema: &Schema, join: Join) -> Result<Q
     ensures fault { (kind : FaultKind) (place : ℕ) → result ≡ Err (ParseError.Fault kind place) → fault_of schema.now text.now ≡ Some (kind, place) }
 {
     let found = tokens(alloc, text, schema)?;
-    let fields = schema.fields();
+    // The fields keep their rules, so the query keeps its limits.
+    let _fields = schema.fields();
     let list = found.as_slice();
-    match fault_in(fields, list) {
+    match fault_in(schema, list) {
         Some((kind, place)) => Err(ParseError::Fault(kind, place)),
         None => {
-            let query = tree_in(alloc, fields, join, list)?;
+            let query = tree_in(alloc, schema, join, list)?;
             Ok(query)
         }
     }

@@ -8,7 +8,7 @@ ghost use Rattle.sk_grammar.specs.Faults.{is_bad_range, takes_numbers};
 ghost use Rattle.sk_grammar.specs.Parts.{chain, unit, prefix_of, prefix_in, side_by_side, limit_in, slot_of, range_in, all_prefixed, part_of, chain_tree};
 ghost use Rattle.sk_parser.specs.Views.{part_view, kind_range};
 
-use sk_base::{Field, FieldKind, Items, Text, prefixed};
+use sk_base::{Field, FieldKind, Items, Schema, Text, prefixed};
 use sk_faults::{halves, number};
 use sk_grammar::Kind;
 use sk_query::{Bound, Query};
@@ -42,11 +42,11 @@ pub(crate) fn prefix_of(fields: &[Field], place: usize) -> &str
 }
 
 /// The prefix under a token's own field, or else the one around it.
-pub(crate) fn prefix_in<'a>(fields: &'a [Field], around: &'a str, field: Option<usize>) -> &'a str
-    ensures { result.now ≡ prefix_in fields.now around.now field }
+pub(crate) fn prefix_in<'a>(schema: &'a Schema, around: &'a str, field: Option<usize>) -> &'a str
+    ensures { result.now ≡ prefix_in schema.now around.now field }
 {
     match field {
-        Some(place) => prefix_of(fields, place),
+        Some(place) => prefix_of(schema.fields(), place),
         None => around,
     }
 }
@@ -154,35 +154,38 @@ fn kind_range(alloc: Global, kind: &FieldKind, text: &str) -> Result<Query, Allo
 /// The part that a token is, which is no bracket, where the brackets around it give this prefix.
 pub(crate) fn part_of(
     alloc: Global,
-    fields: &[Field],
+    schema: &Schema,
     around: &str,
     kind: &Kind,
 ) -> Result<Part, AllocError>
-    requires { is_bad_range fields.now kind.now ≡ false }
-    ensures { IfOk result (λ p. part_view p ≡ part_of fields.now around.now kind.now) }
+    requires { is_bad_range schema.now kind.now ≡ false }
+    ensures { IfOk result (λ p. part_view p ≡ part_of schema.now around.now kind.now) }
 {
     match kind {
         Kind::Word(field, term) => word_part(
             alloc,
-            prefix_in(fields, around, *field),
+            prefix_in(schema, around, *field),
             term.as_str(),
         ),
         Kind::Wild(field, term) => {
-            let term = prefixed(alloc, prefix_in(fields, around, *field), term.as_str())?;
+            let term = prefixed(alloc, prefix_in(schema, around, *field), term.as_str())?;
             Ok(Part::Unit(Query::Wildcard(term)))
         }
         Kind::Joined(field, terms) => {
-            words_part(alloc, prefix_in(fields, around, *field), terms.as_slice())
+            words_part(alloc, prefix_in(schema, around, *field), terms.as_slice())
         }
         Kind::Quote(field, terms) => {
-            words_part(alloc, prefix_in(fields, around, *field), terms.as_slice())
+            words_part(alloc, prefix_in(schema, around, *field), terms.as_slice())
         }
         Kind::Filter(field, text) => {
-            let term = prefixed(alloc, prefix_of(fields, *field), text.as_str())?;
+            let term = prefixed(alloc, prefix_of(schema.fields(), *field), text.as_str())?;
             Ok(Part::Chosen(*field, Query::Term(term)))
         }
         Kind::Range(field, text) => {
-            Ok(Part::Chosen(*field, range_in(alloc, fields, *field, text.as_str())?))
+            Ok(Part::Chosen(
+                *field,
+                range_in(alloc, schema.fields(), *field, text.as_str())?,
+            ))
         }
         Kind::Near(n) => Ok(Part::Link(false, *n)),
         Kind::Adj(n) => Ok(Part::Link(true, *n)),

@@ -1,6 +1,6 @@
 //! From tokens to a query.
 ghost use Rattle.std.specs.Prelude.{◌≡◌, ◌≤◌, ◌==◌, List, length, map, reverse, IfOk};
-ghost use Rattle.sk_base.specs.declared.schema.Field.{Field};
+ghost use Rattle.sk_base.specs.declared.schema.Schema.{Schema};
 ghost use Rattle.sk_query.specs.Trees.{query_view};
 ghost use Rattle.sk_grammar.specs.Faults.{kinds_of};
 ghost use Rattle.sk_grammar.specs.Meaning.{parts_tree, tree_in};
@@ -9,14 +9,14 @@ ghost use Rattle.sk_parser.specs.Stack.{ends_as};
 
 use crate::stack::{Level, Stack, close, is_stray, step};
 use crate::tree::parts_tree;
-use sk_base::{Field, Join};
+use sk_base::{Join, Schema};
 use sk_grammar::Token;
 use sk_query::Query;
 use std::alloc::{AllocError, Global};
 
 /// Closes all brackets.
 fn finish(alloc: Global, join: Join, stack: Stack) -> Result<Query, AllocError>
-    ensures { IfOk result (λ q. (fields : List Field) → query_view q ≡ parts_tree join (reverse (ends_as fields join stack nothing_behind))) }
+    ensures { IfOk result (λ q. (schema : Schema) → query_view q ≡ parts_tree join (reverse (ends_as schema join stack nothing_behind))) }
 {
     let mut stack = stack;
     'levels: while !stack.below.is_empty() {
@@ -28,12 +28,12 @@ fn finish(alloc: Global, join: Join, stack: Stack) -> Result<Query, AllocError>
 /// The query of tokens that have no fault.
 pub(crate) fn tree_in(
     alloc: Global,
-    fields: &[Field],
+    schema: &Schema,
     join: Join,
     tokens: &[Token],
 ) -> Result<Query, AllocError>
-    requires { AreSound fields.now tokens.now }
-    ensures { IfOk result (λ q. query_view q ≡ tree_in fields.now join (kinds_of tokens.now)) }
+    requires { AreSound schema.now tokens.now }
+    ensures { IfOk result (λ q. query_view q ≡ tree_in schema.now join (kinds_of tokens.now)) }
 {
     let mut stack = Stack {
         below: Vec::new(alloc),
@@ -47,7 +47,7 @@ pub(crate) fn tree_in(
         if is_stray(&stack, kind) {
             return parts_tree(alloc, join, stack.top.parts);
         }
-        stack = step(alloc, fields, join, stack, kind)?;
+        stack = step(alloc, schema, join, stack, kind)?;
     }
     finish(alloc, join, stack)
 }

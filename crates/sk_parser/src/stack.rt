@@ -1,6 +1,6 @@
 //! The brackets that are open while tokens are read.
 ghost use Rattle.std.specs.Prelude.{◌≡◌, ◌≤◌, ◌+◌, List, length, IfOk, true, false};
-ghost use Rattle.sk_base.specs.declared.schema.Field.{Field};
+ghost use Rattle.sk_base.specs.declared.schema.Schema.{Schema};
 ghost use Rattle.sk_grammar.specs.declared.token.Kind.TheVariants as Kind;
 ghost use Rattle.sk_grammar.specs.Brackets.{Levels, single, nest, opened, with_token};
 ghost use Rattle.sk_grammar.specs.Faults.{is_bad_range};
@@ -12,7 +12,7 @@ ghost use Rattle.sk_parser.specs.Stack.{ends_as, field_or};
 use crate::chain::add;
 use crate::part::{Part, part_of, prefix_in};
 use crate::tree::closed_part;
-use sk_base::{Field, Join};
+use sk_base::{Join, Schema};
 use sk_grammar::Kind;
 use std::alloc::{AllocError, Global};
 
@@ -61,7 +61,7 @@ fn closed(alloc: Global, join: Join, level: Level, outer: Level) -> Result<Level
 
 /// Opens a bracket.
 fn open(alloc: Global, stack: Stack, field: Option<usize>) -> Result<Stack, AllocError>
-    ensures { IfOk result (λ s. (fields : List Field) (join : Join) (behind : Levels) → ends_as fields join s behind ≡ ends_as fields join stack (opened field behind.here behind.outside)) }
+    ensures { IfOk result (λ s. (schema : Schema) (join : Join) (behind : Levels) → ends_as schema join s behind ≡ ends_as schema join stack (opened field behind.here behind.outside)) }
 {
     let Stack { below, top } = stack;
     let mut below = below;
@@ -76,7 +76,7 @@ fn open(alloc: Global, stack: Stack, field: Option<usize>) -> Result<Stack, Allo
 /// Closes the innermost bracket.
 pub(crate) fn close(alloc: Global, join: Join, stack: Stack) -> Result<Stack, AllocError>
     requires { 1 ≤ length (stack.below).items }
-    ensures ends { IfOk result (λ s. (fields : List Field) (behind : Levels) → ends_as fields join s behind ≡ ends_as fields join stack (with_token Kind.Close behind)) }
+    ensures ends { IfOk result (λ s. (schema : Schema) (behind : Levels) → ends_as schema join s behind ≡ ends_as schema join stack (with_token Kind.Close behind)) }
     ensures fewer { IfOk result (λ s. length (s.below).items + 1 ≡ length (stack.below).items) }
 {
     let Stack { below, top } = stack;
@@ -102,13 +102,13 @@ pub(crate) fn is_stray(stack: &Stack, kind: &Kind) -> bool
 }
 
 /// Adds a token that is no bracket.
-fn put(alloc: Global, fields: &[Field], stack: Stack, kind: &Kind) -> Result<Stack, AllocError>
-    requires { is_bad_range fields.now kind.now ≡ false }
-    ensures { IfOk result (λ s. (join : Join) (behind : Levels) → ends_as fields.now join s behind
-        ≡ ends_as fields.now join stack (record { here = nest (single kind.now) behind.here; outside = behind.outside })) }
+fn put(alloc: Global, schema: &Schema, stack: Stack, kind: &Kind) -> Result<Stack, AllocError>
+    requires { is_bad_range schema.now kind.now ≡ false }
+    ensures { IfOk result (λ s. (join : Join) (behind : Levels) → ends_as schema.now join s behind
+        ≡ ends_as schema.now join stack (record { here = nest (single kind.now) behind.here; outside = behind.outside })) }
 {
     let Stack { below, top } = stack;
-    let part = part_of(alloc, fields, prefix_in(fields, "", top.field), kind)?;
+    let part = part_of(alloc, schema, prefix_in(schema, "", top.field), kind)?;
     let top = add_to(top, part)?;
     Ok(Stack { below, top })
 }
@@ -116,18 +116,18 @@ fn put(alloc: Global, fields: &[Field], stack: Stack, kind: &Kind) -> Result<Sta
 /// Adds a token.
 pub(crate) fn step(
     alloc: Global,
-    fields: &[Field],
+    schema: &Schema,
     join: Join,
     stack: Stack,
     kind: &Kind,
 ) -> Result<Stack, AllocError>
-    requires range { is_bad_range fields.now kind.now ≡ false }
+    requires range { is_bad_range schema.now kind.now ≡ false }
     requires some { kind.now ≡ Kind.Close → 1 ≤ length (stack.below).items }
-    ensures { IfOk result (λ s. (behind : Levels) → ends_as fields.now join s behind ≡ ends_as fields.now join stack (with_token kind.now behind)) }
+    ensures { IfOk result (λ s. (behind : Levels) → ends_as schema.now join s behind ≡ ends_as schema.now join stack (with_token kind.now behind)) }
 {
     match kind {
         Kind::Open(field) => open(alloc, stack, *field),
         Kind::Close => close(alloc, join, stack),
-        _ => put(alloc, fields, stack, kind),
+        _ => put(alloc, schema, stack, kind),
     }
 }

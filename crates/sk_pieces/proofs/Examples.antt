@@ -1,6 +1,6 @@
 -- The word on pieces, computed.
 use Rattle.std.proofs.Common.{◌≡◌, ℕ, List, [], ◌∷◌, length, refl}
-use Rattle.sk_runs.specs.Runs.{flat}
+use Rattle.sk_sorted.specs.Runs.{flat}
 
 -- two pieces
 abbrev two : List (List (ℕ × ℕ))

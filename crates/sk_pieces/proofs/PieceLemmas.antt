@@ -3,8 +3,8 @@ use Rattle.std.proofs.Common.{◌≡◌, ℕ, ◌+◌, ◌<◌, ◌≤◌, List,
 use Rattle.sk_sorted.specs.Entries.{AreSorted, put, found, has}
 use Rattle.sk_sorted.proofs.EndLaws.{length-put, length-put_over}
 use Rattle.std.specs.List.{insert}
-use Rattle.sk_runs.specs.Runs.{flat, RunsRise, AreRuns, FitsAt}
-use Rattle.sk_runs.proofs.EditLaws.{Halved, halved, run_read}
+use Rattle.sk_sorted.specs.Runs.{flat, RunsRise, AreRuns, FitsAt}
+use Rattle.sk_sorted.proofs.RunEditLaws.{Halved, halved, run_read}
 use Rattle.sk_pieces.specs.Pieces.{ArePieces}
 
 module _ {X : Type 0} where

@@ -4,7 +4,7 @@ ghost use Rattle.std.specs.List.{insert};
 ghost use Rattle.std.specs.Option.{option_map};
 ghost use Rattle.std.specs.Vec.{vec_len, vec_capacity};
 ghost use Rattle.sk_sorted.specs.Entries.{AreSorted, put, without, found, has, top_id};
-ghost use Rattle.sk_runs.specs.Runs.{flat, AreRuns, FitsAt};
+ghost use Rattle.sk_sorted.specs.Runs.{flat, AreRuns, FitsAt};
 
 use crate::Piece;
 use std::alloc::{AllocError, Global};

@@ -1,7 +1,7 @@
 -- The exact report is one that the find may have; and no more match, or are kept, than there are.
 use Rattle.std.proofs.Common.{◌≡◌, ◌<◌, ◌≤◌, ◌+◌, ◌/◌, ◌^◌, ℕ, true, nat_le, List, [], ◌∷◌, length, Option, Some, None, refl, sym, subst, arith, le_refl}
 use Rattle.std.specs.List.{cons_option}
-use Rattle.sk_base.specs.declared.find.Find.{Find}
+use Rattle.sk_base.specs.declared.find.Paging.{Paging}
 use Rattle.sk_base.specs.declared.find.Scheme.{Scheme}
 use Rattle.sk_base.specs.declared.rank.Order.{Order}
 use Rattle.sk_base.specs.declared.rank.Rank.{Rank}
@@ -21,16 +21,16 @@ use Rattle.sk_plain.specs.Pages.{hits_of, count_of, report_for}
 half : (n : ℕ) → n ≡ (n + n) / 2
 half n = omega arith
 
-pub exact_reports : (query : Tree) (find : Find) (above : ℕ) (docs : Docs) → is_sound above query ≡ true → ReportsFor query find docs (report_for query find docs)
-exact_reports query find above docs e =
-    let so = exact_is query find docs above e in
+pub exact_reports : (query : Tree) (paging : Paging) (above : ℕ) (docs : Docs) → is_sound above query ≡ true → ReportsFor query paging docs (report_for query paging docs)
+exact_reports query paging above docs e =
+    let so = exact_is query paging docs above e in
     record {
       hits = so.hits;
       counts = so.counts;
-      estimate = half (count_of query find docs);
+      estimate = half (count_of query paging docs);
       greatest = refl;
-      least_steps = sharp_hits find docs (length (hits_of query find docs)) query;
-      most_steps = le_refl (sharp query find docs (length (hits_of query find docs)));
+      least_steps = sharp_hits paging docs (length (hits_of query paging docs)) query;
+      most_steps = le_refl (sharp query paging docs (length (hits_of query paging docs)));
     }
 
 step_few : (o : Option Rank) (xs : List Rank) (n : ℕ) → length xs ≤ n → length (cons_option o xs) ≤ n + 1
@@ -45,12 +45,12 @@ matches_few tree scheme order (one ∷ more) =
     omega (arith, step)
 
 -- fewer than 2^32 documents, so fewer matches
-pub few_found : (tree : Tree) (find : Find) (docs : Docs) (ranks : List Rank) → ranks ≡ found_by tree find docs → length docs < 2 ^ 32 → length ranks < 2 ^ 32
-few_found tree find docs ranks is few =
-    let all : length (matches tree find.options.scheme find.order docs) ≤ length docs = matches_few tree find.options.scheme find.order docs in
-    let some : length (found_by tree find docs) ≤ length (matches tree find.options.scheme find.order docs) = within (λ (x : Rank). nat_le find.options.cutoff x.weight) (matches tree find.options.scheme find.order docs) in
+pub few_found : (tree : Tree) (paging : Paging) (docs : Docs) (ranks : List Rank) → ranks ≡ found_by tree paging docs → length docs < 2 ^ 32 → length ranks < 2 ^ 32
+few_found tree paging docs ranks is few =
+    let all : length (matches tree paging.options.scheme paging.order docs) ≤ length docs = matches_few tree paging.options.scheme paging.order docs in
+    let some : length (found_by tree paging docs) ≤ length (matches tree paging.options.scheme paging.order docs) = within (λ (x : Rank). nat_le paging.options.cutoff x.weight) (matches tree paging.options.scheme paging.order docs) in
     subst (λ xs. length xs < 2 ^ 32) (sym is) (omega (arith, few, all, some))
 
 -- and fewer that are kept
-pub few_kept : (find : Find) (docs : Docs) (ranks kept : List Rank) → kept ≡ kept_by find docs ranks → length ranks < 2 ^ 32 → length kept < 2 ^ 32
-few_kept find docs ranks kept is few = subst (λ xs. length xs < 2 ^ 32) (sym is) (omega (arith, few, kept_few find.order find.collapse (key_of find.collapse docs) ranks))
+pub few_kept : (paging : Paging) (docs : Docs) (ranks kept : List Rank) → kept ≡ kept_by paging docs ranks → length ranks < 2 ^ 32 → length kept < 2 ^ 32
+few_kept paging docs ranks kept is few = subst (λ xs. length xs < 2 ^ 32) (sym is) (omega (arith, few, kept_few paging.order paging.collapse (key_of paging.collapse docs) ranks))

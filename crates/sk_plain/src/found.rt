@@ -7,7 +7,7 @@ ghost use Rattle.sk_base.specs.Loads.{IsLight};
 
 use crate::scores::score;
 use crate::terms::value_in;
-use sk_base::{Bytes, Doc, DocId, Find, Order, OrderBy, Rank, Scheme};
+use sk_base::{Bytes, Doc, DocId, Order, OrderBy, Paging, Rank, Scheme};
 use sk_query::Query;
 use std::alloc::{AllocError, Global};
 use std::collections::BTreeMap;
@@ -17,16 +17,16 @@ pub fn found_by(
     alloc: Global,
     docs: &BTreeMap<DocId, Doc>,
     query: &Query,
-    find: &Find,
+    paging: &Paging,
 ) -> Result<Vec<Rank>, AllocError>
     requires sound { is_sound 1 (query_view query.now) ≡ true }
     requires leaves { leaves_of (query_view query.now) ≤ 1024 }
     requires light { All IsLight docs.now.entries }
-    ensures all { IfOk result (λ ranks. ranks.items ≡ found_by (query_view query.now) find.now docs.now.entries) }
+    ensures all { IfOk result (λ ranks. ranks.items ≡ found_by (query_view query.now) paging.now docs.now.entries) }
     ensures differ { IfOk result (λ ranks. AllPairs (λ x y. x.id ≢ y.id) ranks.items) }
 {
-    let mut ranks = matches(alloc, docs, query, find.options.scheme, find.order)?;
-    ranks.retain(|rank| rank.weight >= find.options.cutoff);
+    let mut ranks = matches(alloc, docs, query, paging.options.scheme, paging.order)?;
+    ranks.retain(|rank| rank.weight >= paging.options.cutoff);
     Ok(ranks)
 }
 

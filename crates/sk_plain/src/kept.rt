@@ -5,7 +5,7 @@ ghost use Rattle.sk_model.specs.Page.{best_first, is_kept, kept_behind, kept_of,
 ghost use Rattle.sk_model.specs.Counts.{kept_by, dropped_by};
 
 use crate::terms::value_in;
-use sk_base::{Bytes, Collapse, Doc, DocId, Find, Order, Rank};
+use sk_base::{Bytes, Collapse, Doc, DocId, Order, Paging, Rank};
 use sk_model::sort_best_first;
 use std::alloc::{AllocError, Global};
 use std::collections::BTreeMap;
@@ -14,33 +14,33 @@ use std::collections::BTreeMap;
 pub fn kept_by(
     alloc: Global,
     docs: &BTreeMap<DocId, Doc>,
-    find: &Find,
+    paging: &Paging,
     ranks: &[Rank],
 ) -> Result<Vec<Rank>, AllocError>
     requires { AllPairs (λ x y. x.id ≢ y.id) ranks.now }
-    ensures { IfOk result (λ kept. kept.items ≡ kept_by find.now docs.now.entries ranks.now) }
+    ensures { IfOk result (λ kept. kept.items ≡ kept_by paging.now docs.now.entries ranks.now) }
 {
-    let ordered = best_first(alloc, ranks, find.order)?;
-    kept_of(alloc, docs, find.collapse, ordered)
+    let ordered = best_first(alloc, ranks, paging.order)?;
+    kept_of(alloc, docs, paging.collapse, ordered)
 }
 
 /// How many matches of this key are not kept, and none of the empty key.
 pub fn dropped_by(
     docs: &BTreeMap<DocId, Doc>,
-    find: &Find,
+    paging: &Paging,
     key: &[u8],
     ranks: &[Rank],
     kept: &[Rank],
 ) -> usize
-    requires { kept.now ≡ kept_by find.now docs.now.entries ranks.now }
-    ensures value { result ≡ dropped_by find.now docs.now.entries key.now ranks.now }
+    requires { kept.now ≡ kept_by paging.now docs.now.entries ranks.now }
+    ensures value { result ≡ dropped_by paging.now docs.now.entries key.now ranks.now }
     ensures bound { result ≤ length ranks.now }
 {
     if key.is_empty() {
         return 0;
     }
-    let all = count_key(docs, find.collapse, key, ranks);
-    all.saturating_sub(count_key(docs, find.collapse, key, kept))
+    let all = count_key(docs, paging.collapse, key, ranks);
+    all.saturating_sub(count_key(docs, paging.collapse, key, kept))
 }
 
 /// The key of a match: its document's value in the slot that is collapsed on.

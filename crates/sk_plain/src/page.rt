@@ -6,7 +6,7 @@ ghost use Rattle.sk_model.specs.Reports.{payload_of};
 ghost use Rattle.sk_plain.specs.Pages.{hit_of};
 
 use crate::kept::{dropped_by, key_of};
-use sk_base::{Doc, DocId, Find, Rank, Ranked, Text};
+use sk_base::{Doc, DocId, Paging, Rank, Ranked, Text};
 use std::alloc::{AllocError, Global};
 use std::collections::BTreeMap;
 
@@ -14,18 +14,18 @@ use std::collections::BTreeMap;
 pub fn hits_of(
     alloc: Global,
     docs: &BTreeMap<DocId, Doc>,
-    find: &Find,
+    paging: &Paging,
     ranks: &[Rank],
     kept: &[Rank],
     asked: &[Rank],
 ) -> Result<Vec<Ranked>, AllocError>
-    requires kept { kept.now ≡ kept_by find.now docs.now.entries ranks.now }
+    requires kept { kept.now ≡ kept_by paging.now docs.now.entries ranks.now }
     requires few { length ranks.now < 2 ^ 32 }
-    ensures { IfOk result (λ hits. hits.items ≡ map (hit_of find.now docs.now.entries ranks.now) asked.now) }
+    ensures { IfOk result (λ hits. hits.items ≡ map (hit_of paging.now docs.now.entries ranks.now) asked.now) }
 {
     let mut hits = Vec::new(alloc);
     'asked: for rank in asked {
-        let hit = hit_of(alloc, docs, find, ranks, kept, rank)?;
+        let hit = hit_of(alloc, docs, paging, ranks, kept, rank)?;
         hits.push(hit)?;
     }
     Ok(hits)
@@ -35,21 +35,21 @@ pub fn hits_of(
 fn hit_of(
     alloc: Global,
     docs: &BTreeMap<DocId, Doc>,
-    find: &Find,
+    paging: &Paging,
     ranks: &[Rank],
     kept: &[Rank],
     rank: &Rank,
 ) -> Result<Ranked, AllocError>
-    requires kept { kept.now ≡ kept_by find.now docs.now.entries ranks.now }
+    requires kept { kept.now ≡ kept_by paging.now docs.now.entries ranks.now }
     requires few { length ranks.now < 2 ^ 32 }
-    ensures { IfOk result (λ hit. hit ≡ hit_of find.now docs.now.entries ranks.now rank.now) }
+    ensures { IfOk result (λ hit. hit ≡ hit_of paging.now docs.now.entries ranks.now rank.now) }
 {
     let payload = payload_of(alloc, docs, rank.id)?;
-    let key = key_of(docs, find.collapse, rank);
+    let key = key_of(docs, paging.collapse, rank);
     Ok(Ranked {
         id: rank.id,
         weight: rank.weight,
-        collapsed: dropped_by(docs, find, key, ranks, kept) as u32,
+        collapsed: dropped_by(docs, paging, key, ranks, kept) as u32,
         payload,
     })
 }

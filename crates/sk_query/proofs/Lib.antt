@@ -1,5 +1,2 @@
-mod Examples
-mod LimitExamples
 mod CountLemmas
-mod ReadingLemmas
 pub mod ViewLaws

@@ -1,3 +1,2 @@
 pub mod Trees
 pub mod Fits
-pub mod Reading

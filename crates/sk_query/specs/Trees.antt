@@ -1,5 +1,5 @@
 -- Query trees, as every definition takes them.
-use Rattle.std.specs.Prelude.{ℕ, List, [], ◌∷◌, map, Option, Some, None}
+use Rattle.std.specs.Prelude.{ℕ, List, [], ◌∷◌, map, codes, Option, Some, None}
 use Rattle.sk_query.specs.declared.form.Form.{Form}
 use Rattle.sk_query.specs.declared.query.Bound.{Bound}
 use Rattle.sk_query.specs.declared.query.Query.{Query, fold-Query}
@@ -80,3 +80,13 @@ form_of (phrase w texts) = None
 form_of (synonym texts) = None
 form_of (scale f t) = None
 form_of (range slot lo hi) = None
+
+-- The name of a form of several queries.
+abbrev pub name_of : Form → List ℕ
+name_of Form.And = codes "and"
+name_of Form.Or = codes "or"
+name_of Form.Xor = codes "xor"
+name_of Form.Max = codes "max"
+name_of Form.AndNot = codes "and_not"
+name_of Form.AndMaybe = codes "and_maybe"
+name_of Form.Filter = codes "filter"

@@ -1,8 +1,7 @@
 //! The forms of several queries.
 ghost use Rattle.std.specs.Prelude.{◌≡◌};
 ghost use Rattle.std.specs.Option.{option_map};
-ghost use Rattle.sk_query.specs.Trees.{parts, form_of, query_view, queries_view};
-ghost use Rattle.sk_query.specs.Reading.{name_of, parts_named};
+ghost use Rattle.sk_query.specs.Trees.{parts, form_of, name_of, query_view, queries_view};
 
 use crate::{Queries, Query};
 
@@ -16,22 +15,6 @@ pub enum Form {
     AndNot,
     AndMaybe,
     Filter,
-}
-
-/// The form with this name.
-pub fn parts_named(name: &str) -> Option<Form>
-    ensures { result ≡ parts_named name.now }
-{
-    match name {
-        "and" => Some(Form::And),
-        "or" => Some(Form::Or),
-        "xor" => Some(Form::Xor),
-        "max" => Some(Form::Max),
-        "and_not" => Some(Form::AndNot),
-        "and_maybe" => Some(Form::AndMaybe),
-        "filter" => Some(Form::Filter),
-        _ => None,
-    }
 }
 
 impl Form {

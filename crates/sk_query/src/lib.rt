@@ -1,13 +1,10 @@
-//! Query trees, which of them fit, and how they are read from JSON.
+//! Query trees, and which of them fit.
 #![tactic(auto)]
 
-mod fault;
 mod form;
-mod json;
 mod limits;
 mod query;
 
-pub use fault::TreeFault;
 pub use form::Form;
-pub use json::from_json;
+pub use limits::{is_factor, is_slot, is_window};
 pub use query::{Bound, Queries, Query};

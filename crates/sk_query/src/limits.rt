@@ -1,7 +1,7 @@
 //! Which queries fit.
 ghost use Rattle.std.specs.Prelude.{◌≡◌, ◌&&◌, nat_le, bytes_eq};
 ghost use Rattle.std.specs.List.{list_all, list_any};
-ghost use Rattle.sk_json.specs.Values.{room_behind};
+ghost use Rattle.sk_base.specs.Rooms.{room_behind};
 ghost use Rattle.sk_query.specs.Trees.{query_view, queries_view};
 ghost use Rattle.sk_query.specs.Fits.{fits_tree, is_given, are_given, are_different, is_window, is_factor, is_slot, product_of, has_parts, is_sound, are_sound, leaves_of, leaves_in, depth_of, depth_in};
 
@@ -149,6 +149,7 @@ fn product(above: u64, factor: u32) -> Option<u64>
     }
 }
 
+/// Whether a window is one.
 pub fn is_window(window: u64) -> bool
     ensures { result ≡ is_window window }
 {
@@ -162,6 +163,7 @@ pub fn is_factor(factor: u64) -> bool
     factor <= 65_536
 }
 
+/// Whether a slot is one.
 pub fn is_slot(slot: u64) -> bool
     ensures { result ≡ is_slot slot }
 {

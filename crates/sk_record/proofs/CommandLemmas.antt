@@ -1,32 +1,27 @@
--- A command fits the fields under which its line was read.
-use Rattle.std.proofs.Common.{◌≡◌, ◌≤◌, ◌+◌, List, length, Option, Some, None, IfSome, option_map, subst}
+-- A command fits the schema under which its line was read.
+use Rattle.std.proofs.Common.{◌≡◌, ◌≤◌, true, List, Option, Some, None, IfSome, option_map, subst}
+use Rattle.serde_json.specs.Data.{Data}
+use Rattle.serde_json.specs.View.{view}
+use Rattle.serde_json.specs.declared.value.Value.{Value}
 use Rattle.sk_base.specs.declared.command.Command.{Command}
+use Rattle.sk_base.specs.declared.command.Question.{Question}
 use Rattle.sk_base.specs.declared.find.Ask.{Ask}
 use Rattle.sk_base.specs.declared.find.Collapse.{Collapse}
+use Rattle.sk_base.specs.declared.find.Find.{Find}
+use Rattle.sk_base.specs.declared.find.Paging.{Paging}
 use Rattle.sk_base.specs.declared.record.Edit.{Edit}
 use Rattle.sk_base.specs.declared.schema.Field.{Field}
-use Rattle.sk_base.specs.Fields.{IsSchema}
-use Rattle.sk_base.specs.Records.{most_bytes, FitsEdit, FitsAsk}
+use Rattle.sk_base.specs.declared.schema.Schema.{Schema}
+use Rattle.sk_base.specs.Commands.{FitsQuestion, command_over, question_over}
+use Rattle.sk_base.specs.Fields.{IsSchema, are_fields}
+use Rattle.sk_base.specs.Finds.{FitsAsk, FitsPaging, FitsFind, ask_over}
+use Rattle.sk_base.specs.Records.{FitsEdit}
 use Rattle.sk_record.specs.Shapes.{Collapsed, Wanted, Shape, schema, add, replace, replace_by, delete, delete_by, seek, show}
-use Rattle.sk_record.specs.Told.{Sought, Told, opens, edits, finds, shows, asked_by, told_by}
-use Rattle.sk_record.specs.FieldRules.{record_of, term_of, replaced_by, slot_named, order_of, collapse_of, sought_of, command_of}
+use Rattle.sk_record.specs.FieldRules.{record_of, term_of, replaced_by, slot_named, order_of, collapse_of, paging_of, find_of, command_of}
 use Rattle.sk_record.specs.Outcome.{MayCome}
 use Rattle.sk_record.proofs.Choices.{some_is, chained, mapped}
 use Rattle.sk_record.proofs.EntryLemmas.{record_fits}
-use Rattle.sk_record.proofs.ShapeLemmas.{FitsAsked, FitsWanted, FitsShape}
-
--- what is sought is in its ranges
-record FitsSought (sought : Sought) : Type 0 where
-  asked : FitsAsked sought.asked
-  page : sought.options.first + sought.options.size ≤ 100000
-  collapse : IfSome sought.collapse (λ c. 1 ≤ c.max)
-
--- what is told fits the fields
-abbrev FitsTold : List Field → Told → Type 0
-FitsTold fields (opens given) = ⊥
-FitsTold fields (edits edit) = FitsEdit fields edit
-FitsTold fields (finds sought) = FitsSought sought
-FitsTold fields (shows text join) = length text ≤ most_bytes
+use Rattle.sk_record.proofs.ShapeLemmas.{FitsWanted, FitsShape}
 
 abbrev KeepsOne : Option Collapse → Type 0
 KeepsOne o = IfSome o (λ c. 1 ≤ c.max)
@@ -37,38 +32,52 @@ collapse_keeps fields None collapse keeps e = subst KeepsOne (some_is None colla
 collapse_keeps fields (Some collapsed) collapse keeps e =
     mapped KeepsOne (λ slot. Some (record { slot = slot; max = collapsed.max })) (slot_named fields collapsed.field) collapse (λ slot is. keeps) e
 
-sought_fits : (fields : List Field) (wanted : Wanted) (sought : Sought) → FitsWanted wanted → sought_of fields wanted ≡ Some sought → FitsSought sought
-sought_fits fields wanted sought fits =
-    chained FitsSought _ (order_of fields wanted.sorted) sought
-    (λ order is. mapped FitsSought _ (collapse_of fields wanted.collapsed) sought
-    (λ collapse it. record { asked = fits.asked; page = fits.page; collapse = collapse_keeps fields wanted.collapsed collapse fits.collapsed it }))
+paging_fits : (fields : List Field) (wanted : Wanted) (paging : Paging) → FitsWanted wanted → paging_of fields wanted ≡ Some paging → FitsPaging paging
+paging_fits fields wanted paging fits =
+    chained FitsPaging _ (order_of fields wanted.sorted) paging
+    (λ order is. mapped FitsPaging _ (collapse_of fields wanted.collapsed) paging
+    (λ collapse it. record { page = fits.page; collapse = collapse_keeps fields wanted.collapsed collapse fits.collapsed it }))
 
-told_fits : (fields : List Field) (shape : Shape) (told : Told) → IsSchema fields → FitsShape shape → command_of fields shape ≡ Some told → FitsTold fields told
-told_fits fields (schema given) told is fits e = absurd fits
-told_fits fields (add given) told is fits e =
-    mapped (FitsTold fields) (λ it. edits (Edit.Add it)) (record_of fields given) told (λ it made. record_fits fields given it is fits made) e
-told_fits fields (replace id given) told is fits e =
-    mapped (FitsTold fields) (λ it. edits (Edit.Replace id it)) (record_of fields given) told (λ it made. (fits.0, record_fits fields given it is fits.1 made)) e
-told_fits fields (replace_by pair given) told is fits e =
-    mapped (FitsTold fields) edits (replaced_by fields pair given) told
-    (λ edit made. chained (FitsEdit fields) (λ term. option_map (λ it. Edit.ReplaceBy term it) (record_of fields given)) (term_of fields pair) edit
-    (λ term found. mapped (FitsEdit fields) (λ it. Edit.ReplaceBy term it) (record_of fields given) edit (λ it there. record_fits fields given it is fits there)) made)
-    e
-told_fits fields (delete id) told is fits e = subst (FitsTold fields) (some_is (edits (Edit.Delete id)) told e) fits
-told_fits fields (delete_by pair) told is fits e = mapped (FitsTold fields) (λ term. edits (Edit.DeleteBy term)) (term_of fields pair) told (λ term found. tt) e
-told_fits fields (seek wanted) told is fits e = mapped (FitsTold fields) finds (sought_of fields wanted) told (λ sought made. sought_fits fields wanted sought fits made) e
-told_fits fields (show text join) told is fits e = subst (FitsTold fields) (some_is (shows text join) told e) fits
+find_fits : (fields : List Field) (wanted : Wanted) (find : Find Data) → FitsWanted wanted → find_of fields wanted ≡ Some find → FitsFind find
+find_fits fields wanted find fits =
+    mapped (λ (f : Find Data). FitsFind f) _ (paging_of fields wanted) find (λ paging is. record { ask = fits.ask; paging = paging_fits fields wanted paging fits is })
 
-ask_fits : (ask : Ask) → FitsAsked (asked_by ask) → FitsAsk ask
+-- what a shape says may come
+module _ (accepted : Schema) (is : are_fields accepted.fields ≡ true) where
+  abbrev Comes : Command Data → Type 0
+  Comes = MayCome (Some accepted)
+
+  shape_comes : (shape : Shape) (command : Command Data) → FitsShape shape → command_of accepted.fields shape ≡ Some command → Comes command
+  shape_comes (schema given) command fits e = absurd fits
+  shape_comes (add given) command fits e =
+      mapped Comes (λ it. Command.Edit (Edit.Add it)) (record_of accepted.fields given) command (λ it made. record_fits accepted.fields given it is fits made) e
+  shape_comes (replace id given) command fits e =
+      mapped Comes (λ it. Command.Edit (Edit.Replace id it)) (record_of accepted.fields given) command (λ it made. (fits.0, record_fits accepted.fields given it is fits.1 made)) e
+  shape_comes (replace_by pair given) command fits e =
+      mapped Comes (λ it. Command.Edit it) (replaced_by accepted.fields pair given) command
+      (λ edit made. chained (FitsEdit accepted) (λ term. option_map (λ it. Edit.ReplaceBy term it) (record_of accepted.fields given)) (term_of accepted.fields pair) edit
+      (λ term found. mapped (FitsEdit accepted) (λ it. Edit.ReplaceBy term it) (record_of accepted.fields given) edit
+      (λ it there. record_fits accepted.fields given it is fits there)) made)
+      e
+  shape_comes (delete id) command fits e = subst Comes (some_is (Command.Edit (Edit.Delete id)) command e) fits
+  shape_comes (delete_by pair) command fits e = mapped Comes (λ term. Command.Edit (Edit.DeleteBy term)) (term_of accepted.fields pair) command (λ term found. tt) e
+  shape_comes (seek wanted) command fits e =
+      mapped Comes (λ find. Command.Ask (Question.Find find)) (find_of accepted.fields wanted) command (λ find made. find_fits accepted.fields wanted find fits made) e
+  shape_comes (show text join) command fits e = subst Comes (some_is (Command.Ask (Question.Show text join)) command e) fits
+
+ask_fits : (ask : Ask Value) → FitsAsk (ask_over view ask) → FitsAsk ask
 ask_fits (Ask.Text text join) fits = fits
 ask_fits (Ask.Tree value) fits = tt
 
-comes : (fields : List Field) (command : Command) → FitsTold fields (told_by command) → MayCome (Some fields) command
-comes fields (Command.Schema given) fits = fits
-comes fields (Command.Edit edit) fits = fits
-comes fields (Command.Find it) fits = record { ask = ask_fits it.ask fits.asked; page = fits.page; collapse = fits.collapse }
-comes fields (Command.Show text join) fits = fits
+question_fits : (question : Question Value) → FitsQuestion (question_over view question) → FitsQuestion question
+question_fits (Question.Find it) fits = record { ask = ask_fits it.ask fits.ask; paging = fits.paging }
+question_fits (Question.Show text join) fits = fits
 
-pub command_comes : (fields : List Field) (shape : Shape) (command : Command) → IsSchema fields → FitsShape shape → command_of fields shape ≡ Some (told_by command)
-    → MayCome (Some fields) command
-command_comes fields shape command is fits e = comes fields command (told_fits fields shape (told_by command) is fits e)
+comes : (accepted : Schema) (command : Command Value) → MayCome (Some accepted) (command_over view command) → MayCome (Some accepted) command
+comes accepted (Command.Schema given) fits = fits
+comes accepted (Command.Edit edit) fits = fits
+comes accepted (Command.Ask question) fits = question_fits question fits
+
+pub command_comes : (accepted : Schema) (shape : Shape) (command : Command Value) → IsSchema accepted → FitsShape shape
+    → command_of accepted.fields shape ≡ Some (command_over view command) → MayCome (Some accepted) command
+command_comes accepted shape command is fits e = comes accepted command (shape_comes accepted is.sound shape (command_over view command) fits e)

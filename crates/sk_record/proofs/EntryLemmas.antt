@@ -12,7 +12,7 @@ use Rattle.sk_base.specs.declared.record.FieldValue.{FieldValue}
 use Rattle.sk_base.specs.declared.record.Record.{Record}
 use Rattle.sk_base.specs.declared.schema.Field.{Field}
 use Rattle.sk_base.specs.declared.schema.FieldKind.{FieldKind}
-use Rattle.sk_base.specs.Fields.{IsSchema, is_field, are_apart}
+use Rattle.sk_base.specs.Fields.{is_field, are_fields, are_apart}
 use Rattle.sk_base.specs.Records.{fits_kind, fits_field, fits_entry, bytes_of_texts, bytes_of_value, bytes_of_values, most_bytes, FitsValues}
 use Rattle.sk_json.specs.Values.{whole_number, texts_of, bytes_in, bytes_in_items}
 use Rattle.sk_record.specs.Shapes.{Given}
@@ -124,18 +124,18 @@ entries_fit fields (field ∷ left) place values entries at e =
     next : (k : ℕ) → k + suc place ≡ suc k + place
     next k = omega arith
 
-values_fit : (fields : List Field) (values : Data) (entries : List Entry) → IsSchema fields → bytes_in values ≤ most_bytes → entries_of fields values ≡ Some entries → FitsValues fields entries
+values_fit : (fields : List Field) (values : Data) (entries : List Entry) → are_fields fields ≡ true → bytes_in values ≤ most_bytes → entries_of fields values ≡ Some entries → FitsValues fields entries
 values_fit fields values entries is short =
     guarded (FitsValues fields) (names_fields fields values) (entries_from 0 fields values) entries
     (λ named made. let fit = entries_fit fields fields 0 values entries (λ k. ap (slice_get fields) (whole k)) made in
-    let held = named_hold fields values (second_so (list_all is_field fields) (are_apart fields) is.sound) in
+    let held = named_hold fields values (second_so (list_all is_field fields) (are_apart fields) is) in
     let small = fit.small in
     record { rising = fit.rising; kinds = fit.kinds; small = omega (arith, held, short, small) })
   where
     whole : (n : ℕ) → n + 0 ≡ n
     whole n = omega arith
 
-pub record_fits : (fields : List Field) (given : Given) (it : Record) → IsSchema fields → bytes_in given.values ≤ most_bytes → record_of fields given ≡ Some it → FitsValues fields it.values
+pub record_fits : (fields : List Field) (given : Given) (it : Record) → are_fields fields ≡ true → bytes_in given.values ≤ most_bytes → record_of fields given ≡ Some it → FitsValues fields it.values
 record_fits fields given it is short =
     mapped (λ (r : Record). FitsValues fields r.values) (λ entries. record { values = entries; payload = given.payload }) (entries_of fields given.values) it
     (λ entries made. values_fit fields given.values entries is short made)

@@ -11,24 +11,25 @@ use Rattle.json.specs.Text.{content, short_escape, code_unit}
 use Rattle.json.specs.Word.{word, after_number}
 use Rattle.serde_json.specs.Data.{Data, null}
 use Rattle.serde_json.specs.Read.{number_of}
+use Rattle.sk_base.specs.declared.command.Command.{Command}
+use Rattle.sk_base.specs.declared.command.Question.{Question}
+use Rattle.sk_base.specs.declared.find.Ask.{Ask}
 use Rattle.sk_base.specs.declared.find.Collapse.{Collapse}
 use Rattle.sk_base.specs.declared.find.Options.{Options}
 use Rattle.sk_base.specs.declared.find.Scheme.{Scheme}
 use Rattle.sk_base.specs.declared.find.Join.{Join}
 use Rattle.sk_base.specs.declared.rank.Order.{Order}
 use Rattle.sk_base.specs.declared.rank.OrderBy.{OrderBy}
-use Rattle.sk_base.specs.declared.rank.OrderBy.TheVariants as OrderBy
 use Rattle.sk_base.specs.declared.rank.SortKey.{SortKey}
 use Rattle.sk_base.specs.declared.record.Edit.{Edit}
 use Rattle.sk_base.specs.declared.record.Entry.{Entry}
 use Rattle.sk_base.specs.declared.record.FieldValue.{FieldValue}
 use Rattle.sk_base.specs.declared.schema.Field.{Field}
 use Rattle.sk_base.specs.declared.schema.FieldKind.{FieldKind}
+use Rattle.sk_base.specs.declared.schema.Schema.{Schema}
 use Rattle.sk_record.specs.declared.fault.LineFault.{LineFault}
 use Rattle.sk_record.specs.Lines.{line_value}
 use Rattle.sk_record.specs.Outcome.{outcome}
-use Rattle.sk_record.specs.Shapes.{Asked, tree}
-use Rattle.sk_record.specs.Told.{Told, opens, edits, finds, shows}
 
 -- What is unfolded to read a line.
 unfoldable pub on_lines : Unit {0}
@@ -42,58 +43,58 @@ quoted text = map (λ x. cond (x == 39) 34 x) text
 -- A line, and what it gives.
 pub record Row : Type 0 where
   pub line : List ℕ
-  pub told : Result Told LineFault
+  pub told : Result (Command Data) LineFault
 
 -- The line of this text gives this.
-abbrev pub row : List ℕ → Result Told LineFault → Row
+abbrev pub row : List ℕ → Result (Command Data) LineFault → Row
 row text told = record { line = quoted text; told = told }
 
 -- Under these fields, the lines give what stands beside them.
-abbrev pub AreGiven : Option (List Field) → List Row → Type 0
+abbrev pub AreGiven : Option Schema → List Row → Type 0
 AreGiven schema rows = map (λ (one : Row). outcome schema (line_value one.line)) rows ≡ map Row.told rows
 
 -- ---- what a line gives
 
-abbrev pub not_json : Result Told LineFault
+abbrev pub not_json : Result (Command Data) LineFault
 not_json = Err LineFault.NotJson
 
-abbrev pub no_schema : Result Told LineFault
+abbrev pub no_schema : Result (Command Data) LineFault
 no_schema = Err LineFault.NoSchema
 
-abbrev pub schema_again : Result Told LineFault
+abbrev pub schema_again : Result (Command Data) LineFault
 schema_again = Err LineFault.SchemaAgain
 
-abbrev pub bad_shape : Result Told LineFault
+abbrev pub bad_shape : Result (Command Data) LineFault
 bad_shape = Err LineFault.BadShape
 
-abbrev pub bad_field : Result Told LineFault
+abbrev pub bad_field : Result (Command Data) LineFault
 bad_field = Err LineFault.BadField
 
 -- a schema
 abbrev pub field : List ℕ → FieldKind → Field
 field name kind = record { name = name; kind = kind }
 
-abbrev pub opened : List Field → Result Told LineFault
-opened fields = Ok (opens fields)
+abbrev pub opened : List Field → Result (Command Data) LineFault
+opened fields = Ok (Command.Schema (record { fields = fields }))
 
 -- an edit
 abbrev pub entry : ℕ → FieldValue → Entry
 entry place value = record { field = place; value = value }
 
-abbrev pub added : List Entry → List ℕ → Result Told LineFault
-added values payload = Ok (edits (Edit.Add (record { values = values; payload = payload })))
+abbrev pub added : List Entry → List ℕ → Result (Command Data) LineFault
+added values payload = Ok (Command.Edit (Edit.Add (record { values = values; payload = payload })))
 
-abbrev pub replaced : ℕ → List Entry → List ℕ → Result Told LineFault
-replaced id values payload = Ok (edits (Edit.Replace id (record { values = values; payload = payload })))
+abbrev pub replaced : ℕ → List Entry → List ℕ → Result (Command Data) LineFault
+replaced id values payload = Ok (Command.Edit (Edit.Replace id (record { values = values; payload = payload })))
 
-abbrev pub replaced_by : List ℕ → List Entry → List ℕ → Result Told LineFault
-replaced_by term values payload = Ok (edits (Edit.ReplaceBy term (record { values = values; payload = payload })))
+abbrev pub replaced_by : List ℕ → List Entry → List ℕ → Result (Command Data) LineFault
+replaced_by term values payload = Ok (Command.Edit (Edit.ReplaceBy term (record { values = values; payload = payload })))
 
-abbrev pub deleted : ℕ → Result Told LineFault
-deleted id = Ok (edits (Edit.Delete id))
+abbrev pub deleted : ℕ → Result (Command Data) LineFault
+deleted id = Ok (Command.Edit (Edit.Delete id))
 
-abbrev pub deleted_by : List ℕ → Result Told LineFault
-deleted_by term = Ok (edits (Edit.DeleteBy term))
+abbrev pub deleted_by : List ℕ → Result (Command Data) LineFault
+deleted_by term = Ok (Command.Edit (Edit.DeleteBy term))
 
 -- a find
 abbrev pub plain : Options
@@ -117,22 +118,25 @@ tree_from None = null
 tree_from (Some d) = d
 
 -- the tree that is read from this text
-abbrev pub tree_of : List ℕ → Asked
-tree_of text = tree (tree_from (line_value (quoted text)))
+abbrev pub tree_of : List ℕ → Ask Data
+tree_of text = Ask.Tree (tree_from (line_value (quoted text)))
 
-abbrev pub sought : Asked → Options → Order → Option Collapse → Result Told LineFault
-sought asked options order collapse = Ok (finds (record { asked = asked; options = options; order = order; collapse = collapse }))
+abbrev pub sought : Ask Data → Options → Order → Option Collapse → Result (Command Data) LineFault
+sought ask options order collapse = Ok (Command.Ask (Question.Find (record { ask = ask; paging = record { options = options; order = order; collapse = collapse } })))
 
 -- a find with every option as it is where nothing is said
-abbrev pub found : Asked → Result Told LineFault
-found asked = sought asked plain relevance None
+abbrev pub found : Ask Data → Result (Command Data) LineFault
+found ask = sought ask plain relevance None
 
-abbrev pub shown : List ℕ → Join → Result Told LineFault
-shown text join = Ok (shows text join)
+abbrev pub shown : List ℕ → Join → Result (Command Data) LineFault
+shown text join = Ok (Command.Ask (Question.Show text join))
 
 -- ---- the schema of most lines
 
-abbrev pub fields : List Field
-fields =
-    field (codes "body") (FieldKind.Text [] 1) ∷ field (codes "lang") (FieldKind.Filter (codes "L")) ∷ field (codes "year") (FieldKind.Number 0)
-    ∷ field (codes "site") (FieldKind.Word 1) ∷ field (codes "cat") (FieldKind.Filter (codes "XCAT")) ∷ []
+abbrev pub schema : Schema
+schema =
+    record {
+      fields =
+          field (codes "body") (FieldKind.Text [] 1) ∷ field (codes "lang") (FieldKind.Filter (codes "L")) ∷ field (codes "year") (FieldKind.Number 0)
+          ∷ field (codes "site") (FieldKind.Word 1) ∷ field (codes "cat") (FieldKind.Filter (codes "XCAT")) ∷ [];
+    }

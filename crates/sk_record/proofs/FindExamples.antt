@@ -3,18 +3,18 @@ use Rattle.std.proofs.Common.{◌∷◌, [], refl, Some, None, codes, true, fals
 use Rattle.sk_base.specs.declared.find.Join.{Join}
 use Rattle.sk_base.specs.declared.find.Scheme.{Scheme}
 use Rattle.sk_base.specs.declared.rank.OrderBy.TheVariants as OrderBy
-use Rattle.sk_record.specs.Shapes.{words}
-use Rattle.sk_record.proofs.ExampleLines.{on_lines, AreGiven, row, fields, plain, rising, relevance, key, collapsed_on, tree_of, found, sought, shown, bad_shape, bad_field}
+use Rattle.sk_base.specs.declared.find.Ask.{Ask}
+use Rattle.sk_record.proofs.ExampleLines.{on_lines, AreGiven, row, schema, plain, rising, relevance, key, collapsed_on, tree_of, found, sought, shown, bad_shape, bad_field}
 
 -- A text, and how its words are joined.
-texts : AreGiven (Some fields) (
-    row (codes "{'find':'red'}") (found (words (codes "red") Join.Or)) ∷
-    row (codes "{'find':''}") (found (words [] Join.Or)) ∷
+texts : AreGiven (Some schema) (
+    row (codes "{'find':'red'}") (found (Ask.Text (codes "red") Join.Or)) ∷
+    row (codes "{'find':''}") (found (Ask.Text [] Join.Or)) ∷
     row (codes "{'find':7}") bad_shape ∷
     row (codes "{'find':null}") bad_shape ∷
     row (codes "{'find':['red']}") bad_shape ∷
-    row (codes "{'find':'a','op':'or'}") (found (words (codes "a") Join.Or)) ∷
-    row (codes "{'find':'a','op':'and'}") (found (words (codes "a") Join.And)) ∷
+    row (codes "{'find':'a','op':'or'}") (found (Ask.Text (codes "a") Join.Or)) ∷
+    row (codes "{'find':'a','op':'and'}") (found (Ask.Text (codes "a") Join.And)) ∷
     row (codes "{'find':'a','op':'xor'}") bad_shape ∷
     row (codes "{'find':'a','op':'AND'}") bad_shape ∷
     row (codes "{'find':'a','op':null}") bad_shape ∷
@@ -26,10 +26,10 @@ unfolding on_lines
 texts = refl
 
 -- A scheme.
-schemes : AreGiven (Some fields) (
-    row (codes "{'find':'a','scheme':'bool'}") (sought (words (codes "a") Join.Or) (record plain { scheme = Scheme.Bool }) relevance None) ∷
-    row (codes "{'find':'a','scheme':'coord'}") (sought (words (codes "a") Join.Or) (record plain { scheme = Scheme.Coord }) relevance None) ∷
-    row (codes "{'find':'a','scheme':'nnn'}") (found (words (codes "a") Join.Or)) ∷
+schemes : AreGiven (Some schema) (
+    row (codes "{'find':'a','scheme':'bool'}") (sought (Ask.Text (codes "a") Join.Or) (record plain { scheme = Scheme.Bool }) relevance None) ∷
+    row (codes "{'find':'a','scheme':'coord'}") (sought (Ask.Text (codes "a") Join.Or) (record plain { scheme = Scheme.Coord }) relevance None) ∷
+    row (codes "{'find':'a','scheme':'nnn'}") (found (Ask.Text (codes "a") Join.Or)) ∷
     row (codes "{'find':'a','scheme':'tfn'}") bad_shape ∷
     row (codes "{'find':'a','scheme':7}") bad_shape ∷
     row (codes "{'find':'a','scheme':null}") bad_shape ∷
@@ -38,13 +38,13 @@ unfolding on_lines
 schemes = refl
 
 -- A page ends within 100,000.
-pages : AreGiven (Some fields) (
-    row (codes "{'find':'a','first':99990}") (sought (words (codes "a") Join.Or) (record plain { first = 99990 }) relevance None) ∷
+pages : AreGiven (Some schema) (
+    row (codes "{'find':'a','first':99990}") (sought (Ask.Text (codes "a") Join.Or) (record plain { first = 99990 }) relevance None) ∷
     row (codes "{'find':'a','first':99991}") bad_shape ∷
-    row (codes "{'find':'a','size':100000}") (sought (words (codes "a") Join.Or) (record plain { size = 100000 }) relevance None) ∷
+    row (codes "{'find':'a','size':100000}") (sought (Ask.Text (codes "a") Join.Or) (record plain { size = 100000 }) relevance None) ∷
     row (codes "{'find':'a','size':100001}") bad_shape ∷
-    row (codes "{'find':'a','size':0}") (sought (words (codes "a") Join.Or) (record plain { size = 0 }) relevance None) ∷
-    row (codes "{'find':'a','first':100000,'size':0}") (sought (words (codes "a") Join.Or) (record plain { first = 100000; size = 0 }) relevance None) ∷
+    row (codes "{'find':'a','size':0}") (sought (Ask.Text (codes "a") Join.Or) (record plain { size = 0 }) relevance None) ∷
+    row (codes "{'find':'a','first':100000,'size':0}") (sought (Ask.Text (codes "a") Join.Or) (record plain { first = 100000; size = 0 }) relevance None) ∷
     row (codes "{'find':'a','first':100000,'size':1}") bad_shape ∷
     row (codes "{'find':'a','first':100001,'size':0}") bad_shape ∷
     row (codes "{'find':'a','first':18446744073709551615,'size':1}") bad_shape ∷
@@ -62,8 +62,8 @@ unfolding on_lines
 pages = refl
 
 -- How many matches are counted.
-checks : AreGiven (Some fields) (
-    row (codes "{'find':'a','check':4294967295}") (sought (words (codes "a") Join.Or) (record plain { check = 4294967295 }) relevance None) ∷
+checks : AreGiven (Some schema) (
+    row (codes "{'find':'a','check':4294967295}") (sought (Ask.Text (codes "a") Join.Or) (record plain { check = 4294967295 }) relevance None) ∷
     row (codes "{'find':'a','check':4294967296}") bad_shape ∷
     row (codes "{'find':'a','check':1e2}") bad_shape ∷
     row (codes "{'find':'a','check':true}") bad_shape ∷
@@ -72,8 +72,8 @@ unfolding on_lines
 checks = refl
 
 -- An order, and the field that it is by.
-orders : AreGiven (Some fields) (
-    row (codes "{'find':'a','order':'relevance'}") (found (words (codes "a") Join.Or)) ∷
+orders : AreGiven (Some schema) (
+    row (codes "{'find':'a','order':'relevance'}") (found (Ask.Text (codes "a") Join.Or)) ∷
     row (codes "{'find':'a','order':'relevance','by':'year'}") bad_shape ∷
     row (codes "{'find':'a','order':'relevance','reverse':false}") bad_shape ∷
     row (codes "{'find':'a','by':'year'}") bad_shape ∷
@@ -83,9 +83,9 @@ orders : AreGiven (Some fields) (
     row (codes "{'find':'a','order':'value','reverse':true}") bad_shape ∷
     row (codes "{'find':'a','order':'year','by':'year'}") bad_shape ∷
     row (codes "{'find':'a','order':null,'by':'year'}") bad_shape ∷
-    row (codes "{'find':'a','order':'value','by':'year'}") (sought (words (codes "a") Join.Or) plain (rising (OrderBy.Value (key 0 false))) None) ∷
-    row (codes "{'find':'a','order':'value_relevance','by':'site','reverse':true}") (sought (words (codes "a") Join.Or) plain (rising (OrderBy.ValueThenRelevance (key 1 true))) None) ∷
-    row (codes "{'find':'a','order':'relevance_value','by':'site','reverse':false}") (sought (words (codes "a") Join.Or) plain (rising (OrderBy.RelevanceThenValue (key 1 false))) None) ∷
+    row (codes "{'find':'a','order':'value','by':'year'}") (sought (Ask.Text (codes "a") Join.Or) plain (rising (OrderBy.Value (key 0 false))) None) ∷
+    row (codes "{'find':'a','order':'value_relevance','by':'site','reverse':true}") (sought (Ask.Text (codes "a") Join.Or) plain (rising (OrderBy.ValueThenRelevance (key 1 true))) None) ∷
+    row (codes "{'find':'a','order':'relevance_value','by':'site','reverse':false}") (sought (Ask.Text (codes "a") Join.Or) plain (rising (OrderBy.RelevanceThenValue (key 1 false))) None) ∷
     row (codes "{'find':'a','order':'value','by':'year','reverse':null}") bad_shape ∷
     row (codes "{'find':'a','order':'value','by':'year','reverse':1}") bad_shape ∷
     row (codes "{'find':'a','order':'value','by':null}") bad_shape ∷
@@ -99,30 +99,30 @@ unfolding on_lines
 orders = refl
 
 -- The least weight of a match, and ids that fall.
-cutoffs : AreGiven (Some fields) (
-    row (codes "{'find':'a','cutoff':0}") (found (words (codes "a") Join.Or)) ∷
-    row (codes "{'find':'a','cutoff':18446744073709551615}") (sought (words (codes "a") Join.Or) (record plain { cutoff = 18446744073709551615 }) relevance None) ∷
+cutoffs : AreGiven (Some schema) (
+    row (codes "{'find':'a','cutoff':0}") (found (Ask.Text (codes "a") Join.Or)) ∷
+    row (codes "{'find':'a','cutoff':18446744073709551615}") (sought (Ask.Text (codes "a") Join.Or) (record plain { cutoff = 18446744073709551615 }) relevance None) ∷
     row (codes "{'find':'a','cutoff':18446744073709551616}") bad_shape ∷
     row (codes "{'find':'a','cutoff':-1}") bad_shape ∷
     row (codes "{'find':'a','cutoff':2.0}") bad_shape ∷
     row (codes "{'find':'a','cutoff':'2'}") bad_shape ∷
     row (codes "{'find':'a','cutoff':null}") bad_shape ∷
-    row (codes "{'find':'a','ids':'rising'}") (found (words (codes "a") Join.Or)) ∷
-    row (codes "{'find':'a','ids':'falling'}") (sought (words (codes "a") Join.Or) plain (record relevance { falling = true }) None) ∷
+    row (codes "{'find':'a','ids':'rising'}") (found (Ask.Text (codes "a") Join.Or)) ∷
+    row (codes "{'find':'a','ids':'falling'}") (sought (Ask.Text (codes "a") Join.Or) plain (record relevance { falling = true }) None) ∷
     row (codes "{'find':'a','ids':'Falling'}") bad_shape ∷
     row (codes "{'find':'a','ids':true}") bad_shape ∷
     row (codes "{'find':'a','ids':null}") bad_shape ∷
     row (codes "{'tree':7,'ids':'falling','cutoff':3}") (sought (tree_of (codes "7")) (record plain { cutoff = 3 }) (record relevance { falling = true }) None) ∷
-    row (codes "{'find':'a','order':'value','by':'year','ids':'falling'}") (sought (words (codes "a") Join.Or) plain (record (rising (OrderBy.Value (key 0 false))) { falling = true }) None) ∷
+    row (codes "{'find':'a','order':'value','by':'year','ids':'falling'}") (sought (Ask.Text (codes "a") Join.Or) plain (record (rising (OrderBy.Value (key 0 false))) { falling = true }) None) ∷
     row (codes "{'show':'a','cutoff':1}") bad_shape ∷
     [])
 unfolding on_lines
 cutoffs = refl
 
 -- A field that is collapsed on, and how many are kept.
-collapses : AreGiven (Some fields) (
-    row (codes "{'find':'a','collapse':'site'}") (sought (words (codes "a") Join.Or) plain relevance (collapsed_on 1 1)) ∷
-    row (codes "{'find':'a','collapse':'year','max':100000}") (sought (words (codes "a") Join.Or) plain relevance (collapsed_on 0 100000)) ∷
+collapses : AreGiven (Some schema) (
+    row (codes "{'find':'a','collapse':'site'}") (sought (Ask.Text (codes "a") Join.Or) plain relevance (collapsed_on 1 1)) ∷
+    row (codes "{'find':'a','collapse':'year','max':100000}") (sought (Ask.Text (codes "a") Join.Or) plain relevance (collapsed_on 0 100000)) ∷
     row (codes "{'find':'a','collapse':'site','max':0}") bad_shape ∷
     row (codes "{'find':'a','collapse':'site','max':100001}") bad_shape ∷
     row (codes "{'find':'a','collapse':'site','max':1.0}") bad_shape ∷
@@ -139,7 +139,7 @@ unfolding on_lines
 collapses = refl
 
 -- A tree is any value.
-trees : AreGiven (Some fields) (
+trees : AreGiven (Some schema) (
     row (codes "{'tree':null}") (found (tree_of (codes "null"))) ∷
     row (codes "{'tree':{'b':[1,'x'],'a':-0}}") (found (tree_of (codes "{'a':-0.0,'b':[1,'x']}"))) ∷
     row (codes "{'tree':7,'scheme':'bool','first':1,'size':2,'check':3}") (sought (tree_of (codes "7")) (record plain { scheme = Scheme.Bool; first = 1; size = 2; check = 3 }) relevance None) ∷
@@ -153,7 +153,7 @@ unfolding on_lines
 trees = refl
 
 -- A text that is shown.
-texts_to_show : AreGiven (Some fields) (
+texts_to_show : AreGiven (Some schema) (
     row (codes "{'show':'red'}") (shown (codes "red") Join.Or) ∷
     row (codes "{'show':'','op':'and'}") (shown [] Join.And) ∷
     row (codes "{'show':7}") bad_shape ∷

@@ -6,8 +6,8 @@ use Rattle.serde_json.specs.Data.{Data, string, array, object, no_items, item, n
 use Rattle.sk_base.specs.declared.find.Join.{Join}
 use Rattle.sk_base.specs.declared.schema.FieldKind.TheVariants as FieldKind
 use Rattle.sk_record.specs.Outcome.{outcome}
-use Rattle.sk_record.specs.Shapes.{words, tree}
-use Rattle.sk_record.proofs.ExampleLines.{on_lines, AreGiven, row, fields, field, opened, found, not_json, no_schema, bad_shape, bad_field}
+use Rattle.sk_base.specs.declared.find.Ask.{Ask}
+use Rattle.sk_record.proofs.ExampleLines.{on_lines, AreGiven, row, schema, field, opened, found, not_json, no_schema, bad_shape, bad_field}
 
 -- Bytes that are not UTF-8 are no value, and a mark of the order of bytes is no white space.
 no_text_at_first : AreGiven None (
@@ -19,10 +19,10 @@ no_text_at_first : AreGiven None (
 unfolding on_lines
 no_text_at_first = refl
 
-no_text : AreGiven (Some fields) (
+no_text : AreGiven (Some schema) (
     row (39 ∷ 255 ∷ 39 ∷ []) not_json ∷
     row (codes "{'find':'" ++ 195 ∷ codes "'}") not_json ∷
-    row (encode_utf8_all (codes "{'find':'é'}")) (found (words (encode_utf8_all (codes "é")) Join.Or)) ∷
+    row (encode_utf8_all (codes "{'find':'é'}")) (found (Ask.Text (encode_utf8_all (codes "é")) Join.Or)) ∷
     row (239 ∷ 187 ∷ 191 ∷ codes "{}") not_json ∷
     [])
 unfolding on_lines
@@ -43,7 +43,7 @@ inside zero = array no_items
 inside (suc n) = array (item (inside n) no_items)
 
 -- Arrays stand in each other 127 deep at the most.
-arrays_alone : AreGiven (Some fields) (
+arrays_alone : AreGiven (Some schema) (
     row (arrays 1) bad_shape ∷
     row (arrays 126) bad_shape ∷
     row (arrays 127) bad_shape ∷
@@ -53,9 +53,9 @@ unfolding on_lines
 arrays_alone = refl
 
 -- The object around a tree counts as well.
-arrays_in_a_tree : AreGiven (Some fields) (
-    row (codes "{'tree':" ++ arrays 1 ++ codes "}") (found (tree (inside 0))) ∷
-    row (codes "{'tree':" ++ arrays 126 ++ codes "}") (found (tree (inside 125))) ∷
+arrays_in_a_tree : AreGiven (Some schema) (
+    row (codes "{'tree':" ++ arrays 1 ++ codes "}") (found (Ask.Tree (inside 0))) ∷
+    row (codes "{'tree':" ++ arrays 126 ++ codes "}") (found (Ask.Tree (inside 125))) ∷
     row (codes "{'tree':" ++ arrays 127 ++ codes "}") not_json ∷
     row (codes "{'tree':" ++ arrays 128 ++ codes "}") not_json ∷
     [])
@@ -95,10 +95,10 @@ many_fields = refl
 abbrev asking : List ℕ → Data
 asking text = object (member (codes "find") (string text) no_members)
 
-longest_text : (text : List ℕ) → length text ≡ 1048576 → outcome (Some fields) (Some (asking text)) ≡ found (words text Join.Or)
+longest_text : (text : List ℕ) → length text ≡ 1048576 → outcome (Some schema) (Some (asking text)) ≡ found (Ask.Text text Join.Or)
 longest_text text e = rw e
 
-too_long_a_text : (text : List ℕ) → length text ≡ 1048577 → outcome (Some fields) (Some (asking text)) ≡ bad_shape
+too_long_a_text : (text : List ℕ) → length text ≡ 1048577 → outcome (Some schema) (Some (asking text)) ≡ bad_shape
 too_long_a_text text e = rw e
 
 -- so have the strings of a record together, wherever they stand in it
@@ -106,12 +106,12 @@ abbrev adding : List ℕ → List ℕ → Data
 adding a b =
     object (member (codes "add") (object (member (codes "nope") (array (item (array (item (string a) no_items)) (item (object (member (codes "x") (string b) no_members)) no_items))) no_members)) no_members)
 
-longest_record : (a b : List ℕ) → length a + length b ≡ 1048576 → outcome (Some fields) (Some (adding a b)) ≡ bad_field
+longest_record : (a b : List ℕ) → length a + length b ≡ 1048576 → outcome (Some schema) (Some (adding a b)) ≡ bad_field
 longest_record a b e =
     let all : length a + 0 + (length b + 0 + 0) + 0 ≡ 1048576 = omega arith in
     rw all
 
-too_long_a_record : (a b : List ℕ) → length a + length b ≡ 1048577 → outcome (Some fields) (Some (adding a b)) ≡ bad_shape
+too_long_a_record : (a b : List ℕ) → length a + length b ≡ 1048577 → outcome (Some schema) (Some (adding a b)) ≡ bad_shape
 too_long_a_record a b e =
     let all : length a + 0 + (length b + 0 + 0) + 0 ≡ 1048577 = omega arith in
     rw all

@@ -1,10 +1,10 @@
 -- Lines that change documents, and what they give, worked out by hand from the rules. A ' stands for a ".
 use Rattle.std.proofs.Common.{◌∷◌, [], refl, Some, codes}
 use Rattle.sk_base.specs.declared.record.FieldValue.TheVariants as FieldValue
-use Rattle.sk_record.proofs.ExampleLines.{on_lines, AreGiven, row, fields, entry, added, replaced, replaced_by, deleted, deleted_by, not_json, schema_again, bad_shape, bad_field}
+use Rattle.sk_record.proofs.ExampleLines.{on_lines, AreGiven, row, schema, entry, added, replaced, replaced_by, deleted, deleted_by, not_json, schema_again, bad_shape, bad_field}
 
 -- What is no row of an edit.
-no_rows : AreGiven (Some fields) (
+no_rows : AreGiven (Some schema) (
     row (codes "red") not_json ∷
     row (codes "{'schema':") not_json ∷
     row (codes "{'schema':[{'name':'a','kind':'text'}]}") schema_again ∷
@@ -22,7 +22,7 @@ unfolding on_lines
 no_rows = refl
 
 -- A record and a payload.
-additions : AreGiven (Some fields) (
+additions : AreGiven (Some schema) (
     row (codes "{'add':{}}") (added [] []) ∷
     row (codes "{'add':{},'data':'x'}") (added [] (codes "x")) ∷
     row (codes "{'data':'','add':{}}") (added [] []) ∷
@@ -39,7 +39,7 @@ unfolding on_lines
 additions = refl
 
 -- Values stand by the place of their field; `null` is none, and the last of two counts.
-values : AreGiven (Some fields) (
+values : AreGiven (Some schema) (
     row (codes "{'add':{'body':'red fox','lang':'en','year':1990,'site':'x.org','cat':['a','b','a','']},'data':'p'}") (added (entry 0 (FieldValue.Text (codes "red fox")) ∷ entry 1 (FieldValue.Filter ((codes "en") ∷ [])) ∷ entry 2 (FieldValue.Number 1990) ∷ entry 3 (FieldValue.Word (codes "x.org")) ∷ entry 4 (FieldValue.Filter ((codes "a") ∷ (codes "b") ∷ (codes "a") ∷ [] ∷ [])) ∷ []) (codes "p")) ∷
     row (codes "{'add':{'year':7,'site':'s','lang':'l','cat':'c','body':'b'}}") (added (entry 0 (FieldValue.Text (codes "b")) ∷ entry 1 (FieldValue.Filter ((codes "l") ∷ [])) ∷ entry 2 (FieldValue.Number 7) ∷ entry 3 (FieldValue.Word (codes "s")) ∷ entry 4 (FieldValue.Filter ((codes "c") ∷ [])) ∷ []) []) ∷
     row (codes "{'add':{'body':null,'lang':null,'year':null,'site':null}}") (added [] []) ∷
@@ -52,7 +52,7 @@ unfolding on_lines
 values = refl
 
 -- Each member names a field.
-unknown_fields : AreGiven (Some fields) (
+unknown_fields : AreGiven (Some schema) (
     row (codes "{'add':{'bodi':'x'}}") bad_field ∷
     row (codes "{'add':{'bodi':null}}") bad_field ∷
     row (codes "{'add':{'':'x'}}") bad_field ∷
@@ -63,7 +63,7 @@ unfolding on_lines
 unknown_fields = refl
 
 -- A text is a string, a filter one or an array of them.
-texts : AreGiven (Some fields) (
+texts : AreGiven (Some schema) (
     row (codes "{'add':{'body':''}}") (added (entry 0 (FieldValue.Text []) ∷ []) []) ∷
     row (codes "{'add':{'body':7}}") bad_field ∷
     row (codes "{'add':{'body':['a']}}") bad_field ∷
@@ -82,7 +82,7 @@ unfolding on_lines
 texts = refl
 
 -- A number is whole and has 64 bits, a word is a string.
-numbers_and_words : AreGiven (Some fields) (
+numbers_and_words : AreGiven (Some schema) (
     row (codes "{'add':{'year':18446744073709551615}}") (added (entry 2 (FieldValue.Number 18446744073709551615) ∷ []) []) ∷
     row (codes "{'add':{'year':18446744073709551616}}") bad_field ∷
     row (codes "{'add':{'year':-1}}") bad_field ∷
@@ -99,7 +99,7 @@ unfolding on_lines
 numbers_and_words = refl
 
 -- A record in the place of an id.
-replacements : AreGiven (Some fields) (
+replacements : AreGiven (Some schema) (
     row (codes "{'replace':1,'with':{}}") (replaced 1 [] []) ∷
     row (codes "{'replace':4294967295,'with':{'year':3},'data':'d'}") (replaced 4294967295 (entry 2 (FieldValue.Number 3) ∷ []) (codes "d")) ∷
     row (codes "{'replace':0,'with':{}}") bad_shape ∷
@@ -123,7 +123,7 @@ unfolding on_lines
 replacements = refl
 
 -- A record in the place of those with a term.
-replacements_by_term : AreGiven (Some fields) (
+replacements_by_term : AreGiven (Some schema) (
     row (codes "{'replace_by':['cat','Dog'],'with':{'year':1}}") (replaced_by (codes "XCAT:Dog") (entry 2 (FieldValue.Number 1) ∷ []) []) ∷
     row (codes "{'replace_by':['lang','En'],'with':{},'data':'d'}") (replaced_by (codes "LEn") [] (codes "d")) ∷
     row (codes "{'replace_by':['lang',''],'with':{}}") (replaced_by (codes "L") [] []) ∷
@@ -144,7 +144,7 @@ unfolding on_lines
 replacements_by_term = refl
 
 -- The end of an id.
-deletions : AreGiven (Some fields) (
+deletions : AreGiven (Some schema) (
     row (codes "{'delete':1}") (deleted 1) ∷
     row (codes "{'delete':4294967295}") (deleted 4294967295) ∷
     row (codes "{'delete':0}") bad_shape ∷
@@ -163,7 +163,7 @@ unfolding on_lines
 deletions = refl
 
 -- The end of those with a term.
-deletions_by_term : AreGiven (Some fields) (
+deletions_by_term : AreGiven (Some schema) (
     row (codes "{'delete_by':['cat','dog']}") (deleted_by (codes "XCATdog")) ∷
     row (codes "{'delete_by':['cat',':x']}") (deleted_by (codes "XCAT::x")) ∷
     row (codes "{'delete_by':['site','x']}") bad_field ∷

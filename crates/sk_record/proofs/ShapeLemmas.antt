@@ -5,22 +5,19 @@ use Rattle.std.proofs.lemmas.Bool.{leb-true}
 use Rattle.sk_base.proofs.Tests.{first_so, second_so}
 use Rattle.serde_json.specs.Data.{Data}
 use Rattle.serde_json.specs.Find.{get, as_str, as_object}
+use Rattle.sk_base.specs.declared.find.Ask.{Ask}
 use Rattle.sk_base.specs.declared.find.Options.{Options}
+use Rattle.sk_base.specs.Finds.{FitsAsk}
 use Rattle.sk_base.specs.Records.{most_bytes}
 use Rattle.sk_json.specs.Values.{has, has_only, text_at, whole_number, between, optional_text, optional_number, bytes_in}
-use Rattle.sk_record.specs.Shapes.{Given, Asked, words, tree, Collapsed, Wanted, Shape, schema, add, replace, replace_by, delete, delete_by, seek, show}
+use Rattle.sk_record.specs.Shapes.{Given, Collapsed, Wanted, Shape, schema, add, replace, replace_by, delete, delete_by, seek, show}
 use Rattle.sk_record.specs.Options.{query_at, join_at, scheme_at, page_at, check_at, cutoff_at, falling_at, sorted_at, collapsed_on, collapsed_by, collapsed_at, options_at, wanted_at, option_names, find_row, tree_row}
 use Rattle.sk_record.specs.Rows.{values_of, given_at, id_at, pair_at, add_row, replace_row, replace_by_row, delete_row, delete_by_row, show_row, later_shape}
 use Rattle.sk_record.proofs.Choices.{some_is, chained, mapped, guarded, either}
 
--- a query text is not too long
-abbrev pub FitsAsked : Asked → Type 0
-FitsAsked (words text join) = length text ≤ most_bytes
-FitsAsked (tree d) = Unit {0}
-
 -- the query, the page and the collapsing are in their ranges
 pub record FitsWanted (wanted : Wanted) : Type 0 where
-  pub asked : FitsAsked wanted.asked
+  pub ask : FitsAsk wanted.ask
   pub page : wanted.options.first + wanted.options.size ≤ 100000
   pub collapsed : IfSome wanted.collapsed (λ c. 1 ≤ c.max)
 
@@ -92,25 +89,25 @@ options_fit d options =
     (λ check k. mapped WithinHits _ (cutoff_at d) options
     (λ cutoff l. page_fits d page j))))
 
-wanted_fits : (d : Data) (asked : Asked) (wanted : Wanted) → FitsAsked asked → wanted_at d asked ≡ Some wanted → FitsWanted wanted
-wanted_fits d asked wanted fits =
+wanted_fits : (d : Data) (ask : Ask Data) (wanted : Wanted) → FitsAsk ask → wanted_at d ask ≡ Some wanted → FitsWanted wanted
+wanted_fits d ask wanted fits =
     chained FitsWanted _ (options_at d) wanted
     (λ options i. chained FitsWanted _ (sorted_at d) wanted
     (λ sorted j. chained FitsWanted _ (falling_at d) wanted
     (λ falling l. mapped FitsWanted _ (collapsed_at d) wanted
-    (λ collapsed k. record { asked = fits; page = options_fit d options i; collapsed = collapsed_keeps_by d (get (codes "collapse") d) collapsed k }))))
+    (λ collapsed k. record { ask = fits; page = options_fit d options i; collapsed = collapsed_keeps_by d (get (codes "collapse") d) collapsed k }))))
 
 find_fits : (d : Data) (wanted : Wanted) → find_row d ≡ Some wanted → FitsWanted wanted
 find_fits d wanted =
     guarded FitsWanted (has_only (codes "find" ∷ codes "op" ∷ option_names) d) _ wanted
     (λ only. chained FitsWanted _ (query_at (codes "find") d) wanted
     (λ text is. chained FitsWanted _ (join_at d) wanted
-    (λ join it. wanted_fits d (words text join) wanted (query_short (codes "find") d text is))))
+    (λ join it. wanted_fits d (Ask.Text text join) wanted (query_short (codes "find") d text is))))
 
 tree_fits : (d : Data) (wanted : Wanted) → tree_row d ≡ Some wanted → FitsWanted wanted
 tree_fits d wanted =
     guarded FitsWanted (has_only (codes "tree" ∷ option_names) d) _ wanted
-    (λ only. chained FitsWanted _ (get (codes "tree") d) wanted (λ value is. wanted_fits d (tree value) wanted tt))
+    (λ only. chained FitsWanted _ (get (codes "tree") d) wanted (λ value is. wanted_fits d (Ask.Tree value) wanted tt))
 
 add_fits : (d : Data) (shape : Shape) → add_row d ≡ Some shape → FitsShape shape
 add_fits d shape =

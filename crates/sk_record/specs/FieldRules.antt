@@ -3,7 +3,11 @@ use Rattle.std.specs.Prelude.{ℕ, suc, Bool, false, List, [], ◌∷◌, bytes_
 use Rattle.std.specs.Option.{option_and_then}
 use Rattle.serde_json.specs.Data.{Data, null, boolean, number, string, array, object}
 use Rattle.serde_json.specs.Find.{get, as_str}
+use Rattle.sk_base.specs.declared.command.Command.{Command}
+use Rattle.sk_base.specs.declared.command.Question.{Question}
 use Rattle.sk_base.specs.declared.find.Collapse.{Collapse}
+use Rattle.sk_base.specs.declared.find.Find.{Find}
+use Rattle.sk_base.specs.declared.find.Paging.{Paging}
 use Rattle.sk_base.specs.declared.rank.OrderBy.{OrderBy}
 use Rattle.sk_base.specs.declared.rank.SortKey.{SortKey}
 use Rattle.sk_base.specs.declared.record.Edit.{Edit}
@@ -17,7 +21,6 @@ use Rattle.sk_base.specs.Terms.{prefixed}
 use Rattle.sk_record.specs.declared.row.Sort.{Sort}
 use Rattle.sk_json.specs.Values.{all_names, whole_number, texts_of}
 use Rattle.sk_record.specs.Shapes.{Given, Sorted, by_relevance, by_field, Collapsed, Wanted, Shape, schema, add, replace, replace_by, delete, delete_by, seek, show}
-use Rattle.sk_record.specs.Told.{Sought, Told, opens, edits, finds, shows}
 
 -- The field with this name.
 abbrev pub field_named : List Field → List ℕ → Option Field
@@ -110,24 +113,28 @@ abbrev pub collapse_of : List Field → Option Collapsed → Option (Option Coll
 collapse_of fields None = Some None
 collapse_of fields (Some collapsed) = option_map (λ slot. Some (record { slot = slot; max = collapsed.max })) (slot_named fields collapsed.field)
 
--- The find, with the slots of its fields.
-abbrev pub sought_of : List Field → Wanted → Option Sought
-sought_of fields wanted =
+-- The page, with the slots of its fields.
+abbrev pub paging_of : List Field → Wanted → Option Paging
+paging_of fields wanted =
     option_and_then (λ by.
-    option_map (λ collapse. record { asked = wanted.asked; options = wanted.options; order = record { by = by; falling = wanted.falling }; collapse = collapse })
+    option_map (λ collapse. record { options = wanted.options; order = record { by = by; falling = wanted.falling }; collapse = collapse })
     (collapse_of fields wanted.collapsed)) (order_of fields wanted.sorted)
+
+-- The find, with the slots of its fields.
+abbrev pub find_of : List Field → Wanted → Option (Find Data)
+find_of fields wanted = option_map (λ paging. record { ask = wanted.ask; paging = paging }) (paging_of fields wanted)
 
 -- The edit of a new record.
 abbrev pub replaced_by : List Field → List ℕ × List ℕ → Given → Option Edit
 replaced_by fields pair given = option_and_then (λ term. option_map (λ it. Edit.ReplaceBy term it) (record_of fields given)) (term_of fields pair)
 
 -- What a shape says under the fields that were accepted; a schema stands by itself.
-abbrev pub command_of : List Field → Shape → Option Told
-command_of fields (schema given) = if are_fields given then Some (opens given) else None
-command_of fields (add given) = option_map (λ it. edits (Edit.Add it)) (record_of fields given)
-command_of fields (replace id given) = option_map (λ it. edits (Edit.Replace id it)) (record_of fields given)
-command_of fields (replace_by pair given) = option_map edits (replaced_by fields pair given)
-command_of fields (delete id) = Some (edits (Edit.Delete id))
-command_of fields (delete_by pair) = option_map (λ term. edits (Edit.DeleteBy term)) (term_of fields pair)
-command_of fields (seek wanted) = option_map finds (sought_of fields wanted)
-command_of fields (show text join) = Some (shows text join)
+abbrev pub command_of : List Field → Shape → Option (Command Data)
+command_of fields (schema given) = if are_fields given.fields then Some (Command.Schema given) else None
+command_of fields (add given) = option_map (λ it. Command.Edit (Edit.Add it)) (record_of fields given)
+command_of fields (replace id given) = option_map (λ it. Command.Edit (Edit.Replace id it)) (record_of fields given)
+command_of fields (replace_by pair given) = option_map (λ it. Command.Edit it) (replaced_by fields pair given)
+command_of fields (delete id) = Some (Command.Edit (Edit.Delete id))
+command_of fields (delete_by pair) = option_map (λ term. Command.Edit (Edit.DeleteBy term)) (term_of fields pair)
+command_of fields (seek wanted) = option_map (λ find. Command.Ask (Question.Find find)) (find_of fields wanted)
+command_of fields (show text join) = Some (Command.Ask (Question.Show text join))

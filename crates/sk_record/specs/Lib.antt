@@ -5,6 +5,5 @@ pub mod Options
 pub mod Rows
 pub mod Shown
 pub mod Taken
-pub mod Told
 pub mod FieldRules
 pub mod Outcome

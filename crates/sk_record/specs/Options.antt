@@ -3,13 +3,15 @@ use Rattle.std.specs.Prelude.{ℕ, ◌+◌, ◌||◌, nat_le, Bool, true, false,
 use Rattle.std.specs.Option.{option_and_then}
 use Rattle.serde_json.specs.Data.{Data}
 use Rattle.serde_json.specs.Find.{get, as_str}
+use Rattle.sk_base.specs.declared.find.Ask.{Ask}
 use Rattle.sk_base.specs.declared.find.Join.{Join}
 use Rattle.sk_base.specs.declared.find.Options.{Options}
 use Rattle.sk_base.specs.declared.find.Scheme.{Scheme}
+use Rattle.sk_base.specs.Finds.{default_options}
 use Rattle.sk_base.specs.Records.{most_bytes}
 use Rattle.sk_record.specs.declared.row.Sort.{Sort}
 use Rattle.sk_json.specs.Values.{has, has_only, text_at, between, optional, optional_number, optional_flag}
-use Rattle.sk_record.specs.Shapes.{Asked, words, tree, Sorted, by_relevance, by_field, Collapsed, Wanted}
+use Rattle.sk_record.specs.Shapes.{Sorted, by_relevance, by_field, Collapsed, Wanted}
 
 -- The query text at a member, which is not too long.
 abbrev pub query_at : List ℕ → Data → Option (List ℕ)
@@ -34,24 +36,24 @@ scheme_named name =
     else (if bytes_eq name (codes "nnn") then Some Scheme.Nnn
     else None))
 
--- The scheme: `nnn` where nothing is said.
+-- The scheme.
 abbrev pub scheme_at : Data → Option Scheme
-scheme_at d = optional Scheme.Nnn (λ value. option_and_then scheme_named (as_str value)) (get (codes "scheme") d)
+scheme_at d = optional default_options.scheme (λ value. option_and_then scheme_named (as_str value)) (get (codes "scheme") d)
 
--- The first rank and the size of the page, whose sum is at most 100,000: from 0 on, and 10, where nothing is said.
+-- The first rank and the size of the page, whose sum is at most 100,000.
 abbrev pub page_at : Data → Option (ℕ × ℕ)
 page_at d =
     option_and_then (λ first.
     option_and_then (λ size. if nat_le (first + size) 100000 then Some (first, size) else None)
-    (optional_number (codes "size") 10 d)) (optional_number (codes "first") 0 d)
+    (optional_number (codes "size") default_options.size d)) (optional_number (codes "first") default_options.first d)
 
--- How many matches are counted at the least: none where nothing is said.
+-- How many matches are counted at the least.
 abbrev pub check_at : Data → Option ℕ
-check_at d = option_and_then (between 0 4294967295) (optional_number (codes "check") 0 d)
+check_at d = option_and_then (between 0 4294967295) (optional_number (codes "check") default_options.check d)
 
--- The least weight of a match: any weight where nothing is said.
+-- The least weight of a match.
 abbrev pub cutoff_at : Data → Option ℕ
-cutoff_at d = optional_number (codes "cutoff") 0 d
+cutoff_at d = optional_number (codes "cutoff") default_options.cutoff d
 
 -- Whether ids fall, by name.
 abbrev pub falling_named : List ℕ → Option Bool
@@ -109,7 +111,7 @@ collapsed_by d (Some value) = option_and_then (collapsed_on d) (as_str value)
 abbrev pub collapsed_at : Data → Option (Option Collapsed)
 collapsed_at d = collapsed_by d (get (codes "collapse") d)
 
--- The options that name no field.
+-- The options that name no field, each as it is by default where nothing is said.
 abbrev pub options_at : Data → Option Options
 options_at d =
     option_and_then (λ scheme.
@@ -119,12 +121,12 @@ options_at d =
     (cutoff_at d)) (check_at d)) (page_at d)) (scheme_at d)
 
 -- A find of this query, with the options of the line.
-abbrev pub wanted_at : Data → Asked → Option Wanted
-wanted_at d asked =
+abbrev pub wanted_at : Data → Ask Data → Option Wanted
+wanted_at d ask =
     option_and_then (λ options.
     option_and_then (λ sorted.
     option_and_then (λ falling.
-    option_map (λ collapsed. record { asked = asked; options = options; sorted = sorted; falling = falling; collapsed = collapsed })
+    option_map (λ collapsed. record { ask = ask; options = options; sorted = sorted; falling = falling; collapsed = collapsed })
     (collapsed_at d)) (falling_at d)) (sorted_at d)) (options_at d)
 
 -- The members that the options are.
@@ -136,9 +138,9 @@ option_names =
 abbrev pub find_row : Data → Option Wanted
 find_row d =
     if has_only (codes "find" ∷ codes "op" ∷ option_names) d then
-    option_and_then (λ text. option_and_then (λ join. wanted_at d (words text join)) (join_at d)) (query_at (codes "find") d)
+    option_and_then (λ text. option_and_then (λ join. wanted_at d (Ask.Text text join)) (join_at d)) (query_at (codes "find") d)
     else None
 
 -- A find by tree.
 abbrev pub tree_row : Data → Option Wanted
-tree_row d = if has_only (codes "tree" ∷ option_names) d then option_and_then (λ value. wanted_at d (tree value)) (get (codes "tree") d) else None
+tree_row d = if has_only (codes "tree" ∷ option_names) d then option_and_then (λ value. wanted_at d (Ask.Tree value)) (get (codes "tree") d) else None

@@ -1,10 +1,11 @@
--- The fields of a schema line, as they were given.
+-- The schema of a schema line, as it was given.
 use Rattle.std.specs.Prelude.{ℕ, ◌&&◌, nat_le, min, List, [], ◌∷◌, Option, Some, None, bytes_eq, codes, if◌then◌else◌, option_map}
 use Rattle.std.specs.Option.{option_and_then}
 use Rattle.serde_json.specs.Data.{Data, Items, no_items, item}
 use Rattle.serde_json.specs.Find.{get, as_array}
 use Rattle.sk_base.specs.declared.schema.Field.{Field}
 use Rattle.sk_base.specs.declared.schema.FieldKind.{FieldKind}
+use Rattle.sk_base.specs.declared.schema.Schema.{Schema}
 use Rattle.sk_json.specs.Values.{has_only, text_at, optional_text, optional_number, whole_number, count_items}
 
 -- A number beyond 32 bits is taken as the greatest of 32 bits, which is out of range as well.
@@ -56,8 +57,9 @@ fields_of (item d ds) = option_and_then (λ field. option_map (λ fields. field 
 abbrev pub some_fields : Items → Option (List Field)
 some_fields ds = if nat_le 1 (count_items ds) && nat_le (count_items ds) 64 then fields_of ds else None
 
--- The fields of a schema line.
-abbrev pub schema_row : Data → Option (List Field)
+-- The schema of a schema line.
+abbrev pub schema_row : Data → Option Schema
 schema_row d =
-    if has_only (codes "schema" ∷ []) d then option_and_then some_fields (option_and_then as_array (get (codes "schema") d))
+    if has_only (codes "schema" ∷ []) d then
+    option_map (λ fields. record { fields = fields }) (option_and_then some_fields (option_and_then as_array (get (codes "schema") d)))
     else None

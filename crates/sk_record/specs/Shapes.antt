@@ -1,20 +1,16 @@
 -- What a line with the right shape gives, before the rules on fields are asked.
 use Rattle.std.specs.Prelude.{ℕ, Bool, List, Option}
 use Rattle.serde_json.specs.Data.{Data}
+use Rattle.sk_base.specs.declared.find.Ask.{Ask}
 use Rattle.sk_base.specs.declared.find.Join.{Join}
 use Rattle.sk_base.specs.declared.find.Options.{Options}
-use Rattle.sk_base.specs.declared.schema.Field.{Field}
+use Rattle.sk_base.specs.declared.schema.Schema.{Schema}
 use Rattle.sk_record.specs.declared.row.Sort.{Sort}
 
 -- A values object, and the payload.
 pub record Given : Type 0 where
   pub values : Data
   pub payload : List ℕ
-
--- What a find asks for: a text and how its words are joined, or a tree.
-pub data Asked : Type 0 where
-  words : List ℕ → Join → Asked
-  tree : Data → Asked
 
 -- The order of a find: by relevance, or by a named field, whether in reverse.
 pub data Sorted : Type 0 where
@@ -28,7 +24,7 @@ pub record Collapsed : Type 0 where
 
 -- A find with its options.
 pub record Wanted : Type 0 where
-  pub asked : Asked
+  pub ask : Ask Data
   pub options : Options
   pub sorted : Sorted
   pub falling : Bool
@@ -36,7 +32,7 @@ pub record Wanted : Type 0 where
 
 -- The rows. A field and a text are those of `replace_by` and `delete_by`.
 pub data Shape : Type 0 where
-  schema : List Field → Shape
+  schema : Schema → Shape
   add : Given → Shape
   replace : ℕ → Given → Shape
   replace_by : List ℕ × List ℕ → Given → Shape

@@ -1,6 +1,8 @@
 -- The shapes that the rows of the reader stand for.
 use Rattle.std.specs.Prelude.{ℕ, List, option_map}
+use Rattle.serde_json.specs.Data.{Data}
 use Rattle.serde_json.specs.View.{view}
+use Rattle.sk_base.specs.declared.find.Ask.{Ask}
 use Rattle.sk_record.specs.declared.row.RecordRow.{RecordRow}
 use Rattle.sk_record.specs.declared.row.AskRow.{AskRow}
 use Rattle.sk_record.specs.declared.row.OrderRow.{OrderRow}
@@ -8,7 +10,7 @@ use Rattle.sk_record.specs.declared.row.CollapseRow.{CollapseRow}
 use Rattle.sk_record.specs.declared.row.FindRow.{FindRow}
 use Rattle.sk_record.specs.declared.row.TextRow.{TextRow}
 use Rattle.sk_record.specs.declared.row.Row.{Row}
-use Rattle.sk_record.specs.Shapes.{Given, Asked, words, tree, Sorted, by_relevance, by_field, Collapsed, Wanted, Shape, add, replace, replace_by, delete, delete_by, seek, show}
+use Rattle.sk_record.specs.Shapes.{Given, Sorted, by_relevance, by_field, Collapsed, Wanted, Shape, add, replace, replace_by, delete, delete_by, seek, show}
 
 -- A field's name and a text.
 abbrev pub pair_shown : TextRow → List ℕ × List ℕ
@@ -19,9 +21,9 @@ abbrev pub given_shown : RecordRow → Given
 given_shown row = record { values = view row.values; payload = row.payload }
 
 -- A query.
-abbrev pub asked_shown : AskRow → Asked
-asked_shown (AskRow.Text text join) = words text.now join
-asked_shown (AskRow.Tree value) = tree (view value.now)
+abbrev pub ask_shown : AskRow → Ask Data
+ask_shown (AskRow.Text text join) = Ask.Text text.now join
+ask_shown (AskRow.Tree value) = Ask.Tree (view value.now)
 
 -- An order.
 abbrev pub sorted_shown : OrderRow → Sorted
@@ -35,7 +37,7 @@ collapsed_shown row = record { field = row.field.now; max = row.max }
 -- A find.
 abbrev pub wanted_shown : FindRow → Wanted
 wanted_shown row =
-    record { asked = asked_shown row.ask; options = row.options; sorted = sorted_shown row.order; falling = row.falling; collapsed = option_map collapsed_shown row.collapse }
+    record { ask = ask_shown row.ask; options = row.options; sorted = sorted_shown row.order; falling = row.falling; collapsed = option_map collapsed_shown row.collapse }
 
 -- A row.
 abbrev pub shape_shown : Row → Shape

@@ -1,17 +1,18 @@
 //! What a row says under the fields of a schema, none where a rule on fields is broken.
-ghost use Rattle.std.specs.Prelude.{◌≡◌, [], ◌++◌, IfOk, OnOk, option_map};
+ghost use Rattle.std.specs.Prelude.{◌≡◌, true, [], ◌++◌, IfOk, OnOk, option_map};
 ghost use Rattle.serde_json.specs.View.{view};
-ghost use Rattle.sk_base.specs.Fields.{IsSchema};
-ghost use Rattle.sk_record.specs.Shown.{pair_shown, given_shown, asked_shown, sorted_shown, collapsed_shown, wanted_shown, shape_shown};
-ghost use Rattle.sk_record.specs.Told.{asked_by, sought_by, told_by};
-ghost use Rattle.sk_record.specs.FieldRules.{field_named, filter_texts, told_value, member_value, with_entry, entries_of, record_of, prefix_named, filter_prefix, term_of, slot_named, keyed, order_of, collapse_of, sought_of, replaced_by, command_of};
+ghost use Rattle.sk_base.specs.Fields.{are_fields};
+ghost use Rattle.sk_base.specs.Finds.{ask_over, find_over};
+ghost use Rattle.sk_base.specs.Commands.{command_over};
+ghost use Rattle.sk_record.specs.Shown.{pair_shown, given_shown, ask_shown, sorted_shown, collapsed_shown, wanted_shown, shape_shown};
+ghost use Rattle.sk_record.specs.FieldRules.{field_named, filter_texts, told_value, member_value, with_entry, entries_of, record_of, prefix_named, filter_prefix, term_of, slot_named, keyed, order_of, collapse_of, paging_of, find_of, replaced_by, command_of};
 
 use crate::row::{AskRow, CollapseRow, FindRow, OrderRow, RecordRow, Row, Sort, TextRow};
 use crate::taken::{into_texts, take_member, text_of};
 use serde_json::Value;
 use sk_base::{
     Ask, Collapse, Command, Edit, Entries, Entry, Field, FieldKind, FieldValue, Find, Items, Order,
-    OrderBy, Record, SortKey, Term, Text, Texts, prefixed,
+    OrderBy, Paging, Question, Record, SortKey, Term, Text, Texts, prefixed,
 };
 use sk_json::{has_only, whole_number};
 use std::alloc::{AllocError, Global};
@@ -21,9 +22,9 @@ pub fn command_of(
     alloc: Global,
     fields: &[Field],
     row: Row<'_>,
-) -> Result<Option<Command>, AllocError>
-    requires { IsSchema fields.now }
-    ensures { IfOk result (λ c. option_map told_by c ≡ command_of fields.now (shape_shown row.entry)) }
+) -> Result<Option<Command<Value>>, AllocError>
+    requires { are_fields fields.now ≡ true }
+    ensures { IfOk result (λ c. option_map (command_over view) c ≡ command_of fields.now (shape_shown row.entry)) }
 {
     match row {
         Row::Add(given) => match record_of(alloc, fields, given)? {
@@ -44,12 +45,12 @@ pub fn command_of(
             None => Ok(None),
         },
         Row::Find(wanted) => match find_of(alloc, fields, wanted)? {
-            Some(find) => Ok(Some(Command::Find(find))),
+            Some(find) => Ok(Some(Command::Ask(Question::Find(find)))),
             None => Ok(None),
         },
         Row::Show(text, join) => {
             let text = Text::new(alloc, text)?;
-            Ok(Some(Command::Show(text, join)))
+            Ok(Some(Command::Ask(Question::Show(text, join))))
         }
     }
 }
@@ -60,7 +61,7 @@ fn replaced_by(
     pair: TextRow<'_>,
     given: RecordRow,
 ) -> Result<Option<Edit>, AllocError>
-    requires { IsSchema fields.now }
+    requires { are_fields fields.now ≡ true }
     ensures { IfOk result (λ e. e ≡ replaced_by fields.now (pair_shown pair.entry) (given_shown given)) }
 {
     let Some(term) = term_of(alloc, fields, pair)? else {
@@ -114,29 +115,37 @@ fn slot_named(fields: &[Field], name: &str) -> Option<u32>
 }
 
 /// The find, with the slots of its fields.
-fn find_of(alloc: Global, fields: &[Field], wanted: FindRow<'_>) -> Result<Option<Find>, AllocError>
-    ensures { IfOk result (λ f. option_map sought_by f ≡ sought_of fields.now (wanted_shown wanted.entry)) }
+fn find_of(
+    alloc: Global,
+    fields: &[Field],
+    wanted: FindRow<'_>,
+) -> Result<Option<Find<Value>>, AllocError>
+    ensures { IfOk result (λ f. option_map (find_over view) f ≡ find_of fields.now (wanted_shown wanted.entry)) }
 {
-    let Some(by) = order_of(fields, wanted.order) else {
-        return Ok(None);
-    };
-    let Some(collapse) = collapse_of(fields, wanted.collapse) else {
+    let Some(paging) = paging_of(fields, wanted) else {
         return Ok(None);
     };
     let ask = ask_of(alloc, wanted.ask)?;
-    Ok(Some(Find {
-        ask,
+    Ok(Some(Find { ask, paging }))
+}
+
+fn paging_of(fields: &[Field], wanted: FindRow<'_>) -> Option<Paging>
+    ensures { result ≡ paging_of fields.now (wanted_shown wanted.entry) }
+{
+    let by = order_of(fields, wanted.order)?;
+    let collapse = collapse_of(fields, wanted.collapse)?;
+    Some(Paging {
         options: wanted.options,
         order: Order {
             by,
             falling: wanted.falling,
         },
         collapse,
-    }))
+    })
 }
 
-fn ask_of(alloc: Global, ask: AskRow<'_>) -> Result<Ask, AllocError>
-    ensures { IfOk result (λ a. asked_by a ≡ asked_shown ask.entry) }
+fn ask_of(alloc: Global, ask: AskRow<'_>) -> Result<Ask<Value>, AllocError>
+    ensures { IfOk result (λ a. ask_over view a ≡ ask_shown ask.entry) }
 {
     match ask {
         AskRow::Text(text, join) => {
@@ -190,7 +199,7 @@ fn record_of(
     fields: &[Field],
     given: RecordRow,
 ) -> Result<Option<Record>, AllocError>
-    requires { IsSchema fields.now }
+    requires { are_fields fields.now ≡ true }
     ensures { IfOk result (λ r. r ≡ record_of fields.now (given_shown given)) }
 {
     let RecordRow { values, payload } = given;
@@ -207,7 +216,7 @@ fn entries_of(
     fields: &[Field],
     mut values: Value,
 ) -> Result<Option<Entries>, AllocError>
-    requires { IsSchema fields.now }
+    requires { are_fields fields.now ≡ true }
     ensures { IfOk result (λ e. e ≡ entries_of fields.now (view values)) }
 {
     let mut entries = Items::new(alloc);

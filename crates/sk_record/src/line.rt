@@ -1,7 +1,5 @@
 //! The value that a line is read as.
-ghost use Rattle.std.specs.Prelude.{◌≡◌, Some, None, Err, IfOk};
-ghost use Rattle.serde_json.specs.View.{view};
-ghost use Rattle.sk_record.specs.Lines.{line_value};
+ghost use Rattle.sk_record.specs.Lines.{IsRead, line_value};
 
 use crate::LineFault;
 use serde_json::Value;
@@ -9,12 +7,7 @@ use std::alloc::Global;
 
 /// The value that a line is read as.
 pub fn line_value(alloc: Global, line: &[u8]) -> Result<Value, LineFault>
-    ensures ok { IfOk result (λ v. line_value line.now ≡ Some (view v)) }
-    ensures not_json { result ≡ Err LineFault.NotJson → line_value line.now ≡ None }
-    ensures no_schema { result ≡ Err LineFault.NoSchema → ⊥ }
-    ensures schema_again { result ≡ Err LineFault.SchemaAgain → ⊥ }
-    ensures bad_shape { result ≡ Err LineFault.BadShape → ⊥ }
-    ensures bad_field { result ≡ Err LineFault.BadField → ⊥ }
+    ensures { IsRead (line_value line.now) result }
 {
     match Value::from_slice(alloc, line) {
         Ok(value) => Ok(value),

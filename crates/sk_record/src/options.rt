@@ -2,11 +2,11 @@
 ghost use Rattle.std.specs.Prelude.{◌≡◌, option_map};
 ghost use Rattle.serde_json.specs.View.{view};
 ghost use Rattle.sk_record.specs.Options.{query_at, join_named, join_at, cutoff_at, falling_named, falling_at, scheme_named, scheme_at, page_at, check_at, relevance_at, by_field_at, sorted_named, sorted_at, not_collapsed, collapsed_on, collapsed_at, options_at, wanted_at, find_row, tree_row};
-ghost use Rattle.sk_record.specs.Shown.{asked_shown, sorted_shown, collapsed_shown, wanted_shown};
+ghost use Rattle.sk_record.specs.Shown.{ask_shown, sorted_shown, collapsed_shown, wanted_shown};
 
 use crate::row::{AskRow, CollapseRow, FindRow, OrderRow, Sort};
 use serde_json::Value;
-use sk_base::{Join, MOST_HITS, MOST_TEXT, Options, Scheme, Weight};
+use sk_base::{Join, MOST_HITS, MOST_TEXT, Options, Scheme, Weight, default_options};
 use sk_json::{between, has, has_only, optional_flag, optional_number, text_at};
 
 /// A find by text.
@@ -72,7 +72,7 @@ fn join_named(name: &str) -> Option<Join>
 }
 
 fn wanted_at<'a>(line: &'a Value, ask: AskRow<'a>) -> Option<FindRow<'a>>
-    ensures { option_map wanted_shown result ≡ wanted_at (view line.entry.now) (asked_shown ask.entry) }
+    ensures { option_map wanted_shown result ≡ wanted_at (view line.entry.now) (ask_shown ask.entry) }
 {
     let options = options_at(line)?;
     let order = sorted_at(line)?;
@@ -109,7 +109,7 @@ fn scheme_at(line: &Value) -> Option<Scheme>
 {
     match line.get("scheme") {
         Some(value) => scheme_named(value.as_str()?),
-        None => Some(Scheme::Nnn),
+        None => Some(default_options().scheme),
     }
 }
 
@@ -128,8 +128,9 @@ fn scheme_named(name: &str) -> Option<Scheme>
 fn page_at(line: &Value) -> Option<(u32, u32)>
     ensures { result ≡ page_at (view line.now) }
 {
-    let first = optional_number(line, "first", 0)?;
-    let size = optional_number(line, "size", 10)?;
+    let default = default_options();
+    let first = optional_number(line, "first", u64::from(default.first))?;
+    let size = optional_number(line, "size", u64::from(default.size))?;
     let most = u64::from(MOST_HITS);
     if first > most || size > most - first {
         return None;
@@ -140,13 +141,14 @@ fn page_at(line: &Value) -> Option<(u32, u32)>
 fn check_at(line: &Value) -> Option<u32>
     ensures { result ≡ check_at (view line.now) }
 {
-    between(0, u32::MAX, optional_number(line, "check", 0)?)
+    let default = u64::from(default_options().check);
+    between(0, u32::MAX, optional_number(line, "check", default)?)
 }
 
 fn cutoff_at(line: &Value) -> Option<Weight>
     ensures { result ≡ cutoff_at (view line.now) }
 {
-    optional_number(line, "cutoff", 0)
+    optional_number(line, "cutoff", default_options().cutoff)
 }
 
 /// Whether of equal matches those with greater ids come first.

@@ -16,10 +16,14 @@ use sk_json::has;
 use std::alloc::Global;
 
 /// The command of a line, under the schema that was accepted before, if any.
-pub fn command(alloc: Global, line: &[u8], schema: Option<&Schema>) -> Result<Command, LineFault>
+pub fn command(
+    alloc: Global,
+    line: &[u8],
+    schema: Option<&Schema>,
+) -> Result<Command<Value>, LineFault>
     // Exactly the command, or the first fault.
     ensures reads { ReadsAs (outcome (option_copied schema.entry) (line_value line.now)) result }
-    // It may come under that schema: an edit fits its fields, and a find its bounds.
+    // It may come under that schema: an edit fits it, and a question its bounds.
     ensures comes { IfOk result (MayCome (option_copied schema.entry)) }
 {
     let value = line_value(alloc, line)?;
@@ -30,7 +34,7 @@ pub fn command(alloc: Global, line: &[u8], schema: Option<&Schema>) -> Result<Co
 }
 
 /// Before a schema was accepted, a line can only bring one.
-fn first_command(alloc: Global, value: &Value) -> Result<Command, LineFault>
+fn first_command(alloc: Global, value: &Value) -> Result<Command<Value>, LineFault>
     ensures reads { ReadsAs (value_outcome None (view value.now)) result }
     ensures comes { IfOk result (MayCome None) }
 {
@@ -46,7 +50,11 @@ fn first_command(alloc: Global, value: &Value) -> Result<Command, LineFault>
     }
 }
 
-fn later_command(alloc: Global, schema: &Schema, mut value: Value) -> Result<Command, LineFault>
+fn later_command(
+    alloc: Global,
+    schema: &Schema,
+    mut value: Value,
+) -> Result<Command<Value>, LineFault>
     ensures reads { ReadsAs (value_outcome (Some schema.now) (view value)) result }
     ensures comes { IfOk result (MayCome (Some schema.now)) }
 {

@@ -13,7 +13,7 @@ use std::alloc::{AllocError, Global};
 
 /// The fields of a schema line, none where it has not the shape of one.
 pub fn schema_row(alloc: Global, line: &Value) -> Result<Option<Vec<Field>>, AllocError>
-    ensures value { IfOk result (λ r. option_map (λ fields. fields.items) r ≡ schema_row (view line.now)) }
+    ensures value { IfOk result (λ r. option_map (λ fields. record { fields = fields.items }) r ≡ schema_row (view line.now)) }
     ensures count { IfOk result (λ r. IfSome r (λ fields. (1 ≤ length fields.items) × (length fields.items ≤ 64))) }
 {
     if !has_only(line, &["schema"]) {

@@ -2,7 +2,7 @@
 ghost use Rattle.std.specs.Prelude.{◌≡◌, ◌+◌};
 
 use crate::shelf::Shelf;
-use sk_asked::{AskError, query_of};
+use sk_parser::{AskError, query_of};
 use sk_base::{Edit, Find, Reply, Report, Schema};
 use sk_run::{Response, Store};
 use sk_sharp::report_of;

@@ -1,7 +1,7 @@
 -- There is a report that a find may have.
 use Rattle.std.proofs.Common.{◌≡◌, ◌≤◌, ◌+◌, ◌/◌, ℕ, true, List, [], ◌∷◌, length, map, Option, Some, None, IfSome, refl, arith}
 use Rattle.std.specs.List.{AllZip}
-use Rattle.sk_base.specs.declared.find.Find.{Find}
+use Rattle.sk_base.specs.declared.find.Paging.{Paging}
 use Rattle.sk_base.specs.declared.rank.Rank.{Rank}
 use Rattle.sk_base.specs.declared.report.Ranked.{Ranked}
 use Rattle.sk_base.specs.declared.report.Report.{Report}
@@ -24,44 +24,44 @@ least steps n None one two = one
 least steps n (Some m) one two = omega (arith, one, two)
 
 -- what is within each number is within the sharp bound
-pub within_sharp : (query : Tree) (find : Find) (docs : Docs) (hits steps : ℕ) → steps ≤ allowance query find docs (length (found_by query find docs)) hits
-    → IfSome (stop_number query find docs hits) (λ n. steps ≤ n) → IfSome (rare_number query find docs (length (found_by query find docs)) hits) (λ n. steps ≤ n) → IfSome (decay_number query find docs hits) (λ n. steps ≤ n)
-    → steps ≤ sharp query find docs hits
-within_sharp query find docs hits steps all stop rare decay =
-    let list = allowance query find docs (length (found_by query find docs)) hits in
-    let of_stop = stop_number query find docs hits in
-    let of_rare = rare_number query find docs (length (found_by query find docs)) hits in
-    least steps (at_most (at_most list of_stop) of_rare) (decay_number query find docs hits) (least steps (at_most list of_stop) of_rare (least steps list of_stop all stop) rare) decay
+pub within_sharp : (query : Tree) (paging : Paging) (docs : Docs) (hits steps : ℕ) → steps ≤ allowance query paging docs (length (found_by query paging docs)) hits
+    → IfSome (stop_number query paging docs hits) (λ n. steps ≤ n) → IfSome (rare_number query paging docs (length (found_by query paging docs)) hits) (λ n. steps ≤ n) → IfSome (decay_number query paging docs hits) (λ n. steps ≤ n)
+    → steps ≤ sharp query paging docs hits
+within_sharp query paging docs hits steps all stop rare decay =
+    let list = allowance query paging docs (length (found_by query paging docs)) hits in
+    let of_stop = stop_number query paging docs hits in
+    let of_rare = rare_number query paging docs (length (found_by query paging docs)) hits in
+    least steps (at_most (at_most list of_stop) of_rare) (decay_number query paging docs hits) (least steps (at_most list of_stop) of_rare (least steps list of_stop all stop) rare) decay
 
-module _ (query : Tree) (find : Find) (docs : Docs) where
+module _ (query : Tree) (paging : Paging) (docs : Docs) where
   abbrev hit : Rank → Ranked
-  hit rank = record { id = rank.id; weight = rank.weight; collapsed = dropped_by find docs (key_of find.collapse docs rank) (found_by query find docs); payload = payload_of (document_at rank.id docs) }
+  hit rank = record { id = rank.id; weight = rank.weight; collapsed = dropped_by paging docs (key_of paging.collapse docs rank) (found_by query paging docs); payload = payload_of (document_at rank.id docs) }
 
-  each_hit : (page : List Rank) → AllZip (IsHit query find docs) page (map hit page)
+  each_hit : (page : List Rank) → AllZip (IsHit query paging docs) page (map hit page)
   each_hit [] = tt
   each_hit (rank ∷ page) =
-      (record { id = refl; weight = refl; payload = refl; collapsed = true_collapse find docs (found_by query find docs) (key_of find.collapse docs rank) }, each_hit page)
+      (record { id = refl; weight = refl; payload = refl; collapsed = true_collapse paging docs (found_by query paging docs) (key_of paging.collapse docs rank) }, each_hit page)
 
   -- the page, with what is dropped of each key; the true count as both bounds; one step for each hit
   abbrev exact : Report
   exact = record {
-    hits = map hit (page_of query find docs);
-    lower = length (kept_by find docs (found_by query find docs));
-    estimate = (length (kept_by find docs (found_by query find docs)) + length (kept_by find docs (found_by query find docs))) / 2;
-    upper = length (kept_by find docs (found_by query find docs));
-    greatest = ceil query find.options.scheme 1 docs;
-    steps = length (map hit (page_of query find docs));
+    hits = map hit (page_of query paging docs);
+    lower = length (kept_by paging docs (found_by query paging docs));
+    estimate = (length (kept_by paging docs (found_by query paging docs)) + length (kept_by paging docs (found_by query paging docs))) / 2;
+    upper = length (kept_by paging docs (found_by query paging docs));
+    greatest = ceil query paging.options.scheme 1 docs;
+    steps = length (map hit (page_of query paging docs));
   }
 
-  pub exact_is : (above : ℕ) → is_sound above query ≡ true → ReportsFor query find docs exact
+  pub exact_is : (above : ℕ) → is_sound above query ≡ true → ReportsFor query paging docs exact
   exact_is above e = record {
-    hits = each_hit (page_of query find docs);
-    counts = found_counts query find above (ceil query find.options.scheme 1 docs) docs e;
+    hits = each_hit (page_of query paging docs);
+    counts = found_counts query paging above (ceil query paging.options.scheme 1 docs) docs e;
     estimate = refl;
     greatest = refl;
     least_steps = omega arith;
-    most_steps = sharp_hits find docs (length exact.hits) query;
+    most_steps = sharp_hits paging docs (length exact.hits) query;
   }
 
-pub report_there : (query : Tree) (find : Find) (above : ℕ) (docs : Docs) → is_sound above query ≡ true → (report : Report) × ReportsFor query find docs report
-report_there query find above docs e = (exact query find docs, exact_is query find docs above e)
+pub report_there : (query : Tree) (paging : Paging) (above : ℕ) (docs : Docs) → is_sound above query ≡ true → (report : Report) × ReportsFor query paging docs report
+report_there query paging above docs e = (exact query paging docs, exact_is query paging docs above e)

@@ -2,8 +2,8 @@
 use Rattle.std.proofs.Common.{◌≡◌, ℕ, Result, Ok, Err, sym, subst}
 use Rattle.sk_base.specs.declared.report.Report.{Report}
 use Rattle.sk_query.specs.Trees.{Tree}
-use Rattle.sk_asked.specs.declared.asked.AskError.{AskError}
-use Rattle.sk_asked.specs.Asked.{ReadsAs}
+use Rattle.sk_parser.specs.declared.asked.AskError.{AskError}
+use Rattle.sk_parser.specs.Asked.{ReadsAs}
 use Rattle.sk_run.specs.declared.response.Response.{Response}
 use Rattle.sk_run.specs.Asking.{Tells, RefusedFor, AnswersAsk, IsFound}
 

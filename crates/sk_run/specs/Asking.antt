@@ -5,10 +5,10 @@ use Rattle.sk_base.specs.declared.find.Join.{Join}
 use Rattle.sk_base.specs.declared.report.Report.{Report}
 use Rattle.sk_base.specs.declared.schema.Field.{Field}
 use Rattle.sk_query.specs.Trees.{Tree}
-use Rattle.sk_shown.specs.Writing.{json_of}
-use Rattle.sk_asked.specs.declared.asked.AskError.{AskError}
-use Rattle.sk_asked.specs.declared.asked.AskError.TheVariants.{BadQuery, BadTree, NoMemory}
-use Rattle.sk_asked.specs.Asked.{text_asked}
+use Rattle.sk_query_json.specs.Writing.{json_of}
+use Rattle.sk_parser.specs.declared.asked.AskError.{AskError}
+use Rattle.sk_parser.specs.declared.asked.AskError.TheVariants.{BadQuery, BadTree, NoMemory}
+use Rattle.sk_parser.specs.Asked.{text_asked}
 use Rattle.sk_run.specs.declared.refusal.Refusal.TheVariants as Refusal
 use Rattle.sk_run.specs.declared.response.Response.{Response}
 use Rattle.sk_run.specs.declared.response.Response.TheVariants as Response

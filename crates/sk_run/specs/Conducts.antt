@@ -11,7 +11,7 @@ use Rattle.sk_base.specs.declared.schema.Field.{Field}
 use Rattle.sk_query.specs.Trees.{Tree}
 use Rattle.sk_record.specs.Told.{told_by}
 use Rattle.sk_model.specs.Edits.{Live, edited, reply_to}
-use Rattle.sk_asked.specs.Asked.{asked}
+use Rattle.sk_parser.specs.Asked.{asked}
 use Rattle.sk_run.specs.declared.response.Response.{Response}
 use Rattle.sk_run.specs.Responses.{response_to}
 use Rattle.sk_run.specs.Asking.{AnswersAsk, IsFound, Shown}

@@ -1,14 +1,14 @@
 //! What is answered where a query is asked for.
 ghost use Rattle.std.specs.Prelude.{◌≡◌, ◌≤◌, ◌+◌, length, IfOk};
 ghost use Rattle.sk_base.specs.Records.{FitsFind};
-ghost use Rattle.sk_asked.specs.Asked.{asked};
+ghost use Rattle.sk_parser.specs.Asked.{asked};
 ghost use Rattle.sk_run.specs.Responses.{steps_of};
 ghost use Rattle.sk_run.specs.Asking.{RefusedFor, AnswersAsk, IsFound, Shown};
 
 use crate::{Refusal, Response, Store};
-use sk_asked::{AskError, text_query};
+use sk_parser::{AskError, text_query};
 use sk_base::{Find, Join, Schema, Text};
-use sk_shown::text as compact_text;
+use sk_query_json::text as compact_text;
 use sk_steps::Steps;
 use std::alloc::{AllocError, Global};
 use std::sync::ledger::Ledger;

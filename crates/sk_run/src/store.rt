@@ -2,14 +2,14 @@
 ghost use Rattle.std.specs.Prelude.{◌≡◌, List, IfOk};
 ghost use Rattle.sk_base.specs.declared.schema.Field.{Field};
 ghost use Rattle.sk_base.specs.Records.{FitsEdit, FitsFind};
-ghost use Rattle.sk_asked.specs.Asked.{asked};
+ghost use Rattle.sk_parser.specs.Asked.{asked};
 ghost use Rattle.sk_run.specs.Conducts.{Conduct};
 ghost use Rattle.sk_run.specs.Asking.{Tells, Counts};
 ghost use Rattle.sk_run.specs.Lines.{Meets};
 ghost use Rattle.sk_run.specs.Responses.{steps_of};
 
 use crate::Response;
-use sk_asked::AskError;
+use sk_parser::AskError;
 use sk_base::{Edit, Find, Reply, Report, Schema};
 use sk_steps::Steps;
 use std::alloc::{AllocError, Global};

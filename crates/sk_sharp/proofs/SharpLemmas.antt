@@ -1,6 +1,6 @@
 -- The least of the numbers of steps, and the lesser of the two ways round of two lists.
 use Rattle.std.proofs.Common.{◌≡◌, ◌<◌, ◌≤◌, min, ℕ, List, [], ◌∷◌, length, get_or, Option, Some, sym, ap, ◌∙◌, arith}
-use Rattle.sk_base.specs.declared.find.Find.{Find}
+use Rattle.sk_base.specs.declared.find.Paging.{Paging}
 use Rattle.sk_base.specs.Numbers.{Docs}
 use Rattle.sk_query.specs.Trees.{Tree, term}
 use Rattle.sk_model.specs.Allowance.{allowance}
@@ -15,20 +15,20 @@ two_there (x ∷ []) a b low high first second = absurd (omega arith)
 two_there (x ∷ y ∷ []) a b low high first second = λ i. sym first i ∷ (sym second i ∷ [])
 two_there (x ∷ y ∷ z ∷ more) a b low high first second = absurd (omega arith)
 
-module _ (query : Tree) (find : Find) (docs : Docs) (hits : ℕ) where
+module _ (query : Tree) (paging : Paging) (docs : Docs) (hits : ℕ) where
   pub decay_is : (lists : Option (List (List ℕ))) (a b : List ℕ) (behind_a behind_b first second n : ℕ) → lists ≡ Some (a ∷ b ∷ [])
-      → behind_b ≡ decay_point query (term b) find docs → behind_a ≡ decay_point query (term a) find docs
+      → behind_b ≡ decay_point query (term b) paging docs → behind_a ≡ decay_point query (term a) paging docs
       → first ≡ decay_readings a b behind_b docs hits → second ≡ decay_readings b a behind_a docs hits → n ≡ min first second
-      → Some n ≡ decay_of query find docs hits lists
+      → Some n ≡ decay_of query paging docs hits lists
   decay_is lists a b behind_a behind_b first second n is of_b of_a one two lesser =
       ap Some (lesser ∙ (λ i. min (one i) (two i)) ∙ (λ i. min (decay_readings a b (of_b i) docs hits) (decay_readings b a (of_a i) docs hits)))
-      ∙ ap (decay_of query find docs hits) (sym is)
+      ∙ ap (decay_of query paging docs hits) (sym is)
 
-  pub sharp_is : (matching all one two three : ℕ) (stop rare decay : Option ℕ) → matching ≡ length (found_by query find docs)
-      → all ≡ allowance query find docs matching hits → stop ≡ stop_number query find docs hits
-      → rare ≡ rare_number query find docs matching hits → decay ≡ decay_number query find docs hits
-      → one ≡ at_most all stop → two ≡ at_most one rare → three ≡ at_most two decay → three ≡ sharp query find docs hits
+  pub sharp_is : (matching all one two three : ℕ) (stop rare decay : Option ℕ) → matching ≡ length (found_by query paging docs)
+      → all ≡ allowance query paging docs matching hits → stop ≡ stop_number query paging docs hits
+      → rare ≡ rare_number query paging docs matching hits → decay ≡ decay_number query paging docs hits
+      → one ≡ at_most all stop → two ≡ at_most one rare → three ≡ at_most two decay → three ≡ sharp query paging docs hits
   sharp_is matching all one two three stop rare decay found of_all of_stop of_rare of_decay least_one least_two least_three =
-      let first = least_one ∙ (λ i. at_most ((of_all ∙ ap (λ n. allowance query find docs n hits) found) i) (of_stop i)) in
-      let second = least_two ∙ (λ i. at_most (first i) ((of_rare ∙ ap (λ n. rare_number query find docs n hits) found) i)) in
+      let first = least_one ∙ (λ i. at_most ((of_all ∙ ap (λ n. allowance query paging docs n hits) found) i) (of_stop i)) in
+      let second = least_two ∙ (λ i. at_most (first i) ((of_rare ∙ ap (λ n. rare_number query paging docs n hits) found) i)) in
       least_three ∙ (λ i. at_most (second i) (of_decay i))

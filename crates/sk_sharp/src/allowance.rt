@@ -4,7 +4,7 @@ ghost use Rattle.sk_query.specs.Trees.{wildcard, query_view, queries_view};
 ghost use Rattle.sk_model.specs.Allowance.{leaf_readings, leaves_readings, key_readings, value_readings, extra, allowance};
 
 use crate::lists::{lengths_of, terms_with};
-use sk_base::{Collapse, Doc, DocId, Find, OrderBy};
+use sk_base::{Collapse, Doc, DocId, OrderBy, Paging};
 use sk_plain::{length_of, live_of, slot_length_of};
 use sk_query::Query;
 use std::alloc::{AllocError, Global};
@@ -14,15 +14,15 @@ use std::collections::BTreeMap;
 pub fn allowance(
     alloc: Global,
     query: &Query,
-    find: &Find,
+    paging: &Paging,
     docs: &BTreeMap<DocId, Doc>,
     matching: usize,
     hits: usize,
 ) -> Result<u128, AllocError>
-    ensures { IfOk result (λ n. n ≡ allowance (query_view query.now) find.now docs.now.entries matching hits) }
+    ensures { IfOk result (λ n. n ≡ allowance (query_view query.now) paging.now docs.now.entries matching hits) }
 {
     let lists = leaf_readings(alloc, query, docs)?;
-    sum_of(lists, extra(find, matching, hits))
+    sum_of(lists, extra(paging, matching, hits))
 }
 
 /// The lengths of the lists of all leaves. Those of near and phrase count twice, for their positions.
@@ -93,12 +93,12 @@ fn sum_of(a: u128, b: u128) -> Result<u128, AllocError>
 }
 
 /// Beside the lists: the keys and the values of matches, and the payloads of hits.
-pub fn extra(find: &Find, matching: usize, hits: usize) -> u128
-    ensures value { result ≡ extra find.now matching hits }
+pub fn extra(paging: &Paging, matching: usize, hits: usize) -> u128
+    ensures value { result ≡ extra paging.now matching hits }
     ensures bound { result ≤ 2 * matching + hits }
 {
-    let keys = key_readings(find.collapse, matching);
-    let values = value_readings(find.order.by, matching);
+    let keys = key_readings(paging.collapse, matching);
+    let values = value_readings(paging.order.by, matching);
     keys as u128 + values as u128 + hits as u128
 }
 

@@ -6,7 +6,7 @@ ghost use Rattle.sk_base.specs.Loads.{IsLight};
 ghost use Rattle.sk_plain.specs.Pages.{report_for};
 
 use crate::sharp::sharp_of;
-use sk_base::{Doc, DocId, Find, Hits, Report};
+use sk_base::{Doc, DocId, Hits, Paging, Report};
 use sk_model::slice;
 use sk_plain::{Counted, found_by, hits_of, kept_by};
 use sk_query::Query;
@@ -20,26 +20,33 @@ pub fn report_of(
     alloc: Global,
     docs: &BTreeMap<DocId, Doc>,
     query: &Query,
-    find: &Find,
+    paging: &Paging,
 ) -> Result<Report, AllocError>
     requires sound { is_sound 1 (query_view query.now) ≡ true }
     requires leaves { leaves_of (query_view query.now) ≤ 1024 }
     requires light { All IsLight docs.now.entries }
     requires few { length docs.now.entries < 2 ^ 32 }
-    ensures { IfOk result (λ report. report ≡ report_for (query_view query.now) find.now docs.now.entries) }
+    ensures { IfOk result (λ report. report ≡ report_for (query_view query.now) paging.now docs.now.entries) }
 {
-    let ranks = found_by(alloc, docs, query, find)?;
-    let kept = kept_by(alloc, docs, find, ranks.as_slice())?;
-    let asked = slice(kept.as_slice(), find.options.first, find.options.size);
-    let hits = hits_of(alloc, docs, find, ranks.as_slice(), kept.as_slice(), asked)?;
+    let ranks = found_by(alloc, docs, query, paging)?;
+    let kept = kept_by(alloc, docs, paging, ranks.as_slice())?;
+    let asked = slice(kept.as_slice(), paging.options.first, paging.options.size);
+    let hits = hits_of(
+        alloc,
+        docs,
+        paging,
+        ranks.as_slice(),
+        kept.as_slice(),
+        asked,
+    )?;
     let count = kept.len() as u32;
-    let steps = sharp_of(alloc, docs, query, find, hits.len())?;
+    let steps = sharp_of(alloc, docs, query, paging, hits.len())?;
     Ok(Report {
         hits: Hits::from_vec(hits),
         lower: count,
         estimate: count,
         upper: count,
-        greatest: ceil(&Counted::new(docs), query, find.options.scheme, 1),
+        greatest: ceil(&Counted::new(docs), query, paging.options.scheme, 1),
         steps,
     })
 }

@@ -8,25 +8,30 @@ ghost use Rattle.sk_model.specs.Counts.{wanted};
 ghost use Rattle.sk_model.specs.Matches.{found_by};
 ghost use Rattle.sk_model.specs.Settled.{less_heavy, settled_from, settling_weight, settled, stop_point, decay_point};
 
-use sk_base::{Doc, DocId, Find, Rank, Scheme, Text, Weight};
+use sk_base::{Doc, DocId, Paging, Rank, Scheme, Text, Weight};
 use sk_plain::{Counted, greatest_of, length_of};
 use sk_query::Query;
 use sk_weight::{ceil, weigh_by};
 use std::collections::BTreeMap;
 
 /// The stop point: behind it no document can enter the page, since none weighs more.
-pub fn stop_point(query: &Query, find: &Find, docs: &BTreeMap<DocId, Doc>, ranks: &[Rank]) -> DocId
+pub fn stop_point(
+    query: &Query,
+    paging: &Paging,
+    docs: &BTreeMap<DocId, Doc>,
+    ranks: &[Rank],
+) -> DocId
     requires sound { is_sound 1 (query_view query.now) ≡ true }
     requires leaves { leaves_of (query_view query.now) ≤ 1024 }
     requires light { All IsLight docs.now.entries }
     requires few { length docs.now.entries < 2 ^ 32 }
-    requires found { ranks.now ≡ found_by (query_view query.now) find.now docs.now.entries }
-    ensures { result ≡ stop_point (query_view query.now) find.now docs.now.entries }
+    requires found { ranks.now ≡ found_by (query_view query.now) paging.now docs.now.entries }
+    ensures { result ≡ stop_point (query_view query.now) paging.now docs.now.entries }
 {
     settled(
-        find,
+        paging,
         ranks,
-        ceil(&Counted::new(docs), query, find.options.scheme, 1),
+        ceil(&Counted::new(docs), query, paging.options.scheme, 1),
     )
 }
 
@@ -34,18 +39,18 @@ pub fn stop_point(query: &Query, find: &Find, docs: &BTreeMap<DocId, Doc>, ranks
 pub fn decay_point(
     query: &Query,
     part: &Text,
-    find: &Find,
+    paging: &Paging,
     docs: &BTreeMap<DocId, Doc>,
     ranks: &[Rank],
 ) -> DocId
     requires light { All IsLight docs.now.entries }
-    requires found { ranks.now ≡ found_by (query_view query.now) find.now docs.now.entries }
-    ensures { result ≡ decay_point (query_view query.now) (term part.now) find.now docs.now.entries }
+    requires found { ranks.now ≡ found_by (query_view query.now) paging.now docs.now.entries }
+    ensures { result ≡ decay_point (query_view query.now) (term part.now) paging.now docs.now.entries }
 {
     settled(
-        find,
+        paging,
         ranks,
-        term_ceil(find.options.scheme, part.as_str().as_bytes(), docs),
+        term_ceil(paging.options.scheme, part.as_str().as_bytes(), docs),
     )
 }
 
@@ -63,30 +68,30 @@ fn term_ceil(scheme: Scheme, term: &[u8], docs: &BTreeMap<DocId, Doc>) -> Weight
 
 /// The least id up to which there are as many matches as a find wants to see, and as many as its page needs that no
 /// later match of this weight comes before.
-fn settled(find: &Find, ranks: &[Rank], weight: Weight) -> DocId
-    ensures { result ≡ settled find.now ranks.now weight }
+fn settled(paging: &Paging, ranks: &[Rank], weight: Weight) -> DocId
+    ensures { result ≡ settled paging.now ranks.now weight }
 {
-    let wanted = wanted(find);
-    if wanted == 0 || weight < find.options.cutoff {
+    let wanted = wanted(paging);
+    if wanted == 0 || weight < paging.options.cutoff {
         return 0;
     }
-    let needed = u64::from(find.options.first) + u64::from(find.options.size);
-    settled_from(wanted, needed, settling_weight(find, weight), ranks)
+    let needed = u64::from(paging.options.first) + u64::from(paging.options.size);
+    settled_from(wanted, needed, settling_weight(paging, weight), ranks)
 }
 
 /// How many matches a find wants to see.
-fn wanted(find: &Find) -> u64
-    ensures { result ≡ wanted find.now }
+fn wanted(paging: &Paging) -> u64
+    ensures { result ≡ wanted paging.now }
 {
-    let page = u64::from(find.options.first) + u64::from(find.options.size);
-    page.max(u64::from(find.options.check))
+    let page = u64::from(paging.options.first) + u64::from(paging.options.size);
+    page.max(u64::from(paging.options.check))
 }
 
 /// The least weight whose matches come before any later one of this weight.
-fn settling_weight(find: &Find, weight: Weight) -> u128
-    ensures { result ≡ settling_weight find.now weight }
+fn settling_weight(paging: &Paging, weight: Weight) -> u128
+    ensures { result ≡ settling_weight paging.now weight }
 {
-    if find.order.falling {
+    if paging.order.falling {
         u128::from(weight) + 1
     } else {
         u128::from(weight)

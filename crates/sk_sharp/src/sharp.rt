@@ -11,7 +11,7 @@ use crate::lists::terms_in;
 use crate::readings::{decay_readings, rare_readings, ups};
 use crate::settled::{decay_point, stop_point};
 use crate::shapes::{flat_lists, of_two, rare_lists};
-use sk_base::{Doc, DocId, Find, OrderBy, Rank, Texts};
+use sk_base::{Doc, DocId, OrderBy, Paging, Rank, Texts};
 use sk_plain::found_by;
 use sk_query::Query;
 use std::alloc::{AllocError, Global};
@@ -23,21 +23,21 @@ pub fn sharp_of(
     alloc: Global,
     docs: &BTreeMap<DocId, Doc>,
     query: &Query,
-    find: &Find,
+    paging: &Paging,
     hits: usize,
 ) -> Result<u128, AllocError>
     requires sound { is_sound 1 (query_view query.now) ≡ true }
     requires leaves { leaves_of (query_view query.now) ≤ 1024 }
     requires light { All IsLight docs.now.entries }
     requires few { length docs.now.entries < 2 ^ 32 }
-    ensures { IfOk result (λ n. n ≡ sharp (query_view query.now) find.now docs.now.entries hits) }
+    ensures { IfOk result (λ n. n ≡ sharp (query_view query.now) paging.now docs.now.entries hits) }
 {
-    let ranks = found_by(alloc, docs, query, find)?;
+    let ranks = found_by(alloc, docs, query, paging)?;
     let ranks = ranks.as_slice();
-    let all = allowance(alloc, query, find, docs, ranks.len(), hits)?;
-    let stop = stop_number(alloc, query, find, docs, ranks, hits)?;
-    let rare = rare_number(alloc, query, find, docs, ranks.len(), hits)?;
-    let decay = decay_number(alloc, query, find, docs, ranks, hits)?;
+    let all = allowance(alloc, query, paging, docs, ranks.len(), hits)?;
+    let stop = stop_number(alloc, query, paging, docs, ranks, hits)?;
+    let rare = rare_number(alloc, query, paging, docs, ranks.len(), hits)?;
+    let decay = decay_number(alloc, query, paging, docs, ranks, hits)?;
     Ok(at_most(at_most(at_most(all, stop), rare), decay))
 }
 
@@ -46,7 +46,7 @@ pub fn sharp_of(
 fn stop_number(
     alloc: Global,
     query: &Query,
-    find: &Find,
+    paging: &Paging,
     docs: &BTreeMap<DocId, Doc>,
     ranks: &[Rank],
     hits: usize,
@@ -55,16 +55,16 @@ fn stop_number(
     requires leaves { leaves_of (query_view query.now) ≤ 1024 }
     requires light { All IsLight docs.now.entries }
     requires few { length docs.now.entries < 2 ^ 32 }
-    requires found { ranks.now ≡ found_by (query_view query.now) find.now docs.now.entries }
-    ensures { IfOk result (λ n. n ≡ stop_number (query_view query.now) find.now docs.now.entries hits) }
+    requires found { ranks.now ≡ found_by (query_view query.now) paging.now docs.now.entries }
+    ensures { IfOk result (λ n. n ≡ stop_number (query_view query.now) paging.now docs.now.entries hits) }
 {
-    if !is_plain(find) {
+    if !is_plain(paging) {
         return Ok(None);
     }
     let Some(lists) = flat_lists(alloc, query, docs)? else {
         return Ok(None);
     };
-    let point = stop_point(query, find, docs, ranks);
+    let point = stop_point(query, paging, docs, ranks);
     Ok(Some(ups(lists.as_slice(), point, docs) + hits as u128))
 }
 
@@ -73,40 +73,40 @@ fn stop_number(
 fn rare_number(
     alloc: Global,
     query: &Query,
-    find: &Find,
+    paging: &Paging,
     docs: &BTreeMap<DocId, Doc>,
     matching: usize,
     hits: usize,
 ) -> Result<Option<u128>, AllocError>
-    ensures { IfOk result (λ n. n ≡ rare_number (query_view query.now) find.now docs.now.entries matching hits) }
+    ensures { IfOk result (λ n. n ≡ rare_number (query_view query.now) paging.now docs.now.entries matching hits) }
 {
     let Some((lists, leading)) = rare_lists(alloc, query, docs)? else {
         return Ok(None);
     };
     let readings = rare_readings(lists.as_slice(), leading, docs);
-    Ok(Some(readings + extra(find, matching, hits)))
+    Ok(Some(readings + extra(paging, matching, hits)))
 }
 
 /// It applies to an or of exactly two terms, by relevance and without collapsing.
 fn decay_number(
     alloc: Global,
     query: &Query,
-    find: &Find,
+    paging: &Paging,
     docs: &BTreeMap<DocId, Doc>,
     ranks: &[Rank],
     hits: usize,
 ) -> Result<Option<u128>, AllocError>
     requires light { All IsLight docs.now.entries }
-    requires found { ranks.now ≡ found_by (query_view query.now) find.now docs.now.entries }
-    ensures { IfOk result (λ n. n ≡ decay_number (query_view query.now) find.now docs.now.entries hits) }
+    requires found { ranks.now ≡ found_by (query_view query.now) paging.now docs.now.entries }
+    ensures { IfOk result (λ n. n ≡ decay_number (query_view query.now) paging.now docs.now.entries hits) }
 {
     match query {
         Query::Or(parts) => {
-            if !is_plain(find) {
+            if !is_plain(paging) {
                 return Ok(None);
             }
             let lists = of_two(terms_in(alloc, parts)?);
-            Ok(decay_of(query, find, docs, ranks, lists, hits))
+            Ok(decay_of(query, paging, docs, ranks, lists, hits))
         }
         _ => Ok(None),
     }
@@ -116,32 +116,32 @@ fn decay_number(
 /// matter by itself.
 fn decay_of(
     query: &Query,
-    find: &Find,
+    paging: &Paging,
     docs: &BTreeMap<DocId, Doc>,
     ranks: &[Rank],
     lists: Option<Texts>,
     hits: usize,
 ) -> Option<u128>
     requires light { All IsLight docs.now.entries }
-    requires found { ranks.now ≡ found_by (query_view query.now) find.now docs.now.entries }
-    ensures { result ≡ decay_of (query_view query.now) find.now docs.now.entries hits lists }
+    requires found { ranks.now ≡ found_by (query_view query.now) paging.now docs.now.entries }
+    ensures { result ≡ decay_of (query_view query.now) paging.now docs.now.entries hits lists }
 {
     let lists = lists?;
     let [a, b] = lists.as_slice() else {
         return None;
     };
-    let behind_b = decay_point(query, b, find, docs, ranks);
-    let behind_a = decay_point(query, a, find, docs, ranks);
+    let behind_b = decay_point(query, b, paging, docs, ranks);
+    let behind_a = decay_point(query, a, paging, docs, ranks);
     let first = decay_readings(a, b, behind_b, docs, hits);
     let second = decay_readings(b, a, behind_a, docs, hits);
     Some(first.min(second))
 }
 
 /// The heavier first, and nothing collapsed.
-fn is_plain(find: &Find) -> bool
-    ensures { result ≡ is_plain find.now }
+fn is_plain(paging: &Paging) -> bool
+    ensures { result ≡ is_plain paging.now }
 {
-    matches!(find.order.by, OrderBy::Relevance) && find.collapse.is_none()
+    matches!(paging.order.by, OrderBy::Relevance) && paging.collapse.is_none()
 }
 
 /// The lesser of a number and one that may apply.

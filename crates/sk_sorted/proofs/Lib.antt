@@ -2,4 +2,8 @@ pub mod EntryLaws
 pub mod PlaceLaws
 pub mod EndLaws
 pub mod PickedLaws
+pub mod RunLaws
+pub mod RunEditLaws
+pub mod RunPlaceLaws
 mod Examples
+mod RunExamples

@@ -1,5 +1,6 @@
 -- Lemmas.
 mod TermLemmas
+mod NextLemmas
 pub mod AsciiLaws
 pub mod LayoutLemmas
 pub mod WordLaws

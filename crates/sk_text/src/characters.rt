@@ -1,6 +1,7 @@
 //! Which characters make up words.
 
-ghost use Rattle.std.specs.Prelude.{◌≡◌, chars};
+ghost use Rattle.std.specs.Prelude.{◌≡◌, ℕ, List, chars};
+ghost use Rattle.std.specs.List.{slice_get};
 ghost use Rattle.sk_text.specs.Characters.{is_word_char, is_apostrophe, begins_word, belongs, written};
 
 use unicode::properties::GeneralCategory;
@@ -36,21 +37,30 @@ fn is_apostrophe(c: char) -> bool
     c == '\'' || c == '\u{2019}'
 }
 
-fn begins_word(text: &str) -> bool
-    ensures { result ≡ begins_word (chars text.now) }
+/// Whether a word character comes next.
+#[tactic(auto, using(crate::proofs::NextLemmas::begins_some, crate::proofs::NextLemmas::begins_none))]
+fn begins_word(next: Option<char>) -> bool
+    ensures { (text : List ℕ) → next ≡ slice_get text 0 → result ≡ begins_word text }
 {
-    match text.chars().next() {
+    match next {
         Some(c) => is_word(c),
         None => false,
     }
 }
 
 /// Whether `c` belongs to a word, where `in_word` says that it is a word character, `after` that one stands right
-/// before it, and `behind` is what follows it.
-pub(crate) fn belongs(in_word: bool, after: bool, c: char, behind: &str) -> bool
-    ensures { in_word ≡ is_word_char c → result ≡ belongs after c (chars behind.now) }
+/// before it, and `next` is the character behind it.
+pub fn belongs(in_word: bool, after: bool, c: char, next: Option<char>) -> bool
+    ensures { in_word ≡ is_word_char c → (behind : List ℕ) → next ≡ slice_get behind 0 → result ≡ belongs after c behind }
 {
-    in_word || (after && is_apostrophe(c) && begins_word(behind))
+    in_word || (after && is_apostrophe(c) && begins_word(next))
+}
+
+/// The first character of a text.
+pub(crate) fn first_of(text: &str) -> Option<char>
+    ensures { result ≡ slice_get (chars text.now) 0 }
+{
+    text.chars().next()
 }
 
 /// How `c` is written in a word.

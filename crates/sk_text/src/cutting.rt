@@ -5,7 +5,7 @@ ghost use Rattle.sk_text.specs.Characters.{written_bytes};
 ghost use Rattle.sk_text.specs.Words.{ended, words};
 ghost use Rattle.sk_text.specs.Layout.{AreWords, IsWithin};
 
-use crate::characters::{belongs, is_word};
+use crate::characters::{belongs, first_of, is_word};
 use crate::folding::fold_written;
 use crate::word::{Word, Words};
 use std::alloc::{AllocError, Global};
@@ -30,7 +30,7 @@ pub fn words(alloc: Global, text: &str) -> Result<Words, AllocError>
         let behind = rest.as_str();
         let next = text.len() - behind.len();
         let in_word = is_word(c);
-        if !belongs(in_word, after, c, behind) {
+        if !belongs(in_word, after, c, first_of(behind)) {
             number = end(alloc, &mut made, number, from, at, &text[from..at])?;
             from = next;
         }

@@ -5,10 +5,10 @@ use Rattle.std.proofs.lemmas.List.Elements.{filter-append}
 use Rattle.sk_sorted.specs.Entries.{LieBelow, from, top_id}
 use Rattle.sk_sorted.specs.Places.{id_at}
 use Rattle.sk_sorted.proofs.EntryLaws.{LieBelow-drop, from-at, from-append, from-front_append}
-use Rattle.sk_runs.specs.Runs.{flat, AreRuns, IsPlace}
-use Rattle.sk_runs.proofs.RunLaws.{below-top, run_rises, tops_rise}
-use Rattle.sk_runs.proofs.EditLaws.{run_read}
-use Rattle.sk_runs.proofs.PlaceLaws.{place_drop, place_on, place_next, place_within, rises_behind}
+use Rattle.sk_sorted.specs.Runs.{flat, AreRuns, IsPlace}
+use Rattle.sk_sorted.proofs.RunLaws.{below-top, run_rises, tops_rise}
+use Rattle.sk_sorted.proofs.RunEditLaws.{run_read}
+use Rattle.sk_sorted.proofs.RunPlaceLaws.{place_drop, place_on, place_next, place_within, rises_behind}
 use Rattle.sk_model.specs.Ranges.{is_within}
 use Rattle.sk_values.specs.SlotValues.{SlotValues, SlotRuns, value_at}
 use Rattle.sk_values.specs.RangeCursor.{in_range, ahead, IsStop, IsHeadAt}

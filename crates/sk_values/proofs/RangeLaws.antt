@@ -5,7 +5,7 @@ use Rattle.std.proofs.lemmas.List.{drop_all}
 use Rattle.sk_sorted.specs.Entries.{RiseAbove, AreSorted, from, first_id}
 use Rattle.sk_sorted.specs.Places.{id_at}
 use Rattle.sk_sorted.proofs.EntryLaws.{RiseAbove-lower, RiseAbove-drop, from-below, from-at, from-above}
-use Rattle.sk_runs.specs.Runs.{flat}
+use Rattle.sk_sorted.specs.Runs.{flat}
 use Rattle.sk_model.specs.Ranges.{is_within}
 use Rattle.sk_values.specs.declared.range_cursor.RangeCursor.{RangeCursor}
 use Rattle.sk_values.specs.SlotValues.{SlotValues, SlotRuns, value_at}

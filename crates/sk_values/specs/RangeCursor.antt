@@ -1,7 +1,7 @@
 -- A place in a slot's list: what a cursor over a range has come past, and what is left to it.
 use Rattle.std.specs.Prelude.{◌≡◌, ◌<◌, ◌≤◌, ◌-◌, ℕ, Bool, true, false, nat_lt, List, [], Option, None, Some, length, drop, filter}
 use Rattle.sk_sorted.specs.Places.{id_at}
-use Rattle.sk_runs.specs.Runs.{flat, IsPlace}
+use Rattle.sk_sorted.specs.Runs.{flat, IsPlace}
 use Rattle.sk_model.specs.Ranges.{is_within}
 use Rattle.sk_values.specs.declared.range_cursor.Place.{Place}
 use Rattle.sk_values.specs.declared.range_cursor.RangeCursor.{RangeCursor}

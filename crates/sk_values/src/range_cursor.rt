@@ -2,7 +2,7 @@
 ghost use Rattle.std.specs.Prelude.{◌≡◌, ◌+◌, ◌≤◌, ◌<◌, true, length, drop, IfSome};
 ghost use Rattle.sk_sorted.specs.Entries.{from, first_id};
 ghost use Rattle.sk_sorted.specs.Places.{id_at};
-ghost use Rattle.sk_runs.specs.Runs.{flat};
+ghost use Rattle.sk_sorted.specs.Runs.{flat};
 ghost use Rattle.sk_values.specs.SlotValues.{SlotRuns, value_at};
 ghost use Rattle.sk_values.specs.RangeCursor.{in_range, unread, ahead, left, IsHeadAt, IsPlaceIn, IsOn, is_head_below};
 

@@ -1,7 +1,7 @@
 //! The piece where a target lies.
 ghost use Rattle.std.specs.Prelude.{◌≤◌, ◌<◌, ℕ, [], length, get_or};
 ghost use Rattle.sk_sorted.specs.Entries.{top_id};
-ghost use Rattle.sk_runs.specs.Runs.{AreRuns};
+ghost use Rattle.sk_sorted.specs.Runs.{AreRuns};
 
 use sk_base::{Bytes, DocId};
 use sk_pieces::Piece;

@@ -2,7 +2,7 @@
 ghost use Rattle.std.specs.Prelude.{◌≡◌, ◌+◌, ◌≤◌, [], length, true, IsOk, OnOk, OnErr};
 ghost use Rattle.std.specs.Option.{option_map};
 ghost use Rattle.sk_sorted.specs.Entries.{put, without, found, has};
-ghost use Rattle.sk_runs.specs.Runs.{flat, AreRuns};
+ghost use Rattle.sk_sorted.specs.Runs.{flat, AreRuns};
 ghost use Rattle.sk_values.specs.SlotValues.{AreSlotValues, found_value};
 
 use sk_base::{Bytes, DocId};
@@ -20,7 +20,7 @@ pub struct SlotList {
 }
 
 impl Model for SlotList {
-    ghost use Rattle.sk_runs.specs.Runs.{flat};
+    ghost use Rattle.sk_sorted.specs.Runs.{flat};
     ghost use Rattle.sk_values.specs.SlotValues.{SlotRuns, HaveValues};
 
     ghost Value = { SlotRuns };

@@ -1,6 +1,7 @@
 use Rattle.std.proofs.Common.{◌≡◌, drop}
 use Rattle.serde_json.specs.View.{items_view, members_view}
-use Rattle.sk_json.specs.Values.{room_behind, bytes_in_items, bytes_in_members}
+use Rattle.sk_base.specs.Rooms.{room_behind}
+use Rattle.sk_json.specs.Values.{bytes_in_items, bytes_in_members}
 use Rattle.sk_json.proofs.strings.+room_behind.Given as goal
 
 -- what is left behind the items so far holds what the whole room holds

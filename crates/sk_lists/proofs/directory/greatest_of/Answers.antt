@@ -1,6 +1,6 @@
 -- One chunk more, and the bound is reached.
 use Rattle.std.proofs.Common.{max, ap, ◌∙◌, arith}
-use Rattle.sk_runs.specs.Runs.{flat}
+use Rattle.sk_sorted.specs.Runs.{flat}
 use Rattle.sk_chunks.specs.Postings.{greatest_wdf}
 use Rattle.sk_lists.proofs.DirectoryLemmas.{greatest_more}
 use Rattle.sk_lists.proofs.directory.greatest_of.Goals as goal

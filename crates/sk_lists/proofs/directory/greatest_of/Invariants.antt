@@ -1,6 +1,6 @@
 -- The greatest so far, and of what is left, is that of the whole.
 use Rattle.std.proofs.Common.{◌≡◌, drop, max}
-use Rattle.sk_runs.specs.Runs.{flat}
+use Rattle.sk_sorted.specs.Runs.{flat}
 use Rattle.sk_chunks.specs.Postings.{greatest_wdf}
 use Rattle.sk_lists.proofs.directory.greatest_of.Given as goal
 

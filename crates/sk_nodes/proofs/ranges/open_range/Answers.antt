@@ -2,7 +2,7 @@
 use Rattle.std.proofs.Common.{◌≡◌, ℕ, length, sym, subst, ap, ◌∙◌, arith, Option, List}
 use Rattle.sk_base.specs.declared.find.Scheme.{Scheme}
 use Rattle.sk_base.specs.Numbers.{slot_length_of}
-use Rattle.sk_runs.specs.Runs.{flat}
+use Rattle.sk_sorted.specs.Runs.{flat}
 use Rattle.sk_values.specs.RangeCursor.{in_range}
 use Rattle.sk_query.specs.Trees.{limit_of}
 use Rattle.sk_model.specs.Ranges.{end_of}

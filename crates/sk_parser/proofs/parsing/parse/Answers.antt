@@ -5,9 +5,9 @@ use Rattle.sk_parser.proofs.SoundLemmas.{sound_of}
 use Rattle.sk_parser.proofs.parsing.parse.Goals as goal
 
 pub tree_in-requires : goal.tree_in-requires
-tree_in-requires c = sound_of c.fields-fields.result.now [] c.as_slice-list.result.now (sym c.fault_in.ensures ∙ c.in-None.is)
+tree_in-requires c = sound_of c.args.schema.now [] c.as_slice-list.result.now (sym c.fault_in.ensures ∙ c.in-None.is)
 
 pub returns-clause-fits : goal.returns-clause-fits
 returns-clause-fits c =
-    made_fits c.args.schema.now c.fields-fields.result.now c.args.join c.args.text.now _ c.as_slice-list.result.now (query_view c.in_ok-query-in-None.query) c.fields-fields.ensures.sound
-    c.fields-fields.ensures.value c.in_ok-found.ensures.value c.as_slice-list.ensures (sym c.fault_in.ensures ∙ c.in-None.is) c.in_ok-query-in-None.ensures
+    made_fits c.args.schema.now c.args.join c.args.text.now _ c.as_slice-list.result.now (query_view c.in_ok-query-in-None.query) c.fields-fields.ensures.sound
+    c.in_ok-found.ensures.value c.as_slice-list.ensures (sym c.fault_in.ensures ∙ c.in-None.is) c.in_ok-query-in-None.ensures

@@ -5,6 +5,6 @@ use Rattle.sk_parser.proofs.SoundLemmas.{closed_end}
 use Rattle.sk_parser.proofs.reading.finish.Goals as goal
 
 pub levels-preserved : goal.levels-preserved
-levels-preserved c = λ fields.
-    c.in_ok-stack.ensures.ends fields nothing_behind
-    ∙ closed_end fields c.args.join (level_view fields c.levels.stack.top) (below_view fields (c.levels.stack.below).items) ∙ c.levels.invariant fields
+levels-preserved c = λ schema.
+    c.in_ok-stack.ensures.ends schema nothing_behind
+    ∙ closed_end schema c.args.join (level_view schema c.levels.stack.top) (below_view schema (c.levels.stack.below).items) ∙ c.levels.invariant schema

@@ -7,6 +7,6 @@ use Rattle.sk_parser.proofs.reading.tree_in.Given as goal
 
 abbrev pub invariant-tokens : goal.invariant-tokens
 invariant-tokens l = record {
-  ends : ends_as l.fields l.join l.stack (levels_of (kinds_of (drop l.i l.tokens))) ≡ outside_of l.fields l.join (kinds_of l.tokens);
-  sound : AreSound l.fields (drop l.i l.tokens);
+  ends : ends_as l.schema l.join l.stack (levels_of (kinds_of (drop l.i l.tokens))) ≡ outside_of l.schema l.join (kinds_of l.tokens);
+  sound : AreSound l.schema (drop l.i l.tokens);
 }

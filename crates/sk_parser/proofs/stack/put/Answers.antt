@@ -7,6 +7,6 @@ use Rattle.sk_parser.proofs.stack.put.Goals as goal
 
 pub returns : goal.returns
 returns c = λ join behind.
-    put_moved c.args.fields.now join (level_view c.args.fields.now c.args.stack.top) (level_view c.args.fields.now c.in_ok-top.top) (below_view c.args.fields.now (c.args.stack.below).items)
-    c.args.kind.now behind.here behind.outside (ap (prefix_in c.args.fields.now []) c.in_ok-top.ensures.field)
-    (c.in_ok-top.ensures.parts ∙ ap (with_part (parts_behind (c.args.stack.top.parts).items)) (c.in_ok-part.ensures ∙ ap (λ prefix. part_of c.args.fields.now prefix c.args.kind.now) c.prefix_in.ensures))
+    put_moved c.args.schema.now join (level_view c.args.schema.now c.args.stack.top) (level_view c.args.schema.now c.in_ok-top.top) (below_view c.args.schema.now (c.args.stack.below).items)
+    c.args.kind.now behind.here behind.outside (ap (prefix_in c.args.schema.now []) c.in_ok-top.ensures.field)
+    (c.in_ok-top.ensures.parts ∙ ap (with_part (parts_behind (c.args.stack.top.parts).items)) (c.in_ok-part.ensures ∙ ap (λ prefix. part_of c.args.schema.now prefix c.args.kind.now) c.prefix_in.ensures))

@@ -1,6 +1,6 @@
 use Rattle.std.proofs.Common.{◌≡◌, drop}
 use Rattle.sk_query.specs.Trees.{queries_view}
-use Rattle.sk_json.specs.Values.{room_behind}
+use Rattle.sk_base.specs.Rooms.{room_behind}
 use Rattle.sk_query.specs.Fits.{leaves_in}
 use Rattle.sk_query.proofs.limits.+room_behind.Given as goal
 

@@ -23,14 +23,14 @@ end-requires c = let place = c.chars.invariant.2.place in let count = c.chars.in
 
 pub chars-preserved-in_ok-number : goal.chars-preserved-in_ok-number
 chars-preserved-in_ok-number c =
-    let outside = ap (λ bs. belongs c.chars.after c.in-Some.c (chars bs)) (sym c.as_str-behind.ensures) ∙ sym (c.belongs.ensures c.is_word-in_word.ensures) in
+    let outside = ap (λ bs. belongs c.chars.after c.in-Some.c (chars bs)) (sym c.as_str-behind.ensures) ∙ sym (c.belongs.ensures c.is_word-in_word.ensures (chars c.as_str-behind.result.now) c.first_of.ensures) in
     let place = ap (λ bs. length c.args.text.now - length bs) c.as_str-behind.ensures ∙ read_place _ _ _ _ _ _ _ _ _ c.chars.invariant c.in-Some.ensures.steps.0 in
     rw (c.in_ok-number.ensures.made, c.in_ok-number.ensures.number, c.is_word-in_word.ensures, place)
     (read_out _ _ _ _ _ _ _ _ _ _ c.chars.invariant c.in-Some.ensures.steps.0 (outside ∙ c.if-not-belongs.true) c.range.ensures.value)
 
 pub chars-preserved : goal.chars-preserved
 chars-preserved c =
-    let inside = ap (λ bs. belongs c.chars.after c.in-Some.c (chars bs)) (sym c.as_str-behind.ensures) ∙ sym (c.belongs.ensures c.is_word-in_word.ensures) in
+    let inside = ap (λ bs. belongs c.chars.after c.in-Some.c (chars bs)) (sym c.as_str-behind.ensures) ∙ sym (c.belongs.ensures c.is_word-in_word.ensures (chars c.as_str-behind.result.now) c.first_of.ensures) in
     let place = ap (λ bs. length c.args.text.now - length bs) c.as_str-behind.ensures ∙ read_place _ _ _ _ _ _ _ _ _ c.chars.invariant c.in-Some.ensures.steps.0 in
     rw (c.is_word-in_word.ensures, place) (read_in _ _ _ _ _ _ _ _ _ c.chars.invariant c.in-Some.ensures.steps.0 (inside ∙ c.if-not-belongs.false))
 

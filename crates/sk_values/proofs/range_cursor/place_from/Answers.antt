@@ -2,9 +2,9 @@
 use Rattle.std.proofs.Common.{◌≡◌, ◌+◌, ◌-◌, ◌<◌, ◌≤◌, [], length, get_or, ap, ◌∙◌, arith}
 use Rattle.sk_sorted.specs.Entries.{top_id}
 use Rattle.sk_sorted.proofs.EntryLaws.{length_fits}
-use Rattle.sk_runs.specs.Runs.{flat}
-use Rattle.sk_runs.proofs.EditLaws.{run_read}
-use Rattle.sk_runs.proofs.PlaceLaws.{place_within}
+use Rattle.sk_sorted.specs.Runs.{flat}
+use Rattle.sk_sorted.proofs.RunEditLaws.{run_read}
+use Rattle.sk_sorted.proofs.RunPlaceLaws.{place_within}
 use Rattle.sk_values.specs.SlotValues.{SlotRuns}
 use Rattle.sk_values.proofs.CursorLemmas.{found_here, passed_by, passes_on}
 use Rattle.sk_values.proofs.range_cursor.place_from.Goals as goal

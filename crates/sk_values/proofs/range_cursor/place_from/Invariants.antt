@@ -1,7 +1,7 @@
 -- It stands on a place of the list, and passed over what lies below the target alone.
 use Rattle.std.proofs.Common.{◌≡◌, ◌≤◌, ◌-◌, drop}
 use Rattle.sk_sorted.specs.Entries.{from}
-use Rattle.sk_runs.specs.Runs.{flat}
+use Rattle.sk_sorted.specs.Runs.{flat}
 use Rattle.sk_values.specs.RangeCursor.{IsPlaceIn}
 use Rattle.sk_values.proofs.range_cursor.place_from.Given as goal
 

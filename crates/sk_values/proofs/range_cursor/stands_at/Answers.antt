@@ -2,7 +2,7 @@ use Rattle.std.proofs.Common.{◌≡◌, ◌<◌, ◌≤◌, [], length, get_or,
 use Rattle.std.proofs.lemmas.Bool.{leb-true}
 use Rattle.sk_sorted.specs.Places.{id_at}
 use Rattle.sk_sorted.proofs.PlaceLaws.{id_at-get_or}
-use Rattle.sk_runs.proofs.EditLaws.{run_read}
+use Rattle.sk_sorted.proofs.RunEditLaws.{run_read}
 use Rattle.sk_values.specs.SlotValues.{SlotValues}
 use Rattle.sk_values.proofs.CursorLemmas.{next_reaches}
 use Rattle.sk_values.proofs.range_cursor.stands_at.Goals as goal

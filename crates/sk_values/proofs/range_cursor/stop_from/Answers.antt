@@ -1,8 +1,8 @@
 -- A stop in a piece is one in the whole; a piece without one is read to its end.
 use Rattle.std.proofs.Common.{◌≡◌, ◌<◌, [], length, get_or, sym, ap, ◌∙◌, arith}
 use Rattle.sk_sorted.proofs.EntryLaws.{length_fits}
-use Rattle.sk_runs.specs.Runs.{flat}
-use Rattle.sk_runs.proofs.EditLaws.{run_read}
+use Rattle.sk_sorted.specs.Runs.{flat}
+use Rattle.sk_sorted.proofs.RunEditLaws.{run_read}
 use Rattle.sk_values.specs.SlotValues.{SlotRuns}
 use Rattle.sk_values.proofs.CursorLemmas.{next_fits, stops, stops_left, goes_on, goes_on_left}
 use Rattle.sk_values.proofs.range_cursor.stop_from.Goals as goal

@@ -1,6 +1,6 @@
 -- It stands on a place of the list, and what it read lies outside the range.
 use Rattle.std.proofs.Common.{◌≡◌, ◌≤◌, ◌+◌, ◌-◌, length, drop}
-use Rattle.sk_runs.specs.Runs.{flat}
+use Rattle.sk_sorted.specs.Runs.{flat}
 use Rattle.sk_values.specs.RangeCursor.{in_range, IsPlaceIn}
 use Rattle.sk_values.proofs.range_cursor.stop_from.Given as goal
 

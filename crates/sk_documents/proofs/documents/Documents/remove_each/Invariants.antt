@@ -6,7 +6,7 @@ use Rattle.sk_documents.proofs.documents.Documents.remove_each.Given as goal
 abbrev pub invariant-ids : goal.invariant-ids
 invariant-ids g l =
     (l.self.live ≡ record { documents = without_ids (drop l.i l.ids) l.initial.self.live.documents; highest = l.initial.self.live.highest })
-    × (l.self.fields ≡ l.initial.self.fields) × (l.i ≤ length l.ids)
+    × (l.self.schema ≡ l.initial.self.schema) × (l.i ≤ length l.ids)
 
 abbrev pub decreases-ids : goal.decreases-ids
 decreases-ids g l = l.i

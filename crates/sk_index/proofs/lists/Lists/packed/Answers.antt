@@ -1,5 +1,5 @@
 -- The document that is found is in order, and its numbers have terms.
-use Rattle.sk_runs.specs.Runs.{flat}
+use Rattle.sk_sorted.specs.Runs.{flat}
 use Rattle.std.proofs.Common.{List, length, option_map, sym, ap, ◌∙◌}
 use Rattle.sk_base.specs.Documents.{AreTerms}
 use Rattle.sk_sorted.specs.Entries.{found}

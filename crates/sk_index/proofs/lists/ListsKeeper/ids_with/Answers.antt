@@ -1,5 +1,5 @@
 -- The ids in the list of the term are those of the documents that have it.
-use Rattle.sk_runs.specs.Runs.{flat}
+use Rattle.sk_sorted.specs.Runs.{flat}
 use Rattle.std.proofs.Common.{IfOk, ap, subst, ◌≡◌, ◌∙◌}
 use Rattle.sk_sorted.specs.Entries.{ids_of}
 use Rattle.sk_documents.specs.Removing.{ids_with}

@@ -1,5 +1,5 @@
 -- All lists have the document, which is packed under the terms with its own.
-use Rattle.sk_runs.specs.Runs.{flat}
+use Rattle.sk_sorted.specs.Runs.{flat}
 use Rattle.std.proofs.Common.{◌≡◌, None, ap, subst, ◌∙◌}
 use Rattle.sk_model.specs.Edits.{document_at, put_document}
 use Rattle.sk_index.specs.Listed.{PutsAll}

@@ -1,5 +1,5 @@
 -- No list has the document.
-use Rattle.sk_runs.specs.Runs.{flat}
+use Rattle.sk_sorted.specs.Runs.{flat}
 use Rattle.std.proofs.Common.{◌≡◌, None, Some, is_some, option_map, [], sym, ap, subst, ◌∙◌}
 use Rattle.sk_sorted.proofs.EntryLaws.{without-absent}
 use Rattle.sk_sorted.specs.Entries.{found}

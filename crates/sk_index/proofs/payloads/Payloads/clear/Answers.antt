@@ -2,7 +2,7 @@
 use Rattle.std.proofs.Common.{sym, ap, ◌∙◌}
 use Rattle.sk_sorted.specs.Entries.{found}
 use Rattle.sk_sorted.proofs.EntryLaws.{found-without, found-without_other}
-use Rattle.sk_runs.specs.Runs.{flat}
+use Rattle.sk_sorted.specs.Runs.{flat}
 use Rattle.sk_index.specs.Payloads.{text_or_empty, payload_of}
 use Rattle.sk_index.proofs.payloads.Payloads.clear.Goals as goal
 

@@ -1,7 +1,7 @@
 -- One list more, and none is left.
 use Rattle.std.proofs.Common.{List, length, take, drop, set, ◌++◌, arith, sym, ap, subst, ◌∙◌}
 use Rattle.sk_sorted.specs.Entries.{without}
-use Rattle.sk_runs.specs.Runs.{flat}
+use Rattle.sk_sorted.specs.Runs.{flat}
 use Rattle.sk_index.specs.declared.slot_lists.SlotEntry.{SlotEntry}
 use Rattle.sk_index.specs.Slotted.{ClearsAll, KeepsOthers}
 use Rattle.sk_index.proofs.SlottedLemmas.{cut_none, cut_on, rise_back, clears_back}

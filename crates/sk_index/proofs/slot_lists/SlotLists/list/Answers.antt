@@ -1,6 +1,6 @@
 -- The list of the slot stands at its place, or there is none.
 use Rattle.std.proofs.Common.{◌==◌, position, sym, ap, ◌∙◌}
-use Rattle.sk_runs.specs.Runs.{flat}
+use Rattle.sk_sorted.specs.Runs.{flat}
 use Rattle.sk_values.specs.SlotValues.{SlotRuns}
 use Rattle.sk_index.specs.declared.slot_lists.SlotEntry.{SlotEntry}
 use Rattle.sk_index.specs.Slotted.{slot_pieces}

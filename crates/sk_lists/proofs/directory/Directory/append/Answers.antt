@@ -1,6 +1,6 @@
 -- An entry behind all others is new, and stands last.
 use Rattle.std.proofs.Common.{◌≡◌, [], ◌∷◌, ◌++◌, length, ap, ◌∙◌, arith}
-use Rattle.sk_runs.proofs.RunLaws.{fits_last}
+use Rattle.sk_sorted.proofs.RunLaws.{fits_last}
 use Rattle.sk_lists.specs.Lists.{Runs}
 use Rattle.sk_lists.proofs.DirectoryLemmas.{is_new, flat_longer, longer_fits, directory_longer}
 use Rattle.sk_lists.proofs.directory.Directory.append.Goals as goal

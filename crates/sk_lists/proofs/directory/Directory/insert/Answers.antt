@@ -1,6 +1,6 @@
 -- The chunk at the place is where the entry belongs.
 use Rattle.std.proofs.Common.{◌≡◌, length, ap, arith}
-use Rattle.sk_runs.proofs.RunLaws.{fits_place}
+use Rattle.sk_sorted.proofs.RunLaws.{fits_place}
 use Rattle.sk_lists.specs.Lists.{Runs}
 use Rattle.sk_lists.proofs.directory.Directory.insert.Goals as goal
 

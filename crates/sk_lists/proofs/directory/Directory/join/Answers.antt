@@ -1,6 +1,6 @@
 -- The entries stay the same, whether the two become one or not.
 use Rattle.std.proofs.Common.{sym, ◌∙◌, ap, subst, arith}
-use Rattle.sk_runs.specs.Runs.{flat}
+use Rattle.sk_sorted.specs.Runs.{flat}
 use Rattle.sk_lists.specs.Lists.{Runs, IsDirectory}
 use Rattle.sk_lists.proofs.DirectoryLemmas.{join_asks, joined_sound, joined_flat, unjoined}
 use Rattle.sk_lists.proofs.directory.Directory.join.Goals as goal

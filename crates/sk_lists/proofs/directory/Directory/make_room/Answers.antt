@@ -1,8 +1,8 @@
 -- A full chunk that does not have the entry becomes two, in one of which it belongs.
 use Rattle.std.proofs.Common.{◌≡◌, ◌<◌, ◌≤◌, [], is_some, true, inr, sym, ap, subst, ◌∙◌, arith}
 use mathlib.Core.Bool.{true≢false}
-use Rattle.sk_runs.specs.Runs.{RunsRise}
-use Rattle.sk_runs.proofs.RunLaws.{found_in_run}
+use Rattle.sk_sorted.specs.Runs.{RunsRise}
+use Rattle.sk_sorted.proofs.RunLaws.{found_in_run}
 use Rattle.sk_lists.specs.Lists.{Runs}
 use Rattle.sk_lists.proofs.DirectoryLemmas.{halved_full, last_read}
 use Rattle.sk_lists.proofs.directory.Directory.make_room.Goals as goal

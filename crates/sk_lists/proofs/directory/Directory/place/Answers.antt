@@ -3,10 +3,10 @@ use Rattle.std.proofs.Common.{rules, ℕ, ◌<◌, ◌≤◌, nat_lt, [], length
 use Rattle.std.proofs.lemmas.Bool.{ltb-true, ltb-false}
 use Rattle.std.proofs.lemmas.List.Sorted.{IsPartitionPoint-from_clause}
 use Rattle.sk_sorted.specs.Entries.{top_id}
-use Rattle.sk_runs.specs.Runs.{RunsRise}
+use Rattle.sk_sorted.specs.Runs.{RunsRise}
 use Rattle.sk_chunks.specs.Postings.{Postings}
 use Rattle.sk_lists.specs.Lists.{Runs}
-use Rattle.sk_runs.proofs.EditLaws.{tops_parted}
+use Rattle.sk_sorted.proofs.RunEditLaws.{tops_parted}
 use Rattle.sk_lists.proofs.directory.Directory.place.Goals as goal
 
 pub returns-clause-before : goal.returns-clause-before

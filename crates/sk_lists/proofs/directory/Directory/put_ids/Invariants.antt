@@ -1,7 +1,7 @@
 -- The ids of the chunks that were gone over stand behind the first ones.
 use Rattle.std.proofs.Common.{◌≡◌, ◌++◌, take}
 use Rattle.sk_sorted.specs.Entries.{ids_of}
-use Rattle.sk_runs.specs.Runs.{flat}
+use Rattle.sk_sorted.specs.Runs.{flat}
 use Rattle.sk_lists.proofs.directory.Directory.put_ids.Given as goal
 
 abbrev pub invariant-chunks : goal.invariant-chunks

@@ -1,10 +1,10 @@
 -- An edit of the chunk where the entry belongs is an edit of the whole.
 use Rattle.std.proofs.Common.{◌<◌, length, sym, ap, subst, ◌∙◌, arith}
 use mathlib.Core.Bool.{true≢false}
-use Rattle.sk_runs.specs.Runs.{flat}
+use Rattle.sk_sorted.specs.Runs.{flat}
 use Rattle.sk_chunks.specs.Postings.{greatest_wdf}
 use Rattle.sk_lists.specs.Lists.{Runs}
-use Rattle.sk_runs.proofs.EditLaws.{same_read, read_set}
+use Rattle.sk_sorted.proofs.RunEditLaws.{same_read, read_set}
 use Rattle.sk_lists.proofs.DirectoryLemmas.{has_run, greatest_was, grows, count_fits, length_new, flat_put, directory_put}
 use Rattle.sk_lists.proofs.directory.Directory.put_in.Goals as goal
 

@@ -1,8 +1,8 @@
 -- The chunk at the place is where the entry belongs; where all end before it, it is nowhere.
 use Rattle.std.proofs.Common.{◌≡◌, length, sym, ap, arith}
-use Rattle.sk_runs.proofs.RunLaws.{fits_place}
+use Rattle.sk_sorted.proofs.RunLaws.{fits_place}
 use Rattle.sk_lists.specs.Lists.{Runs}
-use Rattle.sk_runs.proofs.EditLaws.{nowhere, nothing_without}
+use Rattle.sk_sorted.proofs.RunEditLaws.{nowhere, nothing_without}
 use Rattle.sk_lists.proofs.directory.Directory.remove.Goals as goal
 
 pub returns-then-at-len-clause-after : goal.returns-then-at-len-clause-after

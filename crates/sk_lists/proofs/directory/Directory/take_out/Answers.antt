@@ -1,9 +1,9 @@
 -- An edit of the chunk where the entry belongs is an edit of the whole.
 use Rattle.std.proofs.Common.{◌<◌, length, sym, ap, subst, ◌∙◌, arith}
-use Rattle.sk_runs.specs.Runs.{flat}
+use Rattle.sk_sorted.specs.Runs.{flat}
 use Rattle.sk_chunks.specs.Postings.{greatest_wdf}
 use Rattle.sk_lists.specs.Lists.{Runs, IsDirectory}
-use Rattle.sk_runs.proofs.EditLaws.{same_read, read_set, length_out, nil_is}
+use Rattle.sk_sorted.proofs.RunEditLaws.{same_read, read_set, length_out, nil_is}
 use Rattle.sk_lists.proofs.DirectoryLemmas.{has_run, greatest_was, length_new, nothing_out, flat_without, directory_without, flat_gone, directory_gone}
 use Rattle.sk_lists.proofs.directory.Directory.take_out.Goals as goal
 

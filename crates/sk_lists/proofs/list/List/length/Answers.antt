@@ -1,8 +1,8 @@
 -- The chunks of a list are in order, so its entries are.
 use Rattle.std.proofs.Common.{sym, ap, subst, ◌∙◌}
 use Rattle.sk_sorted.specs.Entries.{AreSorted}
-use Rattle.sk_runs.specs.Runs.{flat}
-use Rattle.sk_runs.proofs.RunLaws.{AreRuns-sorted}
+use Rattle.sk_sorted.specs.Runs.{flat}
+use Rattle.sk_sorted.proofs.RunLaws.{AreRuns-sorted}
 use Rattle.sk_lists.specs.Lists.{Runs}
 use Rattle.sk_lists.specs.Forms.{runs_of}
 use Rattle.sk_lists.proofs.list.List.length.Goals as goal

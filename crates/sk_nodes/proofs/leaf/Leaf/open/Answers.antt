@@ -1,6 +1,6 @@
 -- A leaf begins with all of its list.
 use Rattle.std.proofs.Common.{◌≡◌, subst, refl, ap, ◌∙◌}
-use Rattle.sk_runs.specs.Runs.{flat, AreRuns}
+use Rattle.sk_sorted.specs.Runs.{flat, AreRuns}
 use Rattle.sk_lists.specs.Lists.{Runs}
 use Rattle.sk_lists.specs.Cursor.{left, unread, IsOn}
 use Rattle.sk_nodes.specs.Leaves.{leaf_greatest}

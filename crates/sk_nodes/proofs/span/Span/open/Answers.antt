@@ -1,7 +1,7 @@
 -- A span begins with all values in its range.
 use Rattle.std.proofs.Common.{◌≡◌, ◌∙◌, sym, subst, ap}
 use Rattle.sk_base.specs.declared.find.Scheme.{Scheme}
-use Rattle.sk_runs.specs.Runs.{flat}
+use Rattle.sk_sorted.specs.Runs.{flat}
 use Rattle.sk_values.specs.SlotValues.{SlotValues, SlotRuns}
 use Rattle.sk_values.specs.RangeCursor.{in_range, left, IsOn}
 use Rattle.sk_nodes.specs.Leaves.{weighed}

@@ -1,7 +1,7 @@
 -- A value behind all others is new, and stands last.
 use Rattle.std.proofs.Common.{List, ℕ, ◌≡◌, [], ◌∷◌, ◌++◌, length, ap, ◌∙◌, arith}
-use Rattle.sk_runs.proofs.RunLaws.{fits_last}
-use Rattle.sk_runs.proofs.EditLaws.{is_new, longer_put, longer_sound, longer_length, longer_fits}
+use Rattle.sk_sorted.proofs.RunLaws.{fits_last}
+use Rattle.sk_sorted.proofs.RunEditLaws.{is_new, longer_put, longer_sound, longer_length, longer_fits}
 use Rattle.sk_pieces.proofs.pieces.Pieces.append.Goals as goal
 
 pub put_in-requires-clause-fits : goal.put_in-requires-clause-fits

@@ -1,7 +1,7 @@
 -- What is found is found in the piece where the id belongs, and nowhere where all end before it.
 use Rattle.std.proofs.Common.{List, ℕ, ◌≡◌, ◌<◌, length, sym, ap, ◌∙◌, arith}
-use Rattle.sk_runs.proofs.RunLaws.{fits_place}
-use Rattle.sk_runs.proofs.EditLaws.{nothing_found, found_run}
+use Rattle.sk_sorted.proofs.RunLaws.{fits_place}
+use Rattle.sk_sorted.proofs.RunEditLaws.{nothing_found, found_run}
 use Rattle.sk_pieces.proofs.pieces.Pieces.get.Goals as goal
 
 pub returns-then-at-len : goal.returns-then-at-len

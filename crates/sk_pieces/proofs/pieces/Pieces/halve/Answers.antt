@@ -1,6 +1,6 @@
 -- The entries stay the same.
 use Rattle.std.proofs.Common.{List, ℕ, ◌≡◌, ◌<◌, [], length, get_or, subst, sym, arith}
-use Rattle.sk_runs.proofs.EditLaws.{halved_flat, halved_sound}
+use Rattle.sk_sorted.proofs.RunEditLaws.{halved_flat, halved_sound}
 use Rattle.sk_pieces.proofs.PieceLemmas.{kept-same}
 use Rattle.sk_pieces.proofs.pieces.Pieces.halve.Goals as goal
 

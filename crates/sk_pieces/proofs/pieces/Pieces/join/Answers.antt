@@ -1,7 +1,7 @@
 -- The entries stay the same, whether the two become one or not.
 use Rattle.std.proofs.Common.{List, ℕ, sym, ◌∙◌, ap, subst, arith}
-use Rattle.sk_runs.specs.Runs.{flat}
-use Rattle.sk_runs.proofs.EditLaws.{join_asks, joined_sound, joined_flat, unjoined}
+use Rattle.sk_sorted.specs.Runs.{flat}
+use Rattle.sk_sorted.proofs.RunEditLaws.{join_asks, joined_sound, joined_flat, unjoined}
 use Rattle.sk_pieces.specs.Pieces.{ArePieces}
 use Rattle.sk_pieces.proofs.PieceLemmas.{kept-same}
 use Rattle.sk_pieces.proofs.pieces.Pieces.join.Goals as goal

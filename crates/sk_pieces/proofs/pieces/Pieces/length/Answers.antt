@@ -1,8 +1,8 @@
 -- The entries of all pieces are sorted.
 use Rattle.std.proofs.Common.{List, ℕ, subst}
 use Rattle.sk_sorted.specs.Entries.{AreSorted}
-use Rattle.sk_runs.specs.Runs.{flat}
-use Rattle.sk_runs.proofs.RunLaws.{AreRuns-sorted}
+use Rattle.sk_sorted.specs.Runs.{flat}
+use Rattle.sk_sorted.proofs.RunLaws.{AreRuns-sorted}
 use Rattle.sk_pieces.proofs.pieces.Pieces.length.Goals as goal
 
 pub returns-clause-sorted : goal.returns-clause-sorted

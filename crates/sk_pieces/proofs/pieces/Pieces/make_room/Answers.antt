@@ -2,7 +2,7 @@
 use Rattle.std.proofs.Common.{◌<◌, ◌≤◌, length, inr, sym, ap, subst, ◌∙◌, arith}
 use mathlib.Core.Bool.{true≢false}
 use Rattle.sk_sorted.specs.Entries.{top_id}
-use Rattle.sk_runs.proofs.EditLaws.{run_read, has_run}
+use Rattle.sk_sorted.proofs.RunEditLaws.{run_read, has_run}
 use Rattle.sk_pieces.proofs.PieceLemmas.{piece_halved}
 use Rattle.sk_pieces.proofs.pieces.Pieces.make_room.Goals as goal
 

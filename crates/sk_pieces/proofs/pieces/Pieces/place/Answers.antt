@@ -3,9 +3,9 @@ use Rattle.std.proofs.Common.{List, rules, ℕ, ◌-◌, ◌/◌, ◌<◌, ◌�
 use Rattle.std.proofs.lemmas.Bool.{ltb-true, ltb-false}
 use Rattle.std.proofs.lemmas.List.Sorted.{IsPartitionPoint-from_clause}
 use Rattle.sk_sorted.specs.Entries.{top_id}
-use Rattle.sk_runs.specs.Runs.{RunsRise}
-use Rattle.sk_runs.proofs.RunLaws.{tops_rise}
-use Rattle.sk_runs.proofs.EditLaws.{tops_parted}
+use Rattle.sk_sorted.specs.Runs.{RunsRise}
+use Rattle.sk_sorted.proofs.RunLaws.{tops_rise}
+use Rattle.sk_sorted.proofs.RunEditLaws.{tops_parted}
 use Rattle.sk_pieces.proofs.pieces.Pieces.place.Goals as goal
 
 -- where the piece before a place ends below the id, so do all before it

@@ -1,6 +1,6 @@
 -- The piece at the place is where the value belongs.
 use Rattle.std.proofs.Common.{List, ℕ, ◌≡◌, length, ap, arith}
-use Rattle.sk_runs.proofs.RunLaws.{fits_place}
+use Rattle.sk_sorted.proofs.RunLaws.{fits_place}
 use Rattle.sk_pieces.proofs.pieces.Pieces.put.Goals as goal
 
 pub make_room-requires-clause-fits : goal.make_room-requires-clause-fits

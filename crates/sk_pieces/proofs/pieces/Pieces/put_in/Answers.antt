@@ -1,7 +1,7 @@
 -- An edit of the piece where the value belongs is an edit of the whole.
 use Rattle.std.proofs.Common.{List, ℕ, ◌<◌, length, sym, ap, subst, ◌∙◌, arith}
 use mathlib.Core.Bool.{true≢false}
-use Rattle.sk_runs.proofs.EditLaws.{same_read, read_set, has_run, length_new, put_view, put_sound, put_grows, put_fits}
+use Rattle.sk_sorted.proofs.RunEditLaws.{same_read, read_set, has_run, length_new, put_view, put_sound, put_grows, put_fits}
 use Rattle.sk_pieces.proofs.pieces.Pieces.put_in.Goals as goal
 
 pub returns-in_err-put-clause-succeeds : goal.returns-in_err-put-clause-succeeds

@@ -1,7 +1,7 @@
 -- The piece at the place is where the value belongs; where all end before it, it is nowhere.
 use Rattle.std.proofs.Common.{List, ℕ, ◌≡◌, length, sym, ap, arith}
-use Rattle.sk_runs.proofs.RunLaws.{fits_place}
-use Rattle.sk_runs.proofs.EditLaws.{nothing_found, nothing_without}
+use Rattle.sk_sorted.proofs.RunLaws.{fits_place}
+use Rattle.sk_sorted.proofs.RunEditLaws.{nothing_found, nothing_without}
 use Rattle.sk_pieces.proofs.pieces.Pieces.take.Goals as goal
 
 pub returns-then-at-len-clause-after : goal.returns-then-at-len-clause-after

@@ -1,8 +1,8 @@
 -- An edit of the piece where the id belongs is an edit of the whole.
 use Rattle.std.proofs.Common.{◌≡◌, List, ℕ, ◌<◌, true, false, length, is_some, sym, ap, subst, ◌∙◌, arith}
 use Rattle.sk_sorted.specs.Entries.{has}
-use Rattle.sk_runs.specs.Runs.{flat}
-use Rattle.sk_runs.proofs.EditLaws.{read_set, found_run, length_new, length_out, nil_is, nothing_out, without_view, without_sound, gone_same, gone_view, gone_sound}
+use Rattle.sk_sorted.specs.Runs.{flat}
+use Rattle.sk_sorted.proofs.RunEditLaws.{read_set, found_run, length_new, length_out, nil_is, nothing_out, without_view, without_sound, gone_same, gone_view, gone_sound}
 use Rattle.sk_pieces.specs.Pieces.{ArePieces}
 use Rattle.sk_pieces.proofs.pieces.Pieces.take_out.Goals.{then-count-eq0, else-count-eq0}
 use Rattle.sk_pieces.proofs.pieces.Pieces.take_out.Goals as goal

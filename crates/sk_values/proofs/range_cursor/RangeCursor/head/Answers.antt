@@ -1,4 +1,4 @@
-use Rattle.sk_runs.specs.Runs.{flat}
+use Rattle.sk_sorted.specs.Runs.{flat}
 use Rattle.sk_values.proofs.RangeLaws.{head_is}
 use Rattle.sk_values.proofs.range_cursor.RangeCursor.head.Goals as goal
 

@@ -1,5 +1,5 @@
 use Rattle.std.proofs.Common.{◌∙◌, sym, ap}
-use Rattle.sk_runs.specs.Runs.{flat}
+use Rattle.sk_sorted.specs.Runs.{flat}
 use Rattle.sk_values.specs.RangeCursor.{in_range}
 use Rattle.sk_values.proofs.RangeLaws.{stays_left, stays_unread, moves_left, moves_on}
 use Rattle.sk_values.proofs.range_cursor.RangeCursor.seek.Goals as goal

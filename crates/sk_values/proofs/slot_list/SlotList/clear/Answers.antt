@@ -1,6 +1,6 @@
 -- A removal leaves no value empty.
 use Rattle.std.proofs.Common.{subst, sym}
-use Rattle.sk_runs.specs.Runs.{flat}
+use Rattle.sk_sorted.specs.Runs.{flat}
 use Rattle.sk_values.specs.SlotValues.{SlotValues, HaveValues}
 use Rattle.sk_values.proofs.ValueLaws.{HaveValues-without}
 use Rattle.sk_values.proofs.slot_list.SlotList.clear.Goals as goal

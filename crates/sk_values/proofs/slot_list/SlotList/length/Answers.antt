@@ -1,6 +1,6 @@
 -- The entries are in order, and no value is empty.
 use Rattle.std.proofs.Common.{subst}
-use Rattle.sk_runs.specs.Runs.{flat}
+use Rattle.sk_sorted.specs.Runs.{flat}
 use Rattle.sk_values.specs.SlotValues.{SlotRuns, AreSlotValues}
 use Rattle.sk_values.proofs.slot_list.SlotList.length.Goals as goal
 

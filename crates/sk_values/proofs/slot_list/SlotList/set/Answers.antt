@@ -1,7 +1,7 @@
 -- A value that is not empty leaves none empty.
 use Rattle.std.proofs.Common.{◌≡◌, ◌≤◌, ℕ, List, length, Result, Ok, Err, OnOk, OnErr, subst, sym}
 use Rattle.sk_sorted.specs.Entries.{put}
-use Rattle.sk_runs.specs.Runs.{flat}
+use Rattle.sk_sorted.specs.Runs.{flat}
 use Rattle.sk_values.specs.SlotValues.{SlotValues, SlotRuns, HaveValues}
 use Rattle.sk_values.proofs.ValueLaws.{HaveValues-put}
 use Rattle.sk_values.proofs.slot_list.SlotList.set.Goals as goal

@@ -1,0 +1,22 @@
+-- Commands: which questions keep their bounds, and the same over another type of trees.
+use Rattle.std.specs.Prelude.{◌≤◌, length}
+use Rattle.sk_base.specs.declared.command.Command.{Command}
+use Rattle.sk_base.specs.declared.command.Question.{Question}
+use Rattle.sk_base.specs.Records.{most_bytes}
+use Rattle.sk_base.specs.Finds.{FitsFind, find_over}
+
+-- What is asked keeps its bounds.
+abbrev pub FitsQuestion : {T : Type 0} → Question T → Type 0
+FitsQuestion (Question.Find find) = FitsFind find
+FitsQuestion (Question.Show text join) = length text ≤ most_bytes
+
+-- A question, its tree changed.
+abbrev pub question_over : {A B : Type 0} → (A → B) → Question A → Question B
+question_over f (Question.Find find) = Question.Find (find_over f find)
+question_over f (Question.Show text join) = Question.Show text join
+
+-- A command, its tree changed.
+abbrev pub command_over : {A B : Type 0} → (A → B) → Command A → Command B
+command_over f (Command.Schema schema) = Command.Schema schema
+command_over f (Command.Edit edit) = Command.Edit edit
+command_over f (Command.Ask question) = Command.Ask (question_over f question)

@@ -1,4 +1,0 @@
-pub mod RunLaws
-pub mod EditLaws
-pub mod PlaceLaws
-mod Examples

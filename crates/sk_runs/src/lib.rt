@@ -1,2 +1,0 @@
-//! Entries in order, cut into runs.
-#![tactic(auto)]

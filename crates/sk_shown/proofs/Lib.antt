@@ -1,3 +1,0 @@
-mod Examples
-mod ValueLemmas
-pub mod RoundTrip

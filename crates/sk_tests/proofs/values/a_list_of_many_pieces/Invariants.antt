@@ -1,8 +1,0 @@
--- The ledger is the blank's own.
-use Rattle.sk_tests.proofs.values.a_list_of_many_pieces.Given as goal
-
-abbrev pub ghosts-read_one : goal.ghosts-read_one
-ghosts-read_one g a = record { name = a.blank.name; parts = a.blank.parts }
-
-abbrev pub ghosts-two_ids : goal.ghosts-two_ids
-ghosts-two_ids g a = record { name = a.blank.name; parts = a.blank.parts }

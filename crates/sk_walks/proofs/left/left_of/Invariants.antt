@@ -1,6 +1,0 @@
-use Rattle.std.proofs.Common.{◌≤◌}
-use Rattle.sk_nodes.specs.Built.{IsTree}
-use Rattle.sk_walks.proofs.left.left_of.Given as goal
-
-abbrev pub invariant-walk : goal.invariant-walk
-invariant-walk g l = IsTree l.index l.tree × (l.tree.need ≤ l.need)

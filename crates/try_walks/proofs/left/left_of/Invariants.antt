@@ -1,0 +1,6 @@
+use Rattle.std.proofs.Common.{◌≤◌}
+use Rattle.sk_nodes.specs.Built.{IsTree}
+use Rattle.try_walks.proofs.left.left_of.Given as goal
+
+abbrev pub invariant-walk : goal.invariant-walk
+invariant-walk g l = IsTree l.index l.tree × (l.tree.need ≤ l.need)

@@ -1,0 +1,108 @@
+//! Many walks through the tree of a query over two words, so that the time of a posting can be told.
+ghost use Rattle.std.specs.Prelude.{◌≡◌, true};
+ghost use Rattle.sk_query.specs.Trees.{query_view};
+ghost use Rattle.sk_query.specs.Fits.{fits_tree};
+
+use crate::documents::{add, empty_index};
+use sk_base::{Scheme, Text};
+use sk_index::Index;
+use sk_nodes::Tree;
+use sk_query::Query;
+use sk_steps::Steps;
+use std::alloc::{AllocError, Global};
+use std::marker::Brand;
+use std::sync::ledger::{Blank, Ledger};
+
+/// How many documents there are, how many walks, and through which tree.
+#[derive(Clone, Copy)]
+pub(crate) struct Rounds {
+    pub(crate) documents: u32,
+    pub(crate) walks: u32,
+    pub(crate) form: u32,
+}
+
+/// The words of a document: each of two words in about half of all, by a scattered number.
+fn text_of(i: u32) -> &'static [u8] {
+    let x = u64::from(i).wrapping_mul(0x9E37_79B9_7F4A_7C15);
+    let y = (x ^ (x >> 32)).wrapping_mul(0xD6E8_FEB8_6659_FD93);
+    match (y >> 33) & 3 {
+        0 => b"c",
+        1 => b"a",
+        2 => b"b",
+        _ => b"a b",
+    }
+}
+
+/// An index of so many documents.
+fn filled(alloc: Global, n: u32) -> Result<Index, AllocError> {
+    let mut index = empty_index(alloc)?;
+    'docs: for i in 0..n {
+        index = add(alloc, index, text_of(i))?;
+    }
+    Ok(index)
+}
+
+/// The query of a number: an and of the two words, or another form.
+fn query(alloc: Global, form: u32) -> Result<Query, AllocError> {
+    let mut parts = Vec::new(alloc);
+    parts.push(Query::Term(Text::new(alloc, "a")?))?;
+    parts.push(Query::Term(Text::new(alloc, "b")?))?;
+    match form {
+        1 => Ok(Query::Or(parts)),
+        2 => Ok(Query::Max(parts)),
+        3 => Ok(Query::Xor(parts)),
+        4 => Ok(Query::AndNot(parts)),
+        5 => Ok(Query::AndMaybe(parts)),
+        6 => Ok(Query::Term(Text::new(alloc, "a")?)),
+        _ => Ok(Query::And(parts)),
+    }
+}
+
+/// Goes through all matches, and adds their weights.
+fn walk<L: Ledger>(
+    alloc: Global,
+    index: &Index,
+    query: &Query,
+    steps: &mut Steps<L>,
+) -> Result<u64, AllocError>
+    requires fits { fits_tree (query_view query.now) ≡ true }
+{
+    let mut tree = Tree::open(alloc, index, query, Scheme::Nnn, steps)?;
+    let mut sum = 0u64;
+    'walk: for _ in 0..u32::MAX {
+        let Some(id) = tree.head() else {
+            return Ok(sum);
+        };
+        sum = sum.wrapping_add(tree.weight());
+        if id == u32::MAX {
+            return Ok(sum);
+        }
+        tree.seek(index, id + 1, 0, steps);
+    }
+    Ok(sum)
+}
+
+/// The sum of all weights in all rounds.
+fn sum_of<L: Ledger>(blank: Blank, alloc: Global, rounds: Rounds) -> Result<u64, AllocError>
+    requires name { blank.name ≡ L.name }
+    requires parts { blank.parts ≡ L.parts }
+    requires one { blank.parts ≡ 1 }
+{
+    let mut steps = Steps::<L>::open(blank);
+    let index = filled(alloc, rounds.documents)?;
+    let query = query(alloc, rounds.form)?;
+    if !query.fits() {
+        return Err(AllocError);
+    }
+    let mut sum = 0u64;
+    'rounds: for _ in 0..rounds.walks {
+        sum = sum.wrapping_add(walk(alloc, &index, &query, &mut steps)?);
+    }
+    Ok(sum)
+}
+
+/// The same, under a counter of its own.
+pub(crate) fn sum_of_rounds(alloc: Global, rounds: Rounds) -> Result<u64, AllocError> {
+    let sum = sum_of::<Brand>(Blank::new(1), alloc, rounds)?;
+    Ok(sum)
+}
