@@ -1,8 +1,8 @@
 -- What a session holds, and what it may do.
-use Rattle.std.specs.Prelude.{◌≡◌, List}
-use Rattle.sk_base.specs.declared.find.Find.{Find}
+use Rattle.std.specs.Prelude.{◌≡◌}
+use Rattle.sk_base.specs.declared.find.Paging.{Paging}
 use Rattle.sk_base.specs.declared.report.Report.{Report}
-use Rattle.sk_base.specs.declared.schema.Field.{Field}
+use Rattle.sk_base.specs.declared.schema.Schema.{Schema}
 use Rattle.sk_query.specs.Trees.{Tree}
 use Rattle.sk_model.specs.Edits.{Live, nothing_live}
 use Rattle.sk_report.specs.Reports.{ReportsFor}
@@ -13,13 +13,13 @@ use Rattle.sk_run.specs.Conducts.{Conduct, EditsLive, ClosesSilently}
 abbrev pub SessionHolds : Session → Live → Type 0
 SessionHolds session live = session.index.live ≡ live
 
--- The fields of a session's schema.
-abbrev pub fields_of : Session → List Field
-fields_of session = session.index.fields
+-- The schema that a session is under.
+abbrev pub schema_of : Session → Schema
+schema_of session = session.index.schema
 
 -- The reports that a find of a query may have over these live documents.
-abbrev pub MayFind : Live → Find → Tree → Report → Type 0
-MayFind live find query report = ReportsFor query find live.documents report
+abbrev pub MayFind : Live → Paging → Tree → Report → Type 0
+MayFind live paging query report = ReportsFor query paging live.documents report
 
 -- What a session may do: it begins without documents, and nothing is put at the end.
 abbrev pub session_conduct : Conduct Live

@@ -1,7 +1,8 @@
 //! A session as the store of a run.
 use crate::Session;
-use sk_parser::AskError;
+use serde_json::Value;
 use sk_base::{Edit, Find, Reply, Report, Schema};
+use sk_parser::AskError;
 use sk_run::{Response, Store};
 use sk_steps::Steps;
 use std::alloc::{AllocError, Global};
@@ -10,9 +11,9 @@ use std::sync::ledger::Ledger;
 
 impl Store for Session {
     ghost use Rattle.sk_model.specs.Edits.{Live};
-    ghost use Rattle.sk_engine.specs.Sessions.{SessionHolds, fields_of, session_conduct};
+    ghost use Rattle.sk_engine.specs.Sessions.{SessionHolds, schema_of, session_conduct};
 
-    ghost fields = { fields_of };
+    ghost under = { schema_of };
 
     ghost State = { Live };
 
@@ -32,7 +33,11 @@ impl Store for Session {
         Session::apply(self, edit)
     }
 
-    fn find<L: Ledger>(&self, find: &Find, steps: &mut Steps<L>) -> Result<Report, AskError> {
+    fn find<L: Ledger>(
+        &self,
+        find: &Find<Value>,
+        steps: &mut Steps<L>,
+    ) -> Result<Report, AskError> {
         Session::find(self, find, steps)
     }
 

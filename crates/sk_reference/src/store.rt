@@ -2,8 +2,9 @@
 ghost use Rattle.std.specs.Prelude.{◌≡◌, ◌+◌};
 
 use crate::shelf::Shelf;
-use sk_parser::{AskError, query_of};
+use serde_json::Value;
 use sk_base::{Edit, Find, Reply, Report, Schema};
+use sk_parser::{AskError, query_of};
 use sk_run::{Response, Store};
 use sk_sharp::report_of;
 use sk_steps::Steps;
@@ -12,9 +13,9 @@ use std::sync::ledger::Ledger;
 
 impl Store for Shelf {
     ghost use Rattle.sk_model.specs.Edits.{Live};
-    ghost use Rattle.sk_reference.specs.Shelved.{holds, fields_of, shelf_conduct};
+    ghost use Rattle.sk_reference.specs.Shelved.{holds, schema_of, shelf_conduct};
 
-    ghost fields = { fields_of };
+    ghost under = { schema_of };
 
     ghost State = { Live };
 
@@ -35,10 +36,14 @@ impl Store for Shelf {
     }
 
     /// The steps of the report are the most that the rules allow.
-    fn find<L: Ledger>(&self, find: &Find, steps: &mut Steps<L>) -> Result<Report, AskError> {
+    fn find<L: Ledger>(
+        &self,
+        find: &Find<Value>,
+        steps: &mut Steps<L>,
+    ) -> Result<Report, AskError> {
         let alloc = self.allocator();
         let query = query_of(alloc, Shelf::schema(self), &find.ask)?;
-        match report_of(alloc, self.documents(), &query, find) {
+        match report_of(alloc, self.documents(), &query, &find.paging) {
             Ok(report) => {
                 count(report.steps, steps);
                 Ok(report)

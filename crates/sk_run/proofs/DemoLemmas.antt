@@ -5,12 +5,17 @@ use Rattle.std.proofs.KnownBytes.{Appends-nil}
 use Rattle.std.proofs.lemmas.Fmt.{length-decimal-le}
 use Rattle.std.proofs.lemmas.List.Sums.{sum_by-append}
 use Rattle.std.proofs.lemmas.Bool.Decides.{nat_tests}
+use Rattle.serde_json.specs.Data.{Data}
 use Rattle.sk_base.specs.declared.command.Command.{Command}
+use Rattle.sk_base.specs.declared.command.Question.{Question}
+use Rattle.sk_base.specs.declared.find.Ask.{Ask}
+use Rattle.sk_base.specs.Commands.{FitsQuestion, question_over, command_over}
 use Rattle.sk_base.specs.declared.record.Edit.TheVariants as Edit
 use Rattle.sk_base.specs.declared.record.Entry.{Entry}
-use Rattle.sk_base.specs.declared.schema.Field.{Field}
+use Rattle.sk_base.specs.declared.schema.Schema.{Schema}
 use Rattle.sk_base.specs.Fields.{IsSchema}
-use Rattle.sk_base.specs.Records.{FitsFind, FitsValues}
+use Rattle.sk_base.specs.Finds.{FitsAsk, FitsFind, ask_over}
+use Rattle.sk_base.specs.Records.{FitsValues}
 use Rattle.sk_record.specs.Outcome.{MayCome}
 use Rattle.sk_io.specs.Causes.{Rose}
 use Rattle.sk_io.specs.Fronts.{AppendsPrefix}
@@ -27,21 +32,21 @@ use Rattle.sk_run.specs.Waiting.{PutsLast, Joins, FailsWithin, FailsToPut, Joins
 use Rattle.sk_run.proofs.WaitingLemmas.{moves_last, moves_prefix, puts_front}
 use Rattle.sk_run.proofs.RunLemmas.{IsPut, none_put, put_more, put_in_part, rose_since}
 use Rattle.sk_run.specs.Obeying.{Obeyings, rest, obey, ObeysFirst, ObeysThrough}
-use Rattle.sk_run.specs.Demos.{demo_fields, alls, demo_body, demo_record, demo_find, demo_command, demo_commands_from, demo_commands}
+use Rattle.sk_run.specs.Demos.{demo_schema, alls, demo_body, demo_record, demo_find, demo_command, demo_commands_from, demo_commands}
 
 -- The schema before the command at a place.
-abbrev pub demo_schema : ℕ → Option (List Field)
-demo_schema place = if place == 0 then None else Some demo_fields
+abbrev pub schema_before : ℕ → Option Schema
+schema_before place = if place == 0 then None else Some demo_schema
 
-schema_fits : IsSchema demo_fields
+schema_fits : IsSchema demo_schema
 schema_fits = record { sound = refl; some = omega arith; few = omega arith }
 
 find_fits : (place : ℕ) → FitsFind (demo_find place)
-find_fits zero = record { ask = omega arith; page = omega arith; collapse = tt }
-find_fits (suc zero) = record { ask = omega arith; page = omega arith; collapse = tt }
-find_fits (suc (suc zero)) = record { ask = omega arith; page = omega arith; collapse = tt }
-find_fits (suc (suc (suc zero))) = record { ask = omega arith; page = omega arith; collapse = omega arith }
-find_fits (suc (suc (suc (suc n)))) = record { ask = omega arith; page = omega arith; collapse = tt }
+find_fits zero = record { ask = omega arith; paging = record { page = omega arith; collapse = tt } }
+find_fits (suc zero) = record { ask = omega arith; paging = record { page = omega arith; collapse = tt } }
+find_fits (suc (suc zero)) = record { ask = omega arith; paging = record { page = omega arith; collapse = tt } }
+find_fits (suc (suc (suc zero))) = record { ask = omega arith; paging = record { page = omega arith; collapse = omega arith } }
+find_fits (suc (suc (suc (suc n)))) = record { ask = omega arith; paging = record { page = omega arith; collapse = tt } }
 
 alls_length : (k : ℕ) → length (alls k) ≡ 4 * k
 alls_length zero = refl
@@ -87,35 +92,59 @@ rising n (suc zero) (suc (suc zero)) d h l = omega arith
 rising n (suc zero) (suc (suc (suc j))) d h l = absurd (omega (arith, l))
 rising n (suc (suc i)) j d h l = absurd (omega (arith, h, l))
 
-record_fits : (i : ℕ) → FitsValues demo_fields (demo_record i).values
+record_fits : (i : ℕ) → FitsValues demo_schema.fields (demo_record i).values
 record_fits i = record { rising = rising i; kinds = refl; small = omega (arith, body_length i, site_length i) }
 
 -- Each command may come behind those before it.
-pub comes : (documents place : ℕ) → MayCome (demo_schema place) (demo_command documents place)
+pub comes : (documents place : ℕ) → MayCome (schema_before place) (demo_command documents place)
 comes documents place =
-    elim (place == 0) as (λ b. MayCome (if b then None else Some demo_fields) (if b then Command.Schema demo_fields else (if nat_le place documents then Command.Edit (Edit.Add (demo_record place)) else Command.Find (demo_find (place - documents - 1))))) [
+    elim (place == 0) as (λ b. MayCome (if b then None else Some demo_schema) (if b then Command.Schema demo_schema else (if nat_le place documents then Command.Edit (Edit.Add (demo_record place)) else Command.Ask (Question.Find (demo_find (place - documents - 1)))))) [
       | true ↦ schema_fits
-      | false ↦ elim (nat_le place documents) as (λ b. MayCome (Some demo_fields) (if b then Command.Edit (Edit.Add (demo_record place)) else Command.Find (demo_find (place - documents - 1)))) [
+      | false ↦ elim (nat_le place documents) as (λ b. MayCome (Some demo_schema) (if b then Command.Edit (Edit.Add (demo_record place)) else Command.Ask (Question.Find (demo_find (place - documents - 1))))) [
         | true ↦ record_fits place
         | false ↦ find_fits (place - documents - 1)
       ]
     ]
 
+ask_fits : {A B : Type 0} (f : A → B) (ask : Ask A) → FitsAsk (ask_over f ask) → FitsAsk ask
+ask_fits f (Ask.Text text join) fits = fits
+ask_fits f (Ask.Tree tree) fits = tt
+
+question_fits : {A B : Type 0} (f : A → B) (question : Question A) → FitsQuestion (question_over f question) → FitsQuestion question
+question_fits f (Question.Find find) fits = record { ask = ask_fits f find.ask fits.ask; paging = fits.paging }
+question_fits f (Question.Show text join) fits = fits
+
+-- A command may come where what it stands for may.
+pub comes_as : {A B : Type 0} (f : A → B) (schema : Option Schema) (command : Command A) → MayCome schema (command_over f command) → MayCome schema command
+comes_as f None (Command.Schema given) may = may
+comes_as f None (Command.Edit edit) may = may
+comes_as f None (Command.Ask question) may = may
+comes_as f (Some schema) (Command.Schema given) may = may
+comes_as f (Some schema) (Command.Edit edit) may = may
+comes_as f (Some schema) (Command.Ask question) may = question_fits f question may
+
+-- It leaves the schema that what it stands for leaves.
+pub behind_as : {A B : Type 0} (f : A → B) (schema : Option Schema) (command : Command A) → schema_behind schema command ≡ schema_behind schema (command_over f command)
+behind_as f None (Command.Schema given) = refl
+behind_as f None (Command.Edit edit) = refl
+behind_as f None (Command.Ask question) = refl
+behind_as f (Some schema) command = refl
+
 -- The schema behind each command is that before the next.
-pub next_schema : (documents place : ℕ) → schema_behind (demo_schema place) (demo_command documents place) ≡ demo_schema (place + 1)
+pub next_schema : (documents place : ℕ) → schema_behind (schema_before place) (demo_command documents place) ≡ schema_before (place + 1)
 next_schema documents place =
     let later : ((place + 1) == 0) ≡ false = grind (arith, nat_tests) in
-    let kept : schema_behind (demo_schema place) (demo_command documents place) ≡ Some demo_fields =
-    elim (place == 0) as (λ b. schema_behind (if b then None else Some demo_fields) (if b then Command.Schema demo_fields else (if nat_le place documents then Command.Edit (Edit.Add (demo_record place)) else Command.Find (demo_find (place - documents - 1)))) ≡ Some demo_fields) [
+    let kept : schema_behind (schema_before place) (demo_command documents place) ≡ Some demo_schema =
+    elim (place == 0) as (λ b. schema_behind (if b then None else Some demo_schema) (if b then Command.Schema demo_schema else (if nat_le place documents then Command.Edit (Edit.Add (demo_record place)) else Command.Ask (Question.Find (demo_find (place - documents - 1))))) ≡ Some demo_schema) [
       | true ↦ refl
       | false ↦ refl
     ] in
-    kept ∙ sym (ap (λ b. if b then None else Some demo_fields) later)
+    kept ∙ sym (ap (λ b. if b then None else Some demo_schema) later)
 
 -- For answers that have these texts, refuse their commands so and tell of so many readings, and a machine that stands for states, where a command may be answered so; from a state on.
-module _ {W S : Type 0} (printing : Printing) (Stands : W → S → Type 0) (Obeys : S → Command → Response → S → Type 0) (start : S) (documents : ℕ) where
+module _ {W S : Type 0} (printing : Printing) (Stands : W → S → Type 0) (Obeys : S → Command Data → Response → S → Type 0) (start : S) (documents : ℕ) where
   -- The commands from a place on.
-  abbrev from : ℕ → List Command
+  abbrev from : ℕ → List (Command Data)
   from place = demo_commands_from documents place (documents + 6 - place)
 
   -- The commands before a place were obeyed, and their answers put, but for what waits, and counted.
@@ -124,7 +153,7 @@ module _ {W S : Type 0} (printing : Printing) (Stands : W → S → Type 0) (Obe
     pub put : IsPut printing answers waiting held0 held false refused steps0 steps
     pub state : S
     pub at : Stands machine state
-    pub goes_on : (more : List Response) (last : S) (left : List Command) → Obeyings Obeys state (from place) more last left → Obeyings Obeys start (demo_commands documents) (answers ++ more) last left
+    pub goes_on : (more : List Response) (last : S) (left : List (Command Data)) → Obeyings Obeys state (from place) more last left → Obeyings Obeys start (demo_commands documents) (answers ++ more) last left
 
   pub demo_none : (waiting : List ℕ) (held : Option (List ℕ)) (machine : W) (steps : ℕ) → waiting ≡ [] → Stands machine start → DemoSoFar held steps 0 waiting held machine false steps
   demo_none waiting held machine steps none at = record {
@@ -145,7 +174,7 @@ module _ {W S : Type 0} (printing : Printing) (Stands : W → S → Type 0) (Obe
       (record { answers = []; put = Appends-nil before.sink.held; steps = omega arith; finishes = refl; lines = record { last = start; left = demo_commands documents; runs = rest } })
 
   -- One command more was obeyed, and its answer joined what waits.
-  pub demo_more : (held0 : Option (List ℕ)) (steps0 place : ℕ) (waiting waiting' : List ℕ) (machine machine' : W) (refused more : Bool) (before after : Output) (command : Command)
+  pub demo_more : (held0 : Option (List ℕ)) (steps0 place : ℕ) (waiting waiting' : List ℕ) (machine machine' : W) (refused more : Bool) (before after : Output) (command : Command Data)
       → place < documents + 6 → DemoSoFar held0 steps0 place waiting before.sink.held machine refused before.steps → command ≡ demo_command documents place
       → Joins printing (λ answer. (s : S) → Stands machine s → Meets Stands (Obeys s command answer) machine') waiting waiting' more before after
       → DemoSoFar held0 steps0 (place + 1) waiting' after.sink.held machine' (refused || more) after.steps
@@ -159,8 +188,8 @@ module _ {W S : Type 0} (printing : Printing) (Stands : W → S → Type 0) (Obe
         goes_on = λ rest_of last left runs.
             subst (λ (all : List Response). Obeyings Obeys start (demo_commands documents) all last left) (sym (append_assoc so.answers (joins.answer ∷ []) rest_of))
             (so.goes_on (joins.answer ∷ rest_of) last left
-            (subst (λ (cs : List Command). Obeyings Obeys so.state cs (joins.answer ∷ rest_of) last left) (sym (first_from place inside))
-            (subst (λ (c : Command). Obeyings Obeys so.state (c ∷ from (place + 1)) (joins.answer ∷ rest_of) last left) is (obey met.allowed runs))));
+            (subst (λ (cs : List (Command Data)). Obeyings Obeys so.state cs (joins.answer ∷ rest_of) last left) (sym (first_from place inside))
+            (subst (λ (c : Command Data). Obeyings Obeys so.state (c ∷ from (place + 1)) (joins.answer ∷ rest_of) last left) is (obey met.allowed runs))));
       }
 
   -- For what was answered so far.
@@ -206,7 +235,7 @@ module _ {W S : Type 0} (printing : Printing) (Stands : W → S → Type 0) (Obe
     demo_last Status.TooMuch e paid = absurd e
 
     -- For the command at that place.
-    module _ (command : Command) (inside : place < documents + 6) (is : command ≡ demo_command documents place) where
+    module _ (command : Command Data) (inside : place < documents + 6) (is : command ≡ demo_command documents place) where
       abbrev Answer : Response → Type 0
       Answer answer = (next : W) × ((s : S) → Stands machine s → Meets Stands (Obeys s command answer) next)
 
@@ -223,8 +252,8 @@ module _ {W S : Type 0} (printing : Printing) (Stands : W → S → Type 0) (Obe
               left = from (place + 1);
               runs =
                   so.goes_on (fails.answer ∷ []) met.next (from (place + 1))
-                  (subst (λ (cs : List Command). Obeyings Obeys so.state cs (fails.answer ∷ []) met.next (from (place + 1))) (sym (first_from place inside))
-                  (subst (λ (c : Command). Obeyings Obeys so.state (c ∷ from (place + 1)) (fails.answer ∷ []) met.next (from (place + 1))) is (obey met.allowed rest)));
+                  (subst (λ (cs : List (Command Data)). Obeyings Obeys so.state cs (fails.answer ∷ []) met.next (from (place + 1))) (sym (first_from place inside))
+                  (subst (λ (c : Command Data). Obeyings Obeys so.state (c ∷ from (place + 1)) (fails.answer ∷ []) met.next (from (place + 1))) is (obey met.allowed rest)));
             };
           }
 

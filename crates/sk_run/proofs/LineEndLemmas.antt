@@ -1,5 +1,6 @@
 -- A run over lines, and what closes it.
 use Rattle.std.proofs.Common.{ℕ, Bool, inl, inr, List, [], ◌++◌, Option, sym, ap, ◌∙◌, subst, append-nil}
+use Rattle.serde_json.specs.Data.{Data}
 use Rattle.sk_base.specs.declared.command.Command.{Command}
 use Rattle.sk_run.specs.declared.response.Response.{Response}
 use Rattle.sk_run.specs.declared.response.Printing.{Printing}
@@ -37,12 +38,12 @@ module _ {W S R : Type 0} (Stands : W → S → Type 0) (Closes : S → R → Ty
   some_lines Answers start bytes left t (inr c) = record { which = inr (all_lines Answers start bytes left t c) }
 
   -- All commands were obeyed, and the run was closed.
-  pub all_commands : (Obeys : S → Command → R → S → Type 0) (start : S) (commands : List Command) → ObeysThrough Obeys Stands now start commands a → ClosedBy Stands Closes now b
+  pub all_commands : (Obeys : S → Command Data → R → S → Type 0) (start : S) (commands : List (Command Data)) → ObeysThrough Obeys Stands now start commands a → ClosedBy Stands Closes now b
       → ObeysAll Obeys Closes start commands (a ++ b)
   all_commands Obeys start commands t c =
       record { of_commands = a; closing = c.closing; last = t.last; all = ap (λ (w : List R). a ++ w) c.alone; runs = t.runs; closes = c.closes t.last t.at }
 
-  pub some_commands : (Obeys : S → Command → R → S → Type 0) (start : S) (commands : List Command) → ObeysThrough Obeys Stands now start commands a → ClosedOrNot Stands Closes now b
+  pub some_commands : (Obeys : S → Command Data → R → S → Type 0) (start : S) (commands : List (Command Data)) → ObeysThrough Obeys Stands now start commands a → ClosedOrNot Stands Closes now b
       → ObeysSome Obeys Closes start commands (a ++ b)
   some_commands Obeys start commands t (inl none) =
       inl (record { last = t.last; left = []; runs = subst (λ (w : List R). Obeyings Obeys start commands w t.last []) (sym (ap (λ (w : List R). a ++ w) none ∙ append-nil a)) t.runs })
@@ -79,7 +80,7 @@ module _ {W S : Type 0} (printing : Printing) (Stands : W → S → Type 0) (Ans
       (λ a whole. λ bytes told. whole bytes told start at) (λ st a taken. (taken.0, λ bytes told. taken.1 bytes told start at)) (λ a some. λ bytes told. some bytes told start at) e
 
 -- The commands of a demonstration, and what closes it.
-module _ {W S : Type 0} (printing : Printing) (Stands : W → S → Type 0) (Obeys : S → Command → Response → S → Type 0) (Closes : S → Response → Type 0) (start : S) (commands : List Command) where
+module _ {W S : Type 0} (printing : Printing) (Stands : W → S → Type 0) (Obeys : S → Command Data → Response → S → Type 0) (Closes : S → Response → Type 0) (start : S) (commands : List (Command Data)) where
   pub demo_closed : (now : W) (r0 r1 : Bool) (status : Status) (before middle after : Output) → Continues printing (ObeysThrough Obeys Stands now start commands) r0 r1 before middle
       → Ended printing (ClosedBy Stands Closes now) NeverTaken (ClosedOrNot Stands Closes now) r1 status middle after
       → Ended printing (ObeysAll Obeys Closes start commands) NeverTaken (ObeysSome Obeys Closes start commands) r0 status before after

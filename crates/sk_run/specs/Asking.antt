@@ -1,14 +1,11 @@
 -- What a find and a show are answered.
-use Rattle.std.specs.Prelude.{◌≡◌, ℕ, ◌+◌, ◌≤◌, List, Result, Ok, Err}
+use Rattle.std.specs.Prelude.{◌≡◌, ℕ, ◌+◌, ◌≤◌, Result, Ok, Err}
 use Rattle.serde_json.specs.Written.{compact_text}
-use Rattle.sk_base.specs.declared.find.Join.{Join}
 use Rattle.sk_base.specs.declared.report.Report.{Report}
-use Rattle.sk_base.specs.declared.schema.Field.{Field}
 use Rattle.sk_query.specs.Trees.{Tree}
 use Rattle.sk_query_json.specs.Writing.{json_of}
 use Rattle.sk_parser.specs.declared.asked.AskError.{AskError}
 use Rattle.sk_parser.specs.declared.asked.AskError.TheVariants.{BadQuery, BadTree, NoMemory}
-use Rattle.sk_parser.specs.Asked.{text_asked}
 use Rattle.sk_run.specs.declared.refusal.Refusal.TheVariants as Refusal
 use Rattle.sk_run.specs.declared.response.Response.{Response}
 use Rattle.sk_run.specs.declared.response.Response.TheVariants as Response
@@ -45,7 +42,3 @@ IsFound Allows first answer = (report : Report) × Allows report × (answer ≡ 
 -- The query of a text is shown as the compact text of its JSON value.
 abbrev pub IsShown : Tree → Response → Type 0
 IsShown query answer = answer ≡ Response.Query (compact_text (json_of query))
-
--- What a line that asks to show the query of a text is answered: a text with a fault is refused for it.
-abbrev pub Shown : List Field → Join → List ℕ → Response → Type 0
-Shown fields join text answer = AnswersAsk IsShown (text_asked fields join text) answer

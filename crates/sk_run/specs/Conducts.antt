@@ -1,61 +1,70 @@
 -- What a command and a line may be answered, over a store of some conduct.
-use Rattle.std.specs.Prelude.{◌≡◌, ℕ, List, length, Option, Some, None}
+use Rattle.std.specs.Prelude.{◌≡◌, ℕ, Bool, true, false, List, length, Option, Some, None}
 use Rattle.std.specs.Option.{option_map}
+use Rattle.serde_json.specs.Data.{Data}
 use Rattle.sk_base.specs.declared.command.Command.{Command}
-use Rattle.sk_base.specs.declared.find.Find.{Find}
+use Rattle.sk_base.specs.declared.command.Question.{Question}
+use Rattle.sk_base.specs.declared.find.Paging.{Paging}
 use Rattle.sk_base.specs.declared.find.Join.{Join}
 use Rattle.sk_base.specs.declared.record.Edit.{Edit}
 use Rattle.sk_base.specs.declared.record.Reply.{Reply}
 use Rattle.sk_base.specs.declared.report.Report.{Report}
-use Rattle.sk_base.specs.declared.schema.Field.{Field}
+use Rattle.sk_base.specs.declared.schema.Schema.{Schema}
 use Rattle.sk_query.specs.Trees.{Tree}
-use Rattle.sk_record.specs.Told.{told_by}
 use Rattle.sk_model.specs.Edits.{Live, edited, reply_to}
-use Rattle.sk_parser.specs.Asked.{asked}
+use Rattle.sk_parser.specs.Asked.{asked, text_asked}
 use Rattle.sk_run.specs.declared.response.Response.{Response}
 use Rattle.sk_run.specs.Responses.{response_to}
-use Rattle.sk_run.specs.Asking.{AnswersAsk, IsFound, Shown}
+use Rattle.sk_run.specs.Asking.{AnswersAsk, IsFound, IsShown}
 use Rattle.sk_run.specs.declared.machine.Reading.{Reading}
 use Rattle.sk_run.specs.declared.machine.Reading.TheVariants.{Commands, Queries}
-use Rattle.sk_run.specs.Meaning.{Meaning, blank, refusal, told, unread, meaning}
+use Rattle.sk_run.specs.Meaning.{Meaning, blank, refusal, asks, unread, meaning}
 use Rattle.sk_run.specs.Queries.{query_meaning}
 
 -- A store's conduct, by its states under a schema: the state that a schema begins, what an edit is replied and the state that it leaves, the reports that a find of a query may have, and what may close a run.
 pub record Conduct (S : Type 0) : Type 1 where
   pub begun : S
-  pub edits : List Field → S → Edit → Reply → S → Type 0
-  pub finds : S → Find → Tree → Report → Type 0
-  pub closes : List Field → S → Response → Type 0
+  pub edits : Schema → S → Edit → Reply → S → Type 0
+  pub finds : S → Paging → Tree → Report → Type 0
+  pub closes : Schema → S → Response → Type 0
 
 -- The state of a run over a store with states of its own: nothing yet, or the schema that was accepted and the state under it.
 abbrev pub State : Type 0 → Type 0
-State S = Option (List Field × S)
+State S = Option (Schema × S)
 
 -- The schema that was accepted, if any.
-abbrev pub schema_of : {S : Type 0} → State S → Option (List Field)
+abbrev pub schema_of : {S : Type 0} → State S → Option Schema
 schema_of s = option_map (λ p. p.0) s
 
+-- Whether readings may be counted where a question is answered: a find alone reads.
+abbrev pub reads : {T : Type 0} → Question T → Bool
+reads (Question.Find find) = true
+reads (Question.Show text join) = false
+
 module _ {S : Type 0} (conduct : Conduct S) where
-  -- What a command is answered by a store in a state, and the state that it leaves. An edit is answered its reply. A find is answered a report that it may have, where it asks for a query, and else a refusal; and a show the query of its text. They leave the state as it was.
-  abbrev pub Does : List Field → S → Command → Response → S → Type 0
-  Does fields s (Command.Schema given) answer next = ⊥
-  Does fields s (Command.Edit edit) answer next = (reply : Reply) × conduct.edits fields s edit reply next × (answer ≡ response_to reply)
-  Does fields s (Command.Find find) answer next = AnswersAsk (λ query found. IsFound (conduct.finds s find query) find.options.first found) (asked fields find.ask) answer × (next ≡ s)
-  Does fields s (Command.Show text join) answer next = Shown fields join text answer × (next ≡ s)
+  -- What a question is answered by a store in a state. A find is answered a report that it may have, where it asks for a query, and a show the query of its text; and each a refusal, where there is no query.
+  abbrev pub AnswersQuestion : Schema → Question Data → S → Response → Type 0
+  AnswersQuestion schema (Question.Find find) s answer = AnswersAsk (λ query found. IsFound (conduct.finds s find.paging query) find.paging.options.first found) (asked schema find.ask) answer
+  AnswersQuestion schema (Question.Show text join) s answer = AnswersAsk IsShown (text_asked schema join text) answer
+
+  -- What a command is answered by a store in a state, and the state that it leaves: an edit its reply, and a question its answer, which leaves the state as it was.
+  abbrev pub Does : Schema → S → Command Data → Response → S → Type 0
+  Does schema s (Command.Schema given) answer next = ⊥
+  Does schema s (Command.Edit edit) answer next = (reply : Reply) × conduct.edits schema s edit reply next × (answer ≡ response_to reply)
+  Does schema s (Command.Ask question) answer next = AnswersQuestion schema question s answer × (next ≡ s)
 
   -- What a command is answered, and the state that it leaves: a schema begins a store, and every other command is the store's.
-  abbrev pub Obeys : State S → Command → Response → State S → Type 0
-  Obeys None (Command.Schema fields) answer next = (answer ≡ Response.Schema (length fields)) × (next ≡ Some (fields, conduct.begun))
+  abbrev pub Obeys : State S → Command Data → Response → State S → Type 0
+  Obeys None (Command.Schema schema) answer next = (answer ≡ Response.Schema (length schema.fields)) × (next ≡ Some (schema, conduct.begun))
   Obeys None (Command.Edit edit) answer next = ⊥
-  Obeys None (Command.Find find) answer next = ⊥
-  Obeys None (Command.Show text join) answer next = ⊥
+  Obeys None (Command.Ask question) answer next = ⊥
   Obeys (Some s) command answer next = (after : S) × Does s.0 s.1 command answer after × (next ≡ Some (s.0, after))
 
-  -- What a line of this meaning is answered. A blank line and a refused one leave the state as it was. A line that tells something is obeyed as the command that tells it.
+  -- What a line of this meaning is answered. A blank line and a refused one leave the state as it was. A command is obeyed.
   abbrev pub AnswersMeaning : State S → Meaning → Response → State S → Type 0
   AnswersMeaning s blank answer next = (answer ≡ Response.Skipped) × (next ≡ s)
   AnswersMeaning s (refusal why) answer next = (answer ≡ Response.Refused why) × (next ≡ s)
-  AnswersMeaning s (told it) answer next = (c : Command) × (it ≡ told_by c) × Obeys s c answer next
+  AnswersMeaning s (asks command) answer next = Obeys s command answer next
   AnswersMeaning s unread answer next = ⊥
 
   -- In this state the line may be answered so, and leaves that state.
@@ -77,9 +86,9 @@ module _ {S : Type 0} (conduct : Conduct S) where
   Closes (Some s) answer = conduct.closes s.0 s.1 answer
 
 -- What an edit is replied over live documents, and the documents that it leaves.
-abbrev pub EditsLive : List Field → Live → Edit → Reply → Live → Type 0
-EditsLive fields live edit reply next = (reply ≡ reply_to live edit) × (next ≡ edited fields live edit)
+abbrev pub EditsLive : Schema → Live → Edit → Reply → Live → Type 0
+EditsLive schema live edit reply next = (reply ≡ reply_to live edit) × (next ≡ edited schema live edit)
 
 -- Nothing is put at the end.
-abbrev pub ClosesSilently : {S : Type 0} → List Field → S → Response → Type 0
-ClosesSilently fields s answer = answer ≡ Response.Skipped
+abbrev pub ClosesSilently : {S : Type 0} → Schema → S → Response → Type 0
+ClosesSilently schema s answer = answer ≡ Response.Skipped

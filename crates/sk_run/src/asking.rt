@@ -1,13 +1,18 @@
 //! What is answered where a query is asked for.
-ghost use Rattle.std.specs.Prelude.{◌≡◌, ◌≤◌, ◌+◌, length, IfOk};
-ghost use Rattle.sk_base.specs.Records.{FitsFind};
-ghost use Rattle.sk_parser.specs.Asked.{asked};
+ghost use Rattle.std.specs.Prelude.{◌≡◌, ◌≤◌, ◌+◌, false, length, IfOk};
+ghost use Rattle.serde_json.specs.View.{view};
+ghost use Rattle.sk_base.specs.declared.command.Question.TheVariants as Question;
+ghost use Rattle.sk_base.specs.Commands.{FitsQuestion, question_over};
+ghost use Rattle.sk_base.specs.Finds.{FitsFind, find_over};
+ghost use Rattle.sk_parser.specs.Asked.{text_asked};
 ghost use Rattle.sk_run.specs.Responses.{steps_of};
-ghost use Rattle.sk_run.specs.Asking.{RefusedFor, AnswersAsk, IsFound, Shown};
+ghost use Rattle.sk_run.specs.Asking.{RefusedFor, AnswersAsk, IsShown};
+ghost use Rattle.sk_run.specs.Conducts.{reads, AnswersQuestion};
 
 use crate::{Refusal, Response, Store};
+use serde_json::Value;
+use sk_base::{Find, Join, Question, Schema, Text};
 use sk_parser::{AskError, text_query};
-use sk_base::{Find, Join, Schema, Text};
 use sk_query_json::text as compact_text;
 use sk_steps::Steps;
 use std::alloc::{AllocError, Global};
@@ -25,34 +30,58 @@ fn refused(why: AskError) -> Result<Response, AllocError>
     }
 }
 
+/// What a question is answered over a store.
+pub(crate) fn answer_question<M: Store, L: Ledger>(
+    alloc: Global,
+    store: &M,
+    question: &Question<Value>,
+    steps: &mut Steps<L>,
+) -> Result<Response, AllocError>
+    requires { FitsQuestion question.now }
+    ensures answer { IfOk result (λ answer. (s : M.State) → M.holds store.now s → AnswersQuestion M.conduct (M.under store.now) (question_over view question.now) s answer) }
+    ensures cost { IfOk result (λ answer. steps.new ≡ steps.old + steps_of answer) }
+    ensures later { steps.old ≤ steps.new }
+    ensures still { reads question.now ≡ false → steps.new ≡ steps.old }
+{
+    match question {
+        Question::Find(find) => found(store, find, steps),
+        Question::Show(text, join) => shown(alloc, store.schema(), *join, text.as_str()),
+    }
+}
+
+/// Whether readings may be counted where a question is answered: a find alone reads.
+pub(crate) fn reads(question: &Question<Value>) -> bool
+    ensures { result ≡ reads question.now }
+{
+    match question {
+        Question::Find(_) => true,
+        Question::Show(_, _) => false,
+    }
+}
+
 /// What a find is answered over a store.
 #[tactic(auto, using(crate::proofs::AskLemmas::found, crate::proofs::AskLemmas::not_found))]
-pub(crate) fn found<M: Store, L: Ledger>(
+fn found<M: Store, L: Ledger>(
     store: &M,
-    find: &Find,
+    find: &Find<Value>,
     steps: &mut Steps<L>,
 ) -> Result<Response, AllocError>
     requires { FitsFind find.now }
-    ensures answer { IfOk result (λ answer. (s : M.State) → M.holds store.now s → AnswersAsk (λ query. IsFound (M.conduct.finds s find.now query) find.now.options.first) (asked (M.fields store.now) find.now.ask) answer) }
+    ensures answer { IfOk result (λ answer. (s : M.State) → M.holds store.now s → AnswersQuestion M.conduct (M.under store.now) (Question.Find (find_over view find.now)) s answer) }
     ensures cost { IfOk result (λ answer. steps.new ≡ steps.old + steps_of answer) }
     ensures later { steps.old ≤ steps.new }
 {
     match store.find(find, steps) {
-        Ok(report) => Ok(Response::Found(find.options.first, report)),
+        Ok(report) => Ok(Response::Found(find.paging.options.first, report)),
         Err(why) => refused(why),
     }
 }
 
 /// What a line is answered that asks to show the query of a text.
 #[tactic(auto, using(crate::proofs::AskLemmas::refused_for))]
-pub(crate) fn shown(
-    alloc: Global,
-    schema: &Schema,
-    join: Join,
-    text: &str,
-) -> Result<Response, AllocError>
+fn shown(alloc: Global, schema: &Schema, join: Join, text: &str) -> Result<Response, AllocError>
     requires { length text.now ≤ 1048576 }
-    ensures answer { IfOk result (λ answer. Shown schema.now join text.now answer) }
+    ensures answer { IfOk result (AnswersAsk IsShown (text_asked schema.now join text.now)) }
     ensures free { IfOk result (λ answer. steps_of answer ≡ 0) }
 {
     match text_query(alloc, schema, join, text) {

@@ -1,6 +1,8 @@
 //! The commands of a demonstration.
 ghost use Rattle.std.specs.Prelude.{◌≡◌, false, ◌<◌, ◌≤◌, ◌^◌, ◌+◌, ◌%◌, ℕ, List, codes, decimal, ◌++◌, Some, None, IfOk, IfErr, OnOk, string_bytes};
-ghost use Rattle.sk_base.specs.declared.command.Command.{Command};
+ghost use Rattle.serde_json.specs.View.{view};
+ghost use Rattle.sk_base.specs.Commands.{command_over};
+ghost use Rattle.sk_base.specs.Finds.{find_over};
 ghost use Rattle.sk_run.specs.declared.response.Printing.TheVariants as Printing;
 ghost use Rattle.sk_run.specs.declared.response.Response.{Response};
 ghost use Rattle.sk_run.specs.declared.status.Status.{Status};
@@ -10,27 +12,22 @@ ghost use Rattle.sk_run.specs.Conducts.{State, Obeys};
 ghost use Rattle.sk_run.specs.Ended.{Ended, Continues, NotWhole};
 ghost use Rattle.sk_run.specs.Closing.{NeverTaken};
 ghost use Rattle.sk_run.specs.Obeying.{ObeysFirst, ObeysThrough};
-ghost use Rattle.sk_run.specs.Demos.{demo_fields, alls, demo_body, demo_record, three_by, demo_find, demo_command, demo_commands};
-ghost use Rattle.sk_run.specs.Queries.{by_relevance};
+ghost use Rattle.sk_run.specs.Demos.{demo_schema, alls, demo_body, demo_record, three_by, demo_find, demo_command, demo_commands};
 
 use crate::line::answer_request;
 use crate::request::Request;
 use crate::waiting::Waiting;
 use crate::{Machine, Printing, Status, Store};
+use serde_json::Value;
 use sk_base::{
     Ask, Collapse, Command, Edit, Entry, Field, FieldKind, FieldValue, Find, Items, Join, Options,
-    Order, OrderBy, Record, Schema, Scheme, SortKey, Text,
+    Order, OrderBy, Paging, Question, Record, Schema, SortKey, Text, default_options,
+    default_paging,
 };
 use sk_io::Sink;
 use sk_steps::Steps;
 use std::alloc::{AllocError, Global};
 use std::sync::ledger::Ledger;
-
-/// What is found by relevance.
-const BY_RELEVANCE: Order = Order {
-    by: OrderBy::Relevance,
-    falling: false,
-};
 
 /// Obeys the commands of a demonstration with so many documents, each made when the one before it was obeyed. The
 /// answer is the machine behind them, and whether a command was refused, or why not all were obeyed.
@@ -42,7 +39,7 @@ pub(crate) fn obey_demo<M: Store, K: Sink, L: Ledger>(
 ) -> Result<(Machine<M>, bool), Status>
     requires { documents < 2 ^ 32 }
     ensures ok { IfOk result (λ p. Continues Printing.WithoutOk
-        (ObeysThrough (Obeys M.conduct) (IsAt M.fields M.holds) p.0 None (demo_commands documents)) false p.1
+        (ObeysThrough (Obeys M.conduct) (IsAt M.under M.holds) p.0 None (demo_commands documents)) false p.1
         (output_at (K.seen output.old) steps.old)
         (output_at (K.seen output.new) steps.new)) }
     ensures err { IfErr result (λ status. Ended Printing.WithoutOk
@@ -79,8 +76,12 @@ pub(crate) fn obey_demo<M: Store, K: Sink, L: Ledger>(
 
 /// The command at a place, from 0, of a demonstration with so many documents: the schema, the documents from 1 on, and
 /// the finds.
-pub fn demo_command(alloc: Global, documents: usize, place: usize) -> Result<Command, AllocError>
-    ensures { IfOk result (λ command. command ≡ demo_command documents place) }
+pub fn demo_command(
+    alloc: Global,
+    documents: usize,
+    place: usize,
+) -> Result<Command<Value>, AllocError>
+    ensures { IfOk result (λ command. command_over view command ≡ demo_command documents place) }
 {
     if place == 0 {
         let schema = demo_schema(alloc)?;
@@ -91,12 +92,12 @@ pub fn demo_command(alloc: Global, documents: usize, place: usize) -> Result<Com
         return Ok(Command::Edit(Edit::Add(record)));
     }
     let find = demo_find(alloc, place - documents - 1)?;
-    Ok(Command::Find(find))
+    Ok(Command::Ask(Question::Find(find)))
 }
 
 /// A text, a number and a word.
 fn demo_schema(alloc: Global) -> Result<Schema, AllocError>
-    ensures { IfOk result (λ schema. schema ≡ demo_fields) }
+    ensures { IfOk result (λ schema. schema ≡ demo_schema) }
 {
     let mut fields = Vec::new(alloc);
     fields.push(Field {
@@ -172,17 +173,17 @@ fn demo_site(alloc: Global, number: usize) -> Result<Text, AllocError>
 }
 
 /// The find at a place, from 0.
-fn demo_find(alloc: Global, place: usize) -> Result<Find, AllocError>
-    ensures { IfOk result (λ find. find ≡ demo_find place) }
+fn demo_find(alloc: Global, place: usize) -> Result<Find<Value>, AllocError>
+    ensures { IfOk result (λ find. find_over view find ≡ demo_find place) }
 {
     match place {
-        0 => three_by(alloc, "all", BY_RELEVANCE, None),
-        1 => three_by(alloc, "d3 h3", BY_RELEVANCE, None),
-        2 => three_by(alloc, "all AND k7", BY_RELEVANCE, None),
+        0 => three_by(alloc, "all", default_paging().order, None),
+        1 => three_by(alloc, "d3 h3", default_paging().order, None),
+        2 => three_by(alloc, "all AND k7", default_paging().order, None),
         3 => three_by(
             alloc,
             "d1 all",
-            BY_RELEVANCE,
+            default_paging().order,
             Some(Collapse { slot: 1, max: 1 }),
         ),
         _ => three_by(
@@ -206,20 +207,19 @@ fn three_by(
     text: &str,
     order: Order,
     collapse: Option<Collapse>,
-) -> Result<Find, AllocError>
-    ensures { IfOk result (λ find. find ≡ three_by text.now order collapse) }
+) -> Result<Find<Value>, AllocError>
+    ensures { IfOk result (λ find. find_over view find ≡ three_by text.now order collapse) }
 {
     let text = Text::new(alloc, text)?;
     Ok(Find {
         ask: Ask::Text(text, Join::Or),
-        options: Options {
-            scheme: Scheme::Nnn,
-            first: 0,
-            size: 3,
-            check: 0,
-            cutoff: 0,
+        paging: Paging {
+            options: Options {
+                size: 3,
+                ..default_options()
+            },
+            order,
+            collapse,
         },
-        order,
-        collapse,
     })
 }

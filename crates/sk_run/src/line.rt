@@ -30,11 +30,11 @@ pub(crate) fn answer_line<M: Store, K: Sink, L: Ledger>(
 ) -> Result<(Machine<M>, bool), Status>
     requires { IsShort (Some line) }
     ensures ok { IfOk result (λ p. Joins printing
-        (λ answer. AnsweredLine (IsAt M.fields M.holds) (AnswersAs M.conduct reading) machine line.entry answer p.0) waiting.old waiting.new p.1
+        (λ answer. AnsweredLine (IsAt M.under M.holds) (AnswersAs M.conduct reading) machine line.entry answer p.0) waiting.old waiting.new p.1
         (output_at (K.seen output.old) steps.old)
         (output_at (K.seen output.new) steps.new)) }
     ensures err { IfErr result (λ status. JoinsNot printing
-        (λ answer. (next : Machine M) × AnsweredLine (IsAt M.fields M.holds) (AnswersAs M.conduct reading) machine line.entry answer next) waiting.old status
+        (λ answer. (next : Machine M) × AnsweredLine (IsAt M.under M.holds) (AnswersAs M.conduct reading) machine line.entry answer next) waiting.old status
         (output_at (K.seen output.old) steps.old)
         (output_at (K.seen output.new) steps.new)) }
 {
@@ -55,14 +55,14 @@ pub(crate) fn answer_request<M: Store, K: Sink, L: Ledger>(
     output: &mut K,
     steps: &mut Steps<L>,
 ) -> Result<(Machine<M>, bool), Status>
-    requires { MayBeAsked (schema_in M.fields machine) request }
+    requires { MayBeAsked (schema_in M.under machine) request }
     ensures ok { IfOk result (λ p. Joins printing
-        (λ answer. AnsweredRequest M.fields M.holds M.conduct machine request answer p.0) waiting.old waiting.new p.1
+        (λ answer. AnsweredRequest M.under M.holds M.conduct machine request answer p.0) waiting.old waiting.new p.1
         (output_at (K.seen output.old) steps.old)
         (output_at (K.seen output.new) steps.new)) }
-    ensures schema { IfOk result (λ p. schema_in M.fields p.0 ≡ schema_after (schema_in M.fields machine) request) }
+    ensures schema { IfOk result (λ p. schema_in M.under p.0 ≡ schema_after (schema_in M.under machine) request) }
     ensures err { IfErr result (λ status. JoinsNot printing
-        (λ answer. (next : Machine M) × AnsweredRequest M.fields M.holds M.conduct machine request answer next) waiting.old status
+        (λ answer. (next : Machine M) × AnsweredRequest M.under M.holds M.conduct machine request answer next) waiting.old status
         (output_at (K.seen output.old) steps.old)
         (output_at (K.seen output.new) steps.new)) }
 {

@@ -2,17 +2,21 @@
 ghost use Rattle.std.specs.Prelude.{◌≡◌, ◌≤◌, ◌+◌, false, IfOk, OnErr, Some, None};
 ghost use Rattle.std.specs.Option.{option_copied};
 ghost use Rattle.sk_base.specs.declared.command.Command.TheVariants as Command;
+ghost use Rattle.serde_json.specs.View.{view};
+ghost use Rattle.sk_base.specs.Commands.{command_over};
 ghost use Rattle.sk_record.specs.Outcome.{MayCome};
+ghost use Rattle.sk_run.specs.declared.request.Request.TheVariants as Request;
 ghost use Rattle.sk_base.specs.Records.{FitsEdit};
 ghost use Rattle.sk_run.specs.Responses.{steps_of};
 ghost use Rattle.sk_run.specs.Conducts.{State, Closes};
 ghost use Rattle.sk_run.specs.Machines.{IsAt, schema_in, schema_behind, Did, Obeyed};
-ghost use Rattle.sk_run.specs.Requests.{MayBeAsked, AnsweredRequest, is_find, may_read, schema_after};
+ghost use Rattle.sk_run.specs.Requests.{MayBeAsked, AnsweredRequest, may_read, schema_after};
 
-use crate::asking::{found, shown};
+use crate::asking::answer_question;
 use crate::request::Request;
 use crate::response::response_to;
 use crate::{Response, Store};
+use serde_json::Value;
 use sk_base::{Command, Edit, Join, Schema};
 use sk_steps::Steps;
 use std::alloc::{AllocError, Global};
@@ -36,7 +40,7 @@ pub struct Machine<M: Drop> {
 impl<M: Store> Machine<M> {
     /// A machine that waits for a schema.
     pub fn new() -> Machine<M>
-        ensures { IsAt M.fields M.holds result None }
+        ensures { IsAt M.under M.holds result None }
     {
         Machine { store: None }
     }
@@ -48,9 +52,9 @@ impl<M: Store> Machine<M> {
         request: Request,
         steps: &mut Steps<L>,
     ) -> Result<(Machine<M>, Response), AllocError>
-        requires { MayBeAsked (schema_in M.fields self) request }
-        ensures answered { IfOk result (λ p. AnsweredRequest M.fields M.holds M.conduct self request p.1 p.0) }
-        ensures schema { IfOk result (λ p. schema_in M.fields p.0 ≡ schema_after (schema_in M.fields self) request) }
+        requires { MayBeAsked (schema_in M.under self) request }
+        ensures answered { IfOk result (λ p. AnsweredRequest M.under M.holds M.conduct self request p.1 p.0) }
+        ensures schema { IfOk result (λ p. schema_in M.under p.0 ≡ schema_after (schema_in M.under self) request) }
         ensures cost { IfOk result (λ p. steps.new ≡ steps.old + steps_of p.1) }
         ensures later { steps.old ≤ steps.new }
         ensures still { OnErr result (may_read request ≡ false → steps.new ≡ steps.old) }
@@ -67,7 +71,7 @@ impl<M: Store> Machine<M> {
 
     /// What is put behind the answers of all lines. It is no reading.
     pub(crate) fn close(self, alloc: Global) -> Result<Response, AllocError>
-        ensures closes { IfOk result (λ answer. (s : State M.State) → IsAt M.fields M.holds self s → Closes M.conduct s answer) }
+        ensures closes { IfOk result (λ answer. (s : State M.State) → IsAt M.under M.holds self s → Closes M.conduct s answer) }
         ensures free { IfOk result (λ answer. steps_of answer ≡ 0) }
     {
         match self.store {
@@ -77,7 +81,7 @@ impl<M: Store> Machine<M> {
     }
 
     pub(crate) fn schema(&self) -> Option<&Schema>
-        ensures { option_copied result ≡ schema_in M.fields self.now }
+        ensures { option_copied result ≡ schema_in M.under self.now }
     {
         match &self.store {
             Some(store) => Some(store.schema()),
@@ -89,15 +93,15 @@ impl<M: Store> Machine<M> {
     fn obey<L: Ledger>(
         self,
         alloc: Global,
-        command: Command,
+        command: Command<Value>,
         steps: &mut Steps<L>,
     ) -> Result<(Machine<M>, Response), AllocError>
-        requires { MayCome (schema_in M.fields self) command }
-        ensures obeyed { IfOk result (λ p. Obeyed M.fields M.holds M.conduct self.store command p.1 p.0) }
-        ensures schema { IfOk result (λ p. schema_in M.fields p.0 ≡ schema_behind (schema_in M.fields self) command) }
+        requires { MayCome (schema_in M.under self) command }
+        ensures obeyed { IfOk result (λ p. Obeyed M.under M.holds M.conduct self.store (command_over view command) p.1 p.0) }
+        ensures schema { IfOk result (λ p. schema_in M.under p.0 ≡ schema_behind (schema_in M.under self) command) }
         ensures cost { IfOk result (λ p. steps.new ≡ steps.old + steps_of p.1) }
         ensures later { steps.old ≤ steps.new }
-        ensures still { OnErr result (is_find command ≡ false → steps.new ≡ steps.old) }
+        ensures still { OnErr result (may_read (Request.Asks command) ≡ false → steps.new ≡ steps.old) }
     {
         match (self.store, command) {
             (None, Command::Schema(schema)) => {
@@ -118,8 +122,8 @@ fn accept_schema<M: Store>(
     alloc: Global,
     schema: Schema,
 ) -> Result<(Machine<M>, Response), AllocError>
-    ensures obeyed { IfOk result (λ p. Obeyed M.fields M.holds M.conduct None (Command.Schema schema) p.1 p.0) }
-    ensures schema { IfOk result (λ p. schema_in M.fields p.0 ≡ Some schema) }
+    ensures obeyed { IfOk result (λ p. Obeyed M.under M.holds M.conduct None (Command.Schema schema) p.1 p.0) }
+    ensures schema { IfOk result (λ p. schema_in M.under p.0 ≡ Some schema) }
     ensures cost { IfOk result (λ p. steps_of p.1 ≡ 0) }
 {
     let fields = schema.fields().len();
@@ -131,25 +135,21 @@ fn accept_schema<M: Store>(
 fn obey<M: Store, L: Ledger>(
     alloc: Global,
     store: M,
-    command: Command,
+    command: Command<Value>,
     steps: &mut Steps<L>,
 ) -> Result<(M, Response), AllocError>
-    requires { MayCome (Some (M.fields store)) command }
-    ensures did { IfOk result (λ p. Did M.fields M.holds M.conduct store command p.1 p.0) }
-    ensures schema { IfOk result (λ p. M.fields p.0 ≡ M.fields store) }
+    requires { MayCome (Some (M.under store)) command }
+    ensures did { IfOk result (λ p. Did M.under M.holds M.conduct store (command_over view command) p.1 p.0) }
+    ensures schema { IfOk result (λ p. M.under p.0 ≡ M.under store) }
     ensures cost { IfOk result (λ p. steps.new ≡ steps.old + steps_of p.1) }
     ensures later { steps.old ≤ steps.new }
-    ensures still { OnErr result (is_find command ≡ false → steps.new ≡ steps.old) }
+    ensures still { OnErr result (may_read (Request.Asks command) ≡ false → steps.new ≡ steps.old) }
 {
     match command {
         Command::Schema(_) => unreachable!(),
         Command::Edit(edit) => apply(store, edit),
-        Command::Find(find) => {
-            let response = found(&store, &find, steps)?;
-            Ok((store, response))
-        }
-        Command::Show(text, join) => {
-            let response = shown(alloc, store.schema(), join, text.as_str())?;
+        Command::Ask(question) => {
+            let response = answer_question(alloc, &store, &question, steps)?;
             Ok((store, response))
         }
     }
@@ -157,9 +157,9 @@ fn obey<M: Store, L: Ledger>(
 
 /// Changes the documents of a store.
 fn apply<M: Store>(store: M, edit: Edit) -> Result<(M, Response), AllocError>
-    requires { FitsEdit (M.fields store) edit }
-    ensures did { IfOk result (λ p. Did M.fields M.holds M.conduct store (Command.Edit edit) p.1 p.0) }
-    ensures schema { IfOk result (λ p. M.fields p.0 ≡ M.fields store) }
+    requires { FitsEdit (M.under store) edit }
+    ensures did { IfOk result (λ p. Did M.under M.holds M.conduct store (Command.Edit edit) p.1 p.0) }
+    ensures schema { IfOk result (λ p. M.under p.0 ≡ M.under store) }
     ensures cost { IfOk result (λ p. steps_of p.1 ≡ 0) }
 {
     let (store, reply) = store.apply(edit)?;

@@ -5,10 +5,14 @@ ghost use Rattle.sk_io.specs.LineText.{most_line};
 ghost use Rattle.sk_io.specs.Answers.{IsShort};
 ghost use Rattle.sk_run.specs.Meaning.{is_blank, meaning};
 ghost use Rattle.sk_run.specs.Queries.{find_by, query_meaning};
+ghost use Rattle.serde_json.specs.View.{view};
+ghost use Rattle.sk_base.specs.Finds.{find_over};
 ghost use Rattle.sk_run.specs.Requests.{meant, meaning_as, AsksFor, MayBeAsked, may_read};
 
+use crate::asking::reads;
 use crate::{Reading, Refusal};
-use sk_base::{Ask, Command, Find, Join, Options, Order, OrderBy, Schema, Scheme, Text};
+use serde_json::Value;
+use sk_base::{Ask, Command, Find, Join, Question, Schema, Text, default_paging};
 use sk_io::Line;
 use sk_record::{LineFault, command};
 use std::alloc::{AllocError, Global};
@@ -19,15 +23,18 @@ pub(crate) enum Request {
     /// A blank line asks for nothing.
     Blank,
     Refused(Refusal),
-    Asks(Command),
+    Asks(Command<Value>),
 }
 
 impl Request {
-    /// Whether readings may be counted where it is followed: a find alone reads.
+    /// Whether it is a question that reads.
     pub(crate) fn may_read(&self) -> bool
         ensures { result ≡ may_read self.now }
     {
-        matches!(self, Request::Asks(Command::Find(_)))
+        match self {
+            Request::Asks(Command::Ask(question)) => reads(question),
+            _ => false,
+        }
     }
 }
 
@@ -106,31 +113,20 @@ fn query_request(
     match str::from_utf8(line) {
         Ok(text) => {
             let find = find_by(alloc, join, text)?;
-            Ok(Request::Asks(Command::Find(find)))
+            Ok(Request::Asks(Command::Ask(Question::Find(find))))
         }
         Err(_) => Ok(Request::Refused(Refusal::BadShape)),
     }
 }
 
-/// The find of a text, with the options that a find has which says none.
-fn find_by(alloc: Global, join: Join, text: &str) -> Result<Find, AllocError>
-    ensures { IfOk result (λ find. find ≡ find_by join text.now) }
+/// The find of a text, with the page of a find that says nothing of it.
+fn find_by(alloc: Global, join: Join, text: &str) -> Result<Find<Value>, AllocError>
+    ensures { IfOk result (λ find. find_over view find ≡ find_by join text.now) }
 {
     let text = Text::new(alloc, text)?;
     Ok(Find {
         ask: Ask::Text(text, join),
-        options: Options {
-            scheme: Scheme::Nnn,
-            first: 0,
-            size: 10,
-            check: 0,
-            cutoff: 0,
-        },
-        order: Order {
-            by: OrderBy::Relevance,
-            falling: false,
-        },
-        collapse: None,
+        paging: default_paging(),
     })
 }
 

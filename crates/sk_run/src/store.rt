@@ -1,7 +1,9 @@
 //! What a run changes and searches.
-ghost use Rattle.std.specs.Prelude.{◌≡◌, List, IfOk};
-ghost use Rattle.sk_base.specs.declared.schema.Field.{Field};
-ghost use Rattle.sk_base.specs.Records.{FitsEdit, FitsFind};
+ghost use Rattle.std.specs.Prelude.{◌≡◌, IfOk};
+ghost use Rattle.sk_base.specs.declared.schema.Schema.{Schema};
+ghost use Rattle.serde_json.specs.View.{view};
+ghost use Rattle.sk_base.specs.Finds.{FitsFind, ask_over};
+ghost use Rattle.sk_base.specs.Records.{FitsEdit};
 ghost use Rattle.sk_parser.specs.Asked.{asked};
 ghost use Rattle.sk_run.specs.Conducts.{Conduct};
 ghost use Rattle.sk_run.specs.Asking.{Tells, Counts};
@@ -9,16 +11,17 @@ ghost use Rattle.sk_run.specs.Lines.{Meets};
 ghost use Rattle.sk_run.specs.Responses.{steps_of};
 
 use crate::Response;
-use sk_parser::AskError;
+use serde_json::Value;
 use sk_base::{Edit, Find, Reply, Report, Schema};
+use sk_parser::AskError;
 use sk_steps::Steps;
 use std::alloc::{AllocError, Global};
 use std::sync::ledger::Ledger;
 
 /// Documents under one schema, and what else a run keeps under it.
 pub trait Store: Drop {
-    // The fields of its schema.
-    ghost fields: { Self → List Field };
+    // The schema that it is under.
+    ghost under: { Self → Schema };
 
     // Its states under a schema.
     ghost State: { Type 0 };
@@ -31,26 +34,26 @@ pub trait Store: Drop {
 
     /// A store without documents.
     fn new(alloc: Global, schema: Schema) -> Result<Self, AllocError>
-        ensures schema { IfOk result (λ store. fields store ≡ schema) }
+        ensures schema { IfOk result (λ store. under store ≡ schema) }
         ensures holds { IfOk result (λ store. holds store conduct.begun) };
 
     fn schema(&self) -> &Schema
-        ensures { result.now ≡ fields self.now };
+        ensures { result.now ≡ under self.now };
 
     /// Changes the documents. Where memory runs out the store is given up.
     fn apply(self, edit: Edit) -> Result<(Self, Reply), AllocError>
-        requires { FitsEdit (fields self) edit }
-        ensures edits { IfOk result (λ p. (s : State) → holds self s → Meets holds (conduct.edits (fields self) s edit p.1) p.0) }
-        ensures schema { IfOk result (λ p. fields p.0 ≡ fields self) };
+        requires { FitsEdit (under self) edit }
+        ensures edits { IfOk result (λ p. (s : State) → holds self s → Meets holds (conduct.edits (under self) s edit p.1) p.0) }
+        ensures schema { IfOk result (λ p. under p.0 ≡ under self) };
 
     /// The report of a find, or why there is none. The counter rises by the steps of the report.
-    fn find<L: Ledger>(&self, find: &Find, steps: &mut Steps<L>) -> Result<Report, AskError>
+    fn find<L: Ledger>(&self, find: &Find<Value>, steps: &mut Steps<L>) -> Result<Report, AskError>
         requires { FitsFind find.now }
-        ensures tells { (s : State) → holds self.now s → Tells (conduct.finds s find.now) (asked (fields self.now) find.now.ask) result }
+        ensures tells { (s : State) → holds self.now s → Tells (conduct.finds s find.now.paging) (asked (under self.now) (ask_over view find.now.ask)) result }
         ensures counts { Counts result steps.old steps.new };
 
     /// What is put at the end of a run. It is no reading.
     fn close(self, alloc: Global) -> Result<Response, AllocError>
-        ensures closes { IfOk result (λ answer. (s : State) → holds self s → conduct.closes (fields self) s answer) }
+        ensures closes { IfOk result (λ answer. (s : State) → holds self s → conduct.closes (under self) s answer) }
         ensures free { IfOk result (λ answer. steps_of answer ≡ 0) };
 }

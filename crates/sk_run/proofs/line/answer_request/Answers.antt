@@ -9,12 +9,12 @@ use Rattle.sk_run.proofs.line.answer_request.Goals as goal
 pub returns-in_default-clause-err : goal.returns-in_default-clause-err
 returns-in_default-clause-err g c =
     fails_first c.args.printing
-    (λ answer. (next : Machine g.row.M.Denot) × AnsweredRequest g.M.Store.fields g.M.Store.holds g.M.Store.conduct c.args.machine c.args.request answer next) _ _ _ c.in_default.ensures.err refl c.put_unless.ensures.finishes (c.in_default.ensures.cause.failed refl)
+    (λ answer. (next : Machine g.row.M.Denot) × AnsweredRequest g.M.Store.under g.M.Store.holds g.M.Store.conduct c.args.machine c.args.request answer next) _ _ _ c.in_default.ensures.err refl c.put_unless.ensures.finishes (c.in_default.ensures.cause.failed refl)
 
 pub returns-in_default-answer-clause-err : goal.returns-in_default-answer-clause-err
 returns-in_default-answer-clause-err g c =
     lacks_answer c.args.printing
-    (λ answer. (next : Machine g.row.M.Denot) × AnsweredRequest g.M.Store.fields g.M.Store.holds g.M.Store.conduct c.args.machine c.args.request answer next) _ _ (output_at (g.K.Sink.seen c.args.output.now) c.args.steps.now)
+    (λ answer. (next : Machine g.row.M.Denot) × AnsweredRequest g.M.Store.under g.M.Store.holds g.M.Store.conduct c.args.machine c.args.request answer next) _ _ (output_at (g.K.Sink.seen c.args.output.now) c.args.steps.now)
     (output_at (g.K.Sink.seen c.put_unless.new.output) c.answer.new.steps)
     c.in-Ok.ensures.ok c.put_unless.ensures.finishes c.put_unless.ensures.cause.later c.may_read-stays.result c.put_last.result
     (output_at (g.K.Sink.seen c.put_last.new.output) c.answer.new.steps)
@@ -24,7 +24,7 @@ returns-in_default-answer-clause-err g c =
 pub returns-in_default-text_under-clause-err : goal.returns-in_default-text_under-clause-err
 returns-in_default-text_under-clause-err g c =
     lacks_text c.args.printing
-    (λ answer. (next : Machine g.row.M.Denot) × AnsweredRequest g.M.Store.fields g.M.Store.holds g.M.Store.conduct c.args.machine c.args.request answer next) _ _ (output_at (g.K.Sink.seen c.args.output.now) c.args.steps.now)
+    (λ answer. (next : Machine g.row.M.Denot) × AnsweredRequest g.M.Store.under g.M.Store.holds g.M.Store.conduct c.args.machine c.args.request answer next) _ _ (output_at (g.K.Sink.seen c.args.output.now) c.args.steps.now)
     (output_at (g.K.Sink.seen c.put_unless.new.output) c.answer.new.steps)
     c.in-Ok.ensures.ok c.put_unless.ensures.finishes c.put_unless.ensures.cause.later c.put_last-in_default-text_under.result
     (output_at (g.K.Sink.seen c.put_last-in_default-text_under.new.output) c.answer.new.steps)
@@ -33,7 +33,7 @@ returns-in_default-text_under-clause-err g c =
 pub returns-in_default-join-clause-err : goal.returns-in_default-join-clause-err
 returns-in_default-join-clause-err g c =
     fails_joined c.args.printing
-    (λ answer. (next : Machine g.row.M.Denot) × AnsweredRequest g.M.Store.fields g.M.Store.holds g.M.Store.conduct c.args.machine c.args.request answer next) _ _ (output_at (g.K.Sink.seen c.args.output.now) c.args.steps.now)
+    (λ answer. (next : Machine g.row.M.Denot) × AnsweredRequest g.M.Store.under g.M.Store.holds g.M.Store.conduct c.args.machine c.args.request answer next) _ _ (output_at (g.K.Sink.seen c.args.output.now) c.args.steps.now)
     (output_at (g.K.Sink.seen c.put_unless.new.output) c.args.steps.now)
     c.in-Ok.ensures.ok c.put_unless.ensures.finishes c.put_unless.ensures.cause.later
     (output_at (g.K.Sink.seen c.join.new.output) c.answer.new.steps)
@@ -43,7 +43,7 @@ returns-in_default-join-clause-err g c =
 pub returns-clause-ok : goal.returns-clause-ok
 returns-clause-ok g c =
     joined c.args.printing
-    (λ answer. AnsweredRequest g.M.Store.fields g.M.Store.holds g.M.Store.conduct c.args.machine c.args.request answer c.in-Ok-answer.next) _ _ (output_at (g.K.Sink.seen c.args.output.now) c.args.steps.now)
+    (λ answer. AnsweredRequest g.M.Store.under g.M.Store.holds g.M.Store.conduct c.args.machine c.args.request answer c.in-Ok-answer.next) _ _ (output_at (g.K.Sink.seen c.args.output.now) c.args.steps.now)
     (output_at (g.K.Sink.seen c.put_unless.new.output) c.args.steps.now)
     c.in-Ok.ensures.ok c.put_unless.ensures.finishes c.put_unless.ensures.cause.later
     (output_at (g.K.Sink.seen c.join.new.output) c.answer.new.steps)
