@@ -1,13 +1,10 @@
 -- What a run over a session does.
 use Rattle.std.specs.Prelude.{ℕ, List}
-use Rattle.sk_model.specs.Edits.{nothing_live}
 use Rattle.sk_run.specs.declared.status.Status.{Status}
-use Rattle.sk_run.specs.FindAnswers.{answer_text, is_refused, steps_in, Shown}
-use Rattle.sk_run.specs.Output.{DoesOnLive, ClosesSilently}
 use Rattle.sk_run.specs.Outsides.{Outside}
 use Rattle.sk_run.specs.Ran.{Ran}
-use Rattle.sk_engine.specs.Finds.{Shows}
+use Rattle.sk_engine.specs.Sessions.{session_conduct}
 
 -- The main theorem, where each command may be answered as edits of documents, finds and shows are: what a run did that was given these words.
 abbrev pub SessionRan : List (List ℕ) → Status → Outside → Outside → Type 0
-SessionRan words status before after = Ran answer_text is_refused steps_in nothing_live (DoesOnLive Shows Shown) ClosesSilently words status before after
+SessionRan words status before after = Ran session_conduct words status before after

@@ -1,32 +1,26 @@
--- What a session holds, and what it answers.
-use Rattle.std.specs.Prelude.{◌≡◌, ℕ, List}
-use Rattle.sk_base.specs.declared.schema.Field.{Field}
-use Rattle.sk_model.specs.Edits.{Live}
+-- What a session holds, and what it may do.
+use Rattle.std.specs.Prelude.{◌≡◌}
+use Rattle.sk_base.specs.declared.find.Paging.{Paging}
+use Rattle.sk_base.specs.declared.report.Report.{Report}
+use Rattle.sk_base.specs.declared.schema.Schema.{Schema}
+use Rattle.sk_query.specs.Trees.{Tree}
+use Rattle.sk_model.specs.Edits.{Live, nothing_live}
+use Rattle.sk_report.specs.Reports.{ReportsFor}
 use Rattle.sk_engine.specs.declared.session.Session.{Session}
-use Rattle.sk_run.specs.declared.refusal.Refusal.TheVariants as Refusal
-use Rattle.sk_run.specs.declared.find_answer.FindAnswer.{FindAnswer}
-use Rattle.sk_run.specs.declared.find_answer.FindAnswer.TheVariants as FindAnswer
-use Rattle.sk_run.specs.declared.response.Response.{Response}
-use Rattle.sk_run.specs.declared.response.Response.TheVariants as Response
-use Rattle.sk_engine.specs.declared.session.Answer.{Answer}
-use Rattle.sk_engine.specs.declared.session.Answer.TheVariants.{Found, BadQuery, BadTree}
+use Rattle.sk_run.specs.Conducts.{Conduct, EditsLive, ClosesSilently}
 
 -- The session holds these live documents: its index does.
 abbrev pub SessionHolds : Session → Live → Type 0
 SessionHolds session live = session.index.live ≡ live
 
--- The fields of a session's schema.
-abbrev pub fields_of : Session → List Field
-fields_of session = session.index.fields
+-- The schema that a session is under.
+abbrev pub schema_of : Session → Schema
+schema_of session = session.index.schema
 
--- The steps that an answer tells of.
-abbrev pub steps_in : Answer → ℕ
-steps_in (Found report) = report.steps
-steps_in (BadQuery kind place) = 0
-steps_in BadTree = 0
+-- The reports that a find of a query may have over these live documents.
+abbrev pub MayFind : Live → Paging → Tree → Report → Type 0
+MayFind live paging query report = ReportsFor query paging live.documents report
 
--- How an answer is printed, the rank of its first hit being `first`.
-abbrev pub response_of : ℕ → Answer → Response FindAnswer
-response_of first (Found report) = Response.Own (FindAnswer.Found first report)
-response_of first (BadQuery kind place) = Response.Own (FindAnswer.BadQuery kind place)
-response_of first BadTree = Response.Own FindAnswer.BadTree
+-- What a session may do: it begins without documents, and nothing is put at the end.
+abbrev pub session_conduct : Conduct Live
+session_conduct = record { begun = nothing_live; edits = EditsLive; finds = MayFind; closes = ClosesSilently }

@@ -8,5 +8,5 @@ mod store;
 
 pub use program::start;
 pub use runs::run;
-pub use session::{Answer, Session};
+pub use session::Session;
 pub use sk_run::Status;

@@ -1,7 +1,6 @@
 //! A program: from its arguments to the number that it ends with.
 ghost use Rattle.std.specs.Prelude.{◌≡◌};
-ghost use Rattle.sk_run.specs.Outsides.{Seen};
-ghost use Rattle.sk_run.specs.Started.{Around, Started};
+ghost use Rattle.sk_run.specs.Started.{around, Started};
 ghost use Rattle.sk_engine.specs.SessionRan.{SessionRan};
 
 use crate::{Session, Status};
@@ -26,9 +25,9 @@ pub fn start<S: Source, R: Source, K: Sink, E: Sink, L: Ledger>(
     requires parts { blank.parts ≡ L.parts }
     requires one { blank.parts ≡ 1 }
     ensures started { Started SessionRan usage.now arguments result
-        (record { input = record { left = S.left input.old; faults = S.faults input.old }; records = record { left = R.left records.old; faults = R.faults records.old }; held = K.held output.old; faults = K.faults output.old; settled = K.settled output.old; finishes = K.finishes output.old })
-        (record { input = record { left = S.left input.new; faults = S.faults input.new }; records = record { left = R.left records.new; faults = R.faults records.new }; held = K.held output.new; faults = K.faults output.new; settled = K.settled output.new; finishes = K.finishes output.new })
-        (E.held errors.old) (E.faults errors.old) (E.held errors.new) (E.faults errors.new) }
+        (around (S.seen input.old) (R.seen records.old) (K.seen output.old))
+        (around (S.seen input.new) (R.seen records.new) (K.seen output.new))
+        (E.seen errors.old) (E.seen errors.new) }
 {
     sk_run::start::<Session, _, _, _, _, L>(
         blank, alloc, usage, arguments, input, records, output, errors,

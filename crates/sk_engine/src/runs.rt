@@ -1,7 +1,7 @@
 //! The run by the words of a program.
 ghost use Rattle.std.specs.Prelude.{◌≡◌, map, string_bytes};
 ghost use Rattle.sk_run.specs.declared.status.Status.TheVariants as Status;
-ghost use Rattle.sk_run.specs.Outsides.{Seen, Output, Outside};
+ghost use Rattle.sk_run.specs.Outsides.{outside_at};
 ghost use Rattle.sk_engine.specs.SessionRan.{SessionRan};
 
 use crate::{Session, Status};
@@ -24,8 +24,8 @@ pub fn run<S: Source, R: Source, K: Sink, L: Ledger>(
     // The main theorem: `Ran` of `sk_run`, over what a session may answer (`SessionRan`), says what each status
     // means, and what was read, put, settled and counted by then.
     ensures ran { SessionRan (map string_bytes words.now) result
-        (record { input = record { left = S.left input.old; faults = S.faults input.old }; records = record { left = R.left records.old; faults = R.faults records.old }; output = record { held = K.held output.old; faults = K.faults output.old; settled = K.settled output.old; finishes = K.finishes output.old; steps = steps.old } })
-        (record { input = record { left = S.left input.new; faults = S.faults input.new }; records = record { left = R.left records.new; faults = R.faults records.new }; output = record { held = K.held output.new; faults = K.faults output.new; settled = K.settled output.new; finishes = K.finishes output.new; steps = steps.new } }) }
+        (outside_at (S.seen input.old) (R.seen records.old) (K.seen output.old) steps.old)
+        (outside_at (S.seen input.new) (R.seen records.new) (K.seen output.new) steps.new) }
 
     // Words that are no form touch nothing.
     ensures untouched { result ≡ Status.Usage → (input.new ≡ input.old) × (records.new ≡ records.old) × (output.new ≡ output.old) }

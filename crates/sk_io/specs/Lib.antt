@@ -1,3 +1,4 @@
+pub mod Seen
 pub mod Causes
 pub mod Fronts
 pub mod Memory

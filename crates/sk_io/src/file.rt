@@ -72,9 +72,7 @@ fn read_opened<F: std::io::Read + Drop>(
 }
 
 impl<'a, R: Files> Source for LazyFile<'a, R> {
-    ghost left = { λ s. None };
-
-    ghost faults = { file_faults };
+    ghost seen = { λ s. record { left = None; faults = file_faults s } };
 
     fn take(&mut self, buf: &mut [u8]) -> Result<usize, Failed> {
         self.open();

@@ -63,8 +63,8 @@ impl Lines {
         ensures given { HasLineEnd (pending self.old) → self.old.stopped ≡ None → IsGiven result }
         ensures ended { self.old.ended ≡ true → source.new ≡ source.old }
         ensures no_stop { self.old.ended ≡ true → self.old.stopped ≡ None → IsOk result }
-        ensures cause { StopHasCause self.old.stopped (S.faults source.old) (S.faults source.new) result }
-        ensures* after { sem 𝓛 (Rests the_row self.entry (λ new. Reads self.old (S.left source.old) new (S.left source.new) (outcome result))) }
+        ensures cause { StopHasCause self.old.stopped (S.seen source.old).faults (S.seen source.new).faults result }
+        ensures* after { sem 𝓛 (Rests the_row self.entry (λ new. Reads self.old (S.seen source.old).left new (S.seen source.new).left (outcome result))) }
     {
         match self.advance(source) {
             Ok(Found::End) => Ok(None),
@@ -94,14 +94,14 @@ impl Lines {
     }
 
     fn advance<S: Source>(&mut self, source: &mut S) -> Result<Found, LineStop>
-        ensures reads { Reads self.old (S.left source.old) self.new (S.left source.new) (found_outcome self.new result) }
+        ensures reads { Reads self.old (S.seen source.old).left self.new (S.seen source.new).left (found_outcome self.new result) }
         ensures within { IfOk result (IsWithin self.new) }
         ensures untouched { IsSome self.old.stopped → source.new ≡ source.old }
         ensures prompt { HasLineEnd (pending self.old) → source.new ≡ source.old }
         ensures given { HasLineEnd (pending self.old) → self.old.stopped ≡ None → LineIsFound result }
         ensures ended { self.old.ended ≡ true → source.new ≡ source.old }
         ensures no_stop { self.old.ended ≡ true → self.old.stopped ≡ None → IsOk result }
-        ensures cause { StopHasCause self.old.stopped (S.faults source.old) (S.faults source.new) result }
+        ensures cause { StopHasCause self.old.stopped (S.seen source.old).faults (S.seen source.new).faults result }
     {
         if let Some(why) = self.stopped {
             return Err(why);
@@ -112,11 +112,11 @@ impl Lines {
 
     fn find_line<S: Source>(&mut self, source: &mut S) -> Result<Found, LineStop>
         requires { self.old.stopped ≡ None }
-        ensures reads { ReadsOn self.old (S.left source.old) self.new (S.left source.new) (found_outcome self.new result) }
+        ensures reads { ReadsOn self.old (S.seen source.old).left self.new (S.seen source.new).left (found_outcome self.new result) }
         ensures within { IfOk result (IsWithin self.new) }
         ensures prompt { HasLineEnd (pending self.old) → (source.new ≡ source.old) × LineIsFound result }
         ensures ended { self.old.ended ≡ true → (self.new.ended ≡ true) × (source.new ≡ source.old) × IsOk result }
-        ensures cause { FailHasCause (S.faults source.old) (S.faults source.new) result }
+        ensures cause { FailHasCause (S.seen source.old).faults (S.seen source.new).faults result }
     {
         self.drop_given();
         match self.read_end(source) {
@@ -172,10 +172,10 @@ impl Lines {
     fn fill<S: Source>(&mut self, source: &mut S) -> Result<usize, LineStop>
         requires is_open { IsOpen self.old }
         requires space { length self.old.held ≤ MAX_LINE }
-        ensures ok { IfOk result (Fills self.old (S.left source.old) self.new (S.left source.new)) }
-        ensures err { IfErr result (Halts self.old (S.left source.old) self.new (S.left source.new)) }
+        ensures ok { IfOk result (Fills self.old (S.seen source.old).left self.new (S.seen source.new).left) }
+        ensures err { IfErr result (Halts self.old (S.seen source.old).left self.new (S.seen source.new).left) }
         ensures ended { self.old.ended ≡ true → (self.new ≡ self.old) × (source.new ≡ source.old) × (result ≡ Ok 0) }
-        ensures cause { FailHasCause (S.faults source.old) (S.faults source.new) result }
+        ensures cause { FailHasCause (S.seen source.old).faults (S.seen source.new).faults result }
     {
         if self.ended {
             return Ok(0);
@@ -200,11 +200,11 @@ impl Lines {
     /// Takes bytes until the first line's end is held, or the line is too long, or none is left.
     fn read_end<S: Source>(&mut self, source: &mut S) -> Result<LineEnd, LineStop>
         requires { IsOpen self.old }
-        ensures ok { IfOk result (Sought self.old (S.left source.old) self.new (S.left source.new)) }
+        ensures ok { IfOk result (Sought self.old (S.seen source.old).left self.new (S.seen source.new).left) }
         ensures prompt { HasLineEnd self.old.held → (source.new ≡ source.old) × EndIsFound result }
-        ensures err { IfErr result (Halted self.old (S.left source.old) self.new (S.left source.new)) }
+        ensures err { IfErr result (Halted self.old (S.seen source.old).left self.new (S.seen source.new).left) }
         ensures ended { self.old.ended ≡ true → (self.new ≡ self.old) × (source.new ≡ source.old) × IsOk result }
-        ensures cause { FailHasCause (S.faults source.old) (S.faults source.new) result }
+        ensures cause { FailHasCause (S.seen source.old).faults (S.seen source.new).faults result }
     {
         let mut seen = 0;
         'search: loop {
@@ -226,10 +226,10 @@ impl Lines {
     fn skip_line<S: Source>(&mut self, source: &mut S) -> Result<(), LineStop>
         requires is_open { IsOpen self.old }
         requires no_end { NoLineEnd self.old.held }
-        ensures ok { OnOk result (Skips self.old (S.left source.old) self.new (S.left source.new)) }
-        ensures err { IfErr result (Halted self.old (S.left source.old) self.new (S.left source.new)) }
+        ensures ok { OnOk result (Skips self.old (S.seen source.old).left self.new (S.seen source.new).left) }
+        ensures err { IfErr result (Halted self.old (S.seen source.old).left self.new (S.seen source.new).left) }
         ensures ended { self.old.ended ≡ true → (self.new.ended ≡ true) × (source.new ≡ source.old) × IsOk result }
-        ensures cause { FailHasCause (S.faults source.old) (S.faults source.new) result }
+        ensures cause { FailHasCause (S.seen source.old).faults (S.seen source.new).faults result }
     {
         'skip: loop {
             self.drop_held();

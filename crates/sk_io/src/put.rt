@@ -8,11 +8,11 @@ use crate::{Failed, Sink};
 
 /// Puts the whole piece, in as many calls as the sink wants. It takes no memory.
 pub fn put_all<K: Sink>(sink: &mut K, piece: &[u8]) -> Result<(), Failed>
-    ensures ok { OnOk result (Appends (K.held sink.old) (K.held sink.new) piece.now) }
-    ensures err { OnErr result (AppendsPrefix (K.held sink.old) (K.held sink.new) piece.now) }
-    ensures settled { K.settled sink.new ≡ (K.settled sink.old && (length piece.now == 0)) }
-    ensures finishes { K.finishes sink.new ≡ K.finishes sink.old }
-    ensures cause { HasCause (K.faults sink.old) (K.faults sink.new) result }
+    ensures ok { OnOk result (Appends (K.seen sink.old).held (K.seen sink.new).held piece.now) }
+    ensures err { OnErr result (AppendsPrefix (K.seen sink.old).held (K.seen sink.new).held piece.now) }
+    ensures settled { (K.seen sink.new).settled ≡ ((K.seen sink.old).settled && (length piece.now == 0)) }
+    ensures finishes { (K.seen sink.new).finishes ≡ (K.seen sink.old).finishes }
+    ensures cause { HasCause (K.seen sink.old).faults (K.seen sink.new).faults result }
 {
     let mut rest = piece;
     'pieces: while !rest.is_empty() {

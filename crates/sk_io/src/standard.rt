@@ -46,9 +46,7 @@ pub(crate) fn read_some<T: Read>(reader: &mut T, buf: &mut [u8]) -> Result<usize
 }
 
 impl<T: Read + Drop> Source for StdSource<T> {
-    ghost left = { λ s. T.remaining (source_reader s) };
-
-    ghost faults = { source_faults };
+    ghost seen = { λ s. record { left = T.remaining (source_reader s); faults = source_faults s } };
 
     fn take(&mut self, buf: &mut [u8]) -> Result<usize, Failed> {
         let result = read_some(&mut self.reader, buf);
@@ -110,13 +108,7 @@ fn write_some<T: Write>(writer: &mut T, piece: &[u8]) -> Result<usize, Failed>
 }
 
 impl<T: Write + Drop> Sink for StdSink<T> {
-    ghost held = { λ s. T.contents (sink_writer s) };
-
-    ghost faults = { sink_faults };
-
-    ghost finishes = { sink_finishes };
-
-    ghost settled = { sink_settled };
+    ghost seen = { λ s. record { held = T.contents (sink_writer s); faults = sink_faults s; finishes = sink_finishes s; settled = sink_settled s } };
 
     fn put(&mut self, piece: &[u8]) -> Result<usize, Failed> {
         self.done = false;

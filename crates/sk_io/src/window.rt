@@ -63,10 +63,10 @@ impl Window {
     pub(crate) fn fill<S: Source>(&mut self, source: &mut S, most: usize) -> Result<usize, Failed>
         requires some { 0 < most }
         requires space { length self.old ≤ MAX_LINE }
-        ensures ok { IfOk result (TakesMore self.old self.new (S.left source.old) (S.left source.new) most) }
+        ensures ok { IfOk result (TakesMore self.old self.new (S.seen source.old).left (S.seen source.new).left most) }
         ensures err { OnErr result (self.new ≡ self.old) }
-        ensures keeps { OnErr result (Keeps (S.left source.old) (S.left source.new)) }
-        ensures cause { HasCause (S.faults source.old) (S.faults source.new) result }
+        ensures keeps { OnErr result (Keeps (S.seen source.old).left (S.seen source.new).left) }
+        ensures cause { HasCause (S.seen source.old).faults (S.seen source.new).faults result }
     {
         let (start, end) = make_room(&mut self.buffer, self.start, self.end);
         self.start = start;
@@ -117,10 +117,10 @@ fn take_behind<S: Source>(
 ) -> Result<usize, Failed>
     requires some { 0 < most }
     requires fits { end + most ≤ length buffer.old }
-    ensures ok { IfOk result (WritesBehind buffer.old buffer.new (S.left source.old) (S.left source.new) end most) }
+    ensures ok { IfOk result (WritesBehind buffer.old buffer.new (S.seen source.old).left (S.seen source.new).left end most) }
     ensures err { OnErr result (take end buffer.new ≡ take end buffer.old) }
-    ensures keeps { OnErr result (Keeps (S.left source.old) (S.left source.new)) }
-    ensures cause { HasCause (S.faults source.old) (S.faults source.new) result }
+    ensures keeps { OnErr result (Keeps (S.seen source.old).left (S.seen source.new).left) }
+    ensures cause { HasCause (S.seen source.old).faults (S.seen source.new).faults result }
 {
     let n = source.take(&mut buffer[end..end + most])?;
     Ok(n)

@@ -66,13 +66,13 @@ impl Model for Shelf {
 
     ghost Value = { Shelved };
 
-    ghost view = { λ s. record { fields = s.documents.fields; live = s.documents.live } };
+    ghost view = { λ s. record { schema = s.documents.schema; live = s.documents.live } };
 }
 
 impl Shelf {
     /// A shelf without documents.
     pub fn new(alloc: Global, schema: Schema) -> Shelf
-        ensures { result ≡ record { fields = schema; live = nothing_live } }
+        ensures { result ≡ record { schema = schema; live = nothing_live } }
     {
         Shelf {
             documents: Documents::new(alloc, schema, PlainMap::new(alloc)),
@@ -80,7 +80,7 @@ impl Shelf {
     }
 
     pub fn schema(&self) -> &Schema
-        ensures { result.now ≡ self.now.fields }
+        ensures { result.now ≡ self.now.schema }
     {
         self.documents.schema()
     }
@@ -101,10 +101,10 @@ impl Shelf {
 
     /// Changes the documents. Where memory runs out the shelf is given up.
     pub fn apply(self, edit: Edit) -> Result<(Shelf, Reply), AllocError>
-        requires fits { FitsEdit self.fields edit }
-        ensures live { IfOk result (λ p. p.0.live ≡ edited self.fields self.live edit) }
+        requires fits { FitsEdit self.schema edit }
+        ensures live { IfOk result (λ p. p.0.live ≡ edited self.schema self.live edit) }
         ensures reply { IfOk result (λ p. p.1 ≡ reply_to self.live edit) }
-        ensures schema { IfOk result (λ p. p.0.fields ≡ self.fields) }
+        ensures schema { IfOk result (λ p. p.0.schema ≡ self.schema) }
     {
         let Shelf { documents } = self;
         let (documents, reply) = documents.apply(edit)?;

@@ -5,15 +5,23 @@ use Rattle.std.proofs.KnownBytes.{Appends-nil}
 use Rattle.std.proofs.lemmas.Fmt.{length-decimal-le}
 use Rattle.std.proofs.lemmas.List.Sums.{sum_by-append}
 use Rattle.std.proofs.lemmas.Bool.Decides.{nat_tests}
+use Rattle.serde_json.specs.Data.{Data}
 use Rattle.sk_base.specs.declared.command.Command.{Command}
+use Rattle.sk_base.specs.declared.command.Question.{Question}
+use Rattle.sk_base.specs.declared.find.Ask.{Ask}
+use Rattle.sk_base.specs.Commands.{FitsQuestion, question_over, command_over}
 use Rattle.sk_base.specs.declared.record.Edit.TheVariants as Edit
 use Rattle.sk_base.specs.declared.record.Entry.{Entry}
-use Rattle.sk_base.specs.declared.schema.Field.{Field}
+use Rattle.sk_base.specs.declared.schema.Schema.{Schema}
 use Rattle.sk_base.specs.Fields.{IsSchema}
-use Rattle.sk_base.specs.Records.{FitsFind, FitsValues}
+use Rattle.sk_base.specs.Finds.{FitsAsk, FitsFind, ask_over}
+use Rattle.sk_base.specs.Records.{FitsValues}
 use Rattle.sk_record.specs.Outcome.{MayCome}
 use Rattle.sk_io.specs.Causes.{Rose}
 use Rattle.sk_io.specs.Fronts.{AppendsPrefix}
+use Rattle.sk_run.specs.declared.response.Response.{Response}
+use Rattle.sk_run.specs.declared.response.Printing.{Printing}
+use Rattle.sk_run.specs.Responses.{text_under, is_refusal, steps_of}
 use Rattle.sk_run.specs.declared.status.Status.{Status}
 use Rattle.sk_run.specs.Lines.{Meets}
 use Rattle.sk_run.specs.Machines.{schema_behind}
@@ -24,21 +32,21 @@ use Rattle.sk_run.specs.Waiting.{PutsLast, Joins, FailsWithin, FailsToPut, Joins
 use Rattle.sk_run.proofs.WaitingLemmas.{moves_last, moves_prefix, puts_front}
 use Rattle.sk_run.proofs.RunLemmas.{IsPut, none_put, put_more, put_in_part, rose_since}
 use Rattle.sk_run.specs.Obeying.{Obeyings, rest, obey, ObeysFirst, ObeysThrough}
-use Rattle.sk_run.specs.Demos.{demo_fields, alls, demo_body, demo_record, demo_find, demo_command, demo_commands_from, demo_commands}
+use Rattle.sk_run.specs.Demos.{demo_schema, alls, demo_body, demo_record, demo_find, demo_command, demo_commands_from, demo_commands}
 
 -- The schema before the command at a place.
-abbrev pub demo_schema : ℕ → Option (List Field)
-demo_schema place = if place == 0 then None else Some demo_fields
+abbrev pub schema_before : ℕ → Option Schema
+schema_before place = if place == 0 then None else Some demo_schema
 
-schema_fits : IsSchema demo_fields
+schema_fits : IsSchema demo_schema
 schema_fits = record { sound = refl; some = omega arith; few = omega arith }
 
 find_fits : (place : ℕ) → FitsFind (demo_find place)
-find_fits zero = record { ask = omega arith; page = omega arith; collapse = tt }
-find_fits (suc zero) = record { ask = omega arith; page = omega arith; collapse = tt }
-find_fits (suc (suc zero)) = record { ask = omega arith; page = omega arith; collapse = tt }
-find_fits (suc (suc (suc zero))) = record { ask = omega arith; page = omega arith; collapse = omega arith }
-find_fits (suc (suc (suc (suc n)))) = record { ask = omega arith; page = omega arith; collapse = tt }
+find_fits zero = record { ask = omega arith; paging = record { page = omega arith; collapse = tt } }
+find_fits (suc zero) = record { ask = omega arith; paging = record { page = omega arith; collapse = tt } }
+find_fits (suc (suc zero)) = record { ask = omega arith; paging = record { page = omega arith; collapse = tt } }
+find_fits (suc (suc (suc zero))) = record { ask = omega arith; paging = record { page = omega arith; collapse = omega arith } }
+find_fits (suc (suc (suc (suc n)))) = record { ask = omega arith; paging = record { page = omega arith; collapse = tt } }
 
 alls_length : (k : ℕ) → length (alls k) ≡ 4 * k
 alls_length zero = refl
@@ -84,49 +92,73 @@ rising n (suc zero) (suc (suc zero)) d h l = omega arith
 rising n (suc zero) (suc (suc (suc j))) d h l = absurd (omega (arith, l))
 rising n (suc (suc i)) j d h l = absurd (omega (arith, h, l))
 
-record_fits : (i : ℕ) → FitsValues demo_fields (demo_record i).values
+record_fits : (i : ℕ) → FitsValues demo_schema.fields (demo_record i).values
 record_fits i = record { rising = rising i; kinds = refl; small = omega (arith, body_length i, site_length i) }
 
 -- Each command may come behind those before it.
-pub comes : (documents place : ℕ) → MayCome (demo_schema place) (demo_command documents place)
+pub comes : (documents place : ℕ) → MayCome (schema_before place) (demo_command documents place)
 comes documents place =
-    elim (place == 0) as (λ b. MayCome (if b then None else Some demo_fields) (if b then Command.Schema demo_fields else (if nat_le place documents then Command.Edit (Edit.Add (demo_record place)) else Command.Find (demo_find (place - documents - 1))))) [
+    elim (place == 0) as (λ b. MayCome (if b then None else Some demo_schema) (if b then Command.Schema demo_schema else (if nat_le place documents then Command.Edit (Edit.Add (demo_record place)) else Command.Ask (Question.Find (demo_find (place - documents - 1)))))) [
       | true ↦ schema_fits
-      | false ↦ elim (nat_le place documents) as (λ b. MayCome (Some demo_fields) (if b then Command.Edit (Edit.Add (demo_record place)) else Command.Find (demo_find (place - documents - 1)))) [
+      | false ↦ elim (nat_le place documents) as (λ b. MayCome (Some demo_schema) (if b then Command.Edit (Edit.Add (demo_record place)) else Command.Ask (Question.Find (demo_find (place - documents - 1))))) [
         | true ↦ record_fits place
         | false ↦ find_fits (place - documents - 1)
       ]
     ]
 
+ask_fits : {A B : Type 0} (f : A → B) (ask : Ask A) → FitsAsk (ask_over f ask) → FitsAsk ask
+ask_fits f (Ask.Text text join) fits = fits
+ask_fits f (Ask.Tree tree) fits = tt
+
+question_fits : {A B : Type 0} (f : A → B) (question : Question A) → FitsQuestion (question_over f question) → FitsQuestion question
+question_fits f (Question.Find find) fits = record { ask = ask_fits f find.ask fits.ask; paging = fits.paging }
+question_fits f (Question.Show text join) fits = fits
+
+-- A command may come where what it stands for may.
+pub comes_as : {A B : Type 0} (f : A → B) (schema : Option Schema) (command : Command A) → MayCome schema (command_over f command) → MayCome schema command
+comes_as f None (Command.Schema given) may = may
+comes_as f None (Command.Edit edit) may = may
+comes_as f None (Command.Ask question) may = may
+comes_as f (Some schema) (Command.Schema given) may = may
+comes_as f (Some schema) (Command.Edit edit) may = may
+comes_as f (Some schema) (Command.Ask question) may = question_fits f question may
+
+-- It leaves the schema that what it stands for leaves.
+pub behind_as : {A B : Type 0} (f : A → B) (schema : Option Schema) (command : Command A) → schema_behind schema command ≡ schema_behind schema (command_over f command)
+behind_as f None (Command.Schema given) = refl
+behind_as f None (Command.Edit edit) = refl
+behind_as f None (Command.Ask question) = refl
+behind_as f (Some schema) command = refl
+
 -- The schema behind each command is that before the next.
-pub next_schema : (documents place : ℕ) → schema_behind (demo_schema place) (demo_command documents place) ≡ demo_schema (place + 1)
+pub next_schema : (documents place : ℕ) → schema_behind (schema_before place) (demo_command documents place) ≡ schema_before (place + 1)
 next_schema documents place =
     let later : ((place + 1) == 0) ≡ false = grind (arith, nat_tests) in
-    let kept : schema_behind (demo_schema place) (demo_command documents place) ≡ Some demo_fields =
-    elim (place == 0) as (λ b. schema_behind (if b then None else Some demo_fields) (if b then Command.Schema demo_fields else (if nat_le place documents then Command.Edit (Edit.Add (demo_record place)) else Command.Find (demo_find (place - documents - 1)))) ≡ Some demo_fields) [
+    let kept : schema_behind (schema_before place) (demo_command documents place) ≡ Some demo_schema =
+    elim (place == 0) as (λ b. schema_behind (if b then None else Some demo_schema) (if b then Command.Schema demo_schema else (if nat_le place documents then Command.Edit (Edit.Add (demo_record place)) else Command.Ask (Question.Find (demo_find (place - documents - 1))))) ≡ Some demo_schema) [
       | true ↦ refl
       | false ↦ refl
     ] in
-    kept ∙ sym (ap (λ b. if b then None else Some demo_fields) later)
+    kept ∙ sym (ap (λ b. if b then None else Some demo_schema) later)
 
 -- For answers that have these texts, refuse their commands so and tell of so many readings, and a machine that stands for states, where a command may be answered so; from a state on.
-module _ {W S R : Type 0} (text : R → List ℕ) (refuses : R → Bool) (cost : R → ℕ) (Stands : W → S → Type 0) (Obeys : S → Command → R → S → Type 0) (start : S) (documents : ℕ) where
+module _ {W S : Type 0} (printing : Printing) (Stands : W → S → Type 0) (Obeys : S → Command Data → Response → S → Type 0) (start : S) (documents : ℕ) where
   -- The commands from a place on.
-  abbrev from : ℕ → List Command
+  abbrev from : ℕ → List (Command Data)
   from place = demo_commands_from documents place (documents + 6 - place)
 
   -- The commands before a place were obeyed, and their answers put, but for what waits, and counted.
   pub record DemoSoFar (held0 : Option (List ℕ)) (steps0 place : ℕ) (waiting : List ℕ) (held : Option (List ℕ)) (machine : W) (refused : Bool) (steps : ℕ) : Type 0 where
-    pub answers : List R
-    pub put : IsPut text refuses cost answers waiting held0 held false refused steps0 steps
+    pub answers : List Response
+    pub put : IsPut printing answers waiting held0 held false refused steps0 steps
     pub state : S
     pub at : Stands machine state
-    pub goes_on : (more : List R) (last : S) (left : List Command) → Obeyings Obeys state (from place) more last left → Obeyings Obeys start (demo_commands documents) (answers ++ more) last left
+    pub goes_on : (more : List Response) (last : S) (left : List (Command Data)) → Obeyings Obeys state (from place) more last left → Obeyings Obeys start (demo_commands documents) (answers ++ more) last left
 
   pub demo_none : (waiting : List ℕ) (held : Option (List ℕ)) (machine : W) (steps : ℕ) → waiting ≡ [] → Stands machine start → DemoSoFar held steps 0 waiting held machine false steps
   demo_none waiting held machine steps none at = record {
     answers = [];
-    put = none_put text refuses cost waiting held false steps none;
+    put = none_put printing waiting held false steps none;
     state = start;
     at = at;
     goes_on = λ more last left runs. subst (λ (n : ℕ). Obeyings Obeys start (demo_commands_from documents 0 n) more last left) (omega arith) runs;
@@ -136,64 +168,64 @@ module _ {W S R : Type 0} (text : R → List ℕ) (refuses : R → Bool) (cost :
   first_from place inside = let more : documents + 6 - place ≡ suc (documents + 6 - (place + 1)) = omega arith in ap (demo_commands_from documents place) more
 
   -- Nothing was obeyed.
-  pub demo_at_once : (before after : Output) → after ≡ before → RunsOut text refuses cost (ObeysFirst Obeys start (demo_commands documents)) before after
+  pub demo_at_once : (before after : Output) → after ≡ before → RunsOut printing (ObeysFirst Obeys start (demo_commands documents)) before after
   demo_at_once before after same =
-      subst (RunsOut text refuses cost (ObeysFirst Obeys start (demo_commands documents)) before) (sym same)
-      (record { answers = []; put = Appends-nil before.held; steps = omega arith; finishes = refl; lines = record { last = start; left = demo_commands documents; runs = rest } })
+      subst (RunsOut printing (ObeysFirst Obeys start (demo_commands documents)) before) (sym same)
+      (record { answers = []; put = Appends-nil before.sink.held; steps = omega arith; finishes = refl; lines = record { last = start; left = demo_commands documents; runs = rest } })
 
   -- One command more was obeyed, and its answer joined what waits.
-  pub demo_more : (held0 : Option (List ℕ)) (steps0 place : ℕ) (waiting waiting' : List ℕ) (machine machine' : W) (refused more : Bool) (before after : Output) (command : Command)
-      → place < documents + 6 → DemoSoFar held0 steps0 place waiting before.held machine refused before.steps → command ≡ demo_command documents place
-      → Joins text refuses cost (λ answer. (s : S) → Stands machine s → Meets Stands (Obeys s command answer) machine') waiting waiting' more before after
-      → DemoSoFar held0 steps0 (place + 1) waiting' after.held machine' (refused || more) after.steps
+  pub demo_more : (held0 : Option (List ℕ)) (steps0 place : ℕ) (waiting waiting' : List ℕ) (machine machine' : W) (refused more : Bool) (before after : Output) (command : Command Data)
+      → place < documents + 6 → DemoSoFar held0 steps0 place waiting before.sink.held machine refused before.steps → command ≡ demo_command documents place
+      → Joins printing (λ answer. (s : S) → Stands machine s → Meets Stands (Obeys s command answer) machine') waiting waiting' more before after
+      → DemoSoFar held0 steps0 (place + 1) waiting' after.sink.held machine' (refused || more) after.steps
   demo_more held0 steps0 place waiting waiting' machine machine' refused more before after command inside so is joins =
       let met : Meets Stands (Obeys so.state command joins.answer) machine' = joins.allowed so.state so.at in
       record {
         answers = so.answers ++ joins.answer ∷ [];
-        put = put_more text refuses cost so.answers waiting waiting' held0 before.held after.held false refused (refused || more) steps0 before.steps after.steps joins.answer so.put joins.moves (ap (λ b. refused || b) joins.refusal) joins.paid;
+        put = put_more printing so.answers waiting waiting' held0 before.sink.held after.sink.held false refused (refused || more) steps0 before.steps after.steps joins.answer so.put joins.moves (ap (λ b. refused || b) joins.refusal) joins.paid;
         state = met.next;
         at = met.at;
         goes_on = λ rest_of last left runs.
-            subst (λ (all : List R). Obeyings Obeys start (demo_commands documents) all last left) (sym (append_assoc so.answers (joins.answer ∷ []) rest_of))
+            subst (λ (all : List Response). Obeyings Obeys start (demo_commands documents) all last left) (sym (append_assoc so.answers (joins.answer ∷ []) rest_of))
             (so.goes_on (joins.answer ∷ rest_of) last left
-            (subst (λ (cs : List Command). Obeyings Obeys so.state cs (joins.answer ∷ rest_of) last left) (sym (first_from place inside))
-            (subst (λ (c : Command). Obeyings Obeys so.state (c ∷ from (place + 1)) (joins.answer ∷ rest_of) last left) is (obey met.allowed runs))));
+            (subst (λ (cs : List (Command Data)). Obeyings Obeys so.state cs (joins.answer ∷ rest_of) last left) (sym (first_from place inside))
+            (subst (λ (c : Command Data). Obeyings Obeys so.state (c ∷ from (place + 1)) (joins.answer ∷ rest_of) last left) is (obey met.allowed runs))));
       }
 
   -- For what was answered so far.
-  module _ (place : ℕ) (waiting : List ℕ) (machine : W) (refused : Bool) (before middle after : Output) (so : DemoSoFar before.held before.steps place waiting middle.held machine refused middle.steps)
-      (same : middle.finishes ≡ before.finishes) (since : before.faults ≤ middle.faults) where
+  module _ (place : ℕ) (waiting : List ℕ) (machine : W) (refused : Bool) (before middle after : Output) (so : DemoSoFar before.sink.held before.steps place waiting middle.sink.held machine refused middle.steps)
+      (same : middle.sink.finishes ≡ before.sink.finishes) (since : before.sink.faults ≤ middle.sink.faults) where
     stops_at : Obeyings Obeys start (demo_commands documents) so.answers so.state (from place)
-    stops_at = subst (λ (all : List R). Obeyings Obeys start (demo_commands documents) all so.state (from place)) (append-nil so.answers) (so.goes_on [] so.state (from place) rest)
+    stops_at = subst (λ (all : List Response). Obeyings Obeys start (demo_commands documents) all so.state (from place)) (append-nil so.answers) (so.goes_on [] so.state (from place) rest)
 
     first_ones : ObeysFirst Obeys start (demo_commands documents) so.answers
     first_ones = record { last = so.state; left = from place; runs = stops_at }
 
-    lost : Appends middle.held after.held waiting → middle.steps ≤ after.steps → after.finishes ≡ middle.finishes → RunsOut text refuses cost (ObeysFirst Obeys start (demo_commands documents)) before after
+    lost : Appends middle.sink.held after.sink.held waiting → middle.steps ≤ after.steps → after.sink.finishes ≡ middle.sink.finishes → RunsOut printing (ObeysFirst Obeys start (demo_commands documents)) before after
     lost put later still = record {
       answers = so.answers;
-      put = moves_last (flat_map text so.answers) waiting before.held middle.held after.held so.put.put put;
+      put = moves_last (flat_map (text_under printing) so.answers) waiting before.sink.held middle.sink.held after.sink.held so.put.put put;
       steps = omega (arith, so.put.paid, later);
       finishes = still ∙ same;
       lines = first_ones;
     }
 
-    unput : AppendsPrefix middle.held after.held waiting → after.steps ≡ middle.steps → after.finishes ≡ middle.finishes → BreaksOff text refuses cost (ObeysFirst Obeys start (demo_commands documents)) before after
+    unput : AppendsPrefix middle.sink.held after.sink.held waiting → after.steps ≡ middle.steps → after.sink.finishes ≡ middle.sink.finishes → BreaksOff printing (ObeysFirst Obeys start (demo_commands documents)) before after
     unput prefix paid still = record {
       answers = so.answers;
-      put = puts_front text so.answers before.held after.held (moves_prefix (flat_map text so.answers) waiting before.held middle.held after.held so.put.put prefix);
+      put = puts_front (text_under printing) so.answers before.sink.held after.sink.held (moves_prefix (flat_map (text_under printing) so.answers) waiting before.sink.held middle.sink.held after.sink.held so.put.put prefix);
       steps = paid ∙ so.put.paid;
       finishes = inl (still ∙ same);
       lines = first_ones;
     }
 
     -- The sink failed within what waited.
-    pub demo_unput : AppendsPrefix middle.held after.held waiting → after.steps ≡ middle.steps → after.finishes ≡ middle.finishes → Rose middle.faults after.faults
-        → BreaksOff text refuses cost (ObeysFirst Obeys start (demo_commands documents)) before after × Rose before.faults after.faults
-    demo_unput prefix paid still rose = (unput prefix paid still, rose_since before.faults middle.faults after.faults since rose)
+    pub demo_unput : AppendsPrefix middle.sink.held after.sink.held waiting → after.steps ≡ middle.steps → after.sink.finishes ≡ middle.sink.finishes → Rose middle.sink.faults after.sink.faults
+        → BreaksOff printing (ObeysFirst Obeys start (demo_commands documents)) before after × Rose before.sink.faults after.sink.faults
+    demo_unput prefix paid still rose = (unput prefix paid still, rose_since before.sink.faults middle.sink.faults after.sink.faults since rose)
 
     -- Memory ran out for the next command.
-    pub demo_last : (status : Status) → PutsLast waiting status middle after → after.steps ≡ middle.steps → Ended text refuses cost NotWhole NeverTaken (ObeysFirst Obeys start (demo_commands documents)) false status before after
+    pub demo_last : (status : Status) → PutsLast waiting status middle after → after.steps ≡ middle.steps → Ended printing NotWhole NeverTaken (ObeysFirst Obeys start (demo_commands documents)) false status before after
     demo_last Status.Done e paid = absurd e
     demo_last Status.Refused e paid = absurd e
     demo_last Status.Usage e paid = absurd e
@@ -203,38 +235,38 @@ module _ {W S R : Type 0} (text : R → List ℕ) (refuses : R → Bool) (cost :
     demo_last Status.TooMuch e paid = absurd e
 
     -- For the command at that place.
-    module _ (command : Command) (inside : place < documents + 6) (is : command ≡ demo_command documents place) where
-      abbrev Answer : R → Type 0
+    module _ (command : Command Data) (inside : place < documents + 6) (is : command ≡ demo_command documents place) where
+      abbrev Answer : Response → Type 0
       Answer answer = (next : W) × ((s : S) → Stands machine s → Meets Stands (Obeys s command answer) next)
 
-      unwritten : FailsWithin text refuses cost Answer waiting middle after → after.finishes ≡ middle.finishes → BreaksOff text refuses cost (ObeysFirst Obeys start (demo_commands documents)) before after
+      unwritten : FailsWithin printing Answer waiting middle after → after.sink.finishes ≡ middle.sink.finishes → BreaksOff printing (ObeysFirst Obeys start (demo_commands documents)) before after
       unwritten fails still =
           let met : Meets Stands (Obeys so.state command fails.answer) fails.allowed.0 = fails.allowed.1 so.state so.at in
           record {
             answers = so.answers ++ fails.answer ∷ [];
-            put = put_in_part text refuses cost so.answers waiting before.held middle.held after.held fails.answer so.put.put fails.put;
-            steps = omega (arith, fails.paid, so.put.paid, sum_by-append cost so.answers (fails.answer ∷ []));
+            put = put_in_part printing so.answers waiting before.sink.held middle.sink.held after.sink.held fails.answer so.put.put fails.put;
+            steps = omega (arith, fails.paid, so.put.paid, sum_by-append steps_of so.answers (fails.answer ∷ []));
             finishes = inl (still ∙ same);
             lines = record {
               last = met.next;
               left = from (place + 1);
               runs =
                   so.goes_on (fails.answer ∷ []) met.next (from (place + 1))
-                  (subst (λ (cs : List Command). Obeyings Obeys so.state cs (fails.answer ∷ []) met.next (from (place + 1))) (sym (first_from place inside))
-                  (subst (λ (c : Command). Obeyings Obeys so.state (c ∷ from (place + 1)) (fails.answer ∷ []) met.next (from (place + 1))) is (obey met.allowed rest)));
+                  (subst (λ (cs : List (Command Data)). Obeyings Obeys so.state cs (fails.answer ∷ []) met.next (from (place + 1))) (sym (first_from place inside))
+                  (subst (λ (c : Command Data). Obeyings Obeys so.state (c ∷ from (place + 1)) (fails.answer ∷ []) met.next (from (place + 1))) is (obey met.allowed rest)));
             };
           }
 
-      breaks : FailsToPut text refuses cost Answer waiting middle after → BreaksOff text refuses cost (ObeysFirst Obeys start (demo_commands documents)) before after
-      breaks fails = elim fails.which as (λ _. BreaksOff text refuses cost (ObeysFirst Obeys start (demo_commands documents)) before after) [ inl early ↦ unput early.put early.same fails.finishes | inr late ↦ unwritten late fails.finishes ]
+      breaks : FailsToPut printing Answer waiting middle after → BreaksOff printing (ObeysFirst Obeys start (demo_commands documents)) before after
+      breaks fails = elim fails.which as (λ _. BreaksOff printing (ObeysFirst Obeys start (demo_commands documents)) before after) [ inl early ↦ unput early.put early.same fails.finishes | inr late ↦ unwritten late fails.finishes ]
 
       -- Its answer did not join what waits.
-      pub demo_within : (status : Status) → JoinsNot text refuses cost Answer waiting status middle after → Ended text refuses cost NotWhole NeverTaken (ObeysFirst Obeys start (demo_commands documents)) false status before after
+      pub demo_within : (status : Status) → JoinsNot printing Answer waiting status middle after → Ended printing NotWhole NeverTaken (ObeysFirst Obeys start (demo_commands documents)) false status before after
       demo_within Status.Done e = absurd e
       demo_within Status.Refused e = absurd e
       demo_within Status.Usage e = absurd e
       demo_within Status.ReadFault e = absurd e
-      demo_within Status.WriteFault e = (breaks e, rose_since before.faults middle.faults after.faults since e.rose)
+      demo_within Status.WriteFault e = (breaks e, rose_since before.sink.faults middle.sink.faults after.sink.faults since e.rose)
       demo_within Status.Memory e = lost e.put e.later e.finishes
       demo_within Status.TooMuch e = absurd e
 
@@ -242,11 +274,11 @@ module _ {W S R : Type 0} (text : R → List ℕ) (refuses : R → Bool) (cost :
     none_left = omega arith
 
     -- All commands were obeyed, and all that waited was put.
-    pub demo_ended : place ≡ documents + 6 → Appends middle.held after.held waiting → after.steps ≡ middle.steps → after.finishes ≡ middle.finishes → middle.faults ≤ after.faults
-        → Continues text refuses cost (ObeysThrough Obeys Stands machine start (demo_commands documents)) false refused before after
+    pub demo_ended : place ≡ documents + 6 → Appends middle.sink.held after.sink.held waiting → after.steps ≡ middle.steps → after.sink.finishes ≡ middle.sink.finishes → middle.sink.faults ≤ after.sink.faults
+        → Continues printing (ObeysThrough Obeys Stands machine start (demo_commands documents)) false refused before after
     demo_ended last put paid still later = record {
       answers = so.answers;
-      put = moves_last (flat_map text so.answers) waiting before.held middle.held after.held so.put.put put;
+      put = moves_last (flat_map (text_under printing) so.answers) waiting before.sink.held middle.sink.held after.sink.held so.put.put put;
       refusals = so.put.refusals;
       steps = paid ∙ so.put.paid;
       finishes = still ∙ same;

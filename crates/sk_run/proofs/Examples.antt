@@ -1,34 +1,41 @@
 -- Small values that the definitions must give, worked out by hand.
 use Rattle.std.proofs.Common.{◌≡◌, [], ◌∷◌, None, codes, refl}
 use Rattle.std.specs.Fmt.{digits}
+use Rattle.sk_grammar.specs.declared.fault.FaultKind.TheVariants as FaultKind
 use Rattle.sk_run.specs.declared.refusal.Refusal.TheVariants as Refusal
 use Rattle.sk_run.specs.declared.response.Response.TheVariants as Response
-use Rattle.sk_run.specs.declared.find_answer.FindAnswer.TheVariants as FindAnswer
 use Rattle.sk_run.specs.Responses.{text_of}
-use Rattle.sk_run.specs.FindAnswers.{answer_text}
 use Rattle.sk_run.specs.Meaning.{meaning, blank}
 
 -- the number of hits stands before the bounds, and each hit has its line
 found_text_of_one :
-    text_of answer_text (Response.Own (FindAnswer.Found 0 (record { hits = record { id = 7; weight = 2; collapsed = 0; payload = [] } ∷ []; lower = 1; estimate = 1; upper = 1; greatest = 2; steps = 2 })))
+    text_of (Response.Found 0 (record { hits = record { id = 7; weight = 2; collapsed = 0; payload = [] } ∷ []; lower = 1; estimate = 1; upper = 1; greatest = 2; steps = 2 }))
     ≡ codes "found hits=1 lower=1 estimate=1 upper=1 max=2 steps=2\nhit rank=0 id=7 weight=2 collapsed=0 data=\"\"\n"
 unfolding digits
 found_text_of_one = refl
 
 -- ranks count from the page's first on
-found_text_of_none : text_of answer_text (Response.Own (FindAnswer.Found 3 (record { hits = []; lower = 0; estimate = 0; upper = 0; greatest = 0; steps = 0 }))) ≡ codes "found hits=0 lower=0 estimate=0 upper=0 max=0 steps=0\n"
+found_text_of_none : text_of (Response.Found 3 (record { hits = []; lower = 0; estimate = 0; upper = 0; greatest = 0; steps = 0 })) ≡ codes "found hits=0 lower=0 estimate=0 upper=0 max=0 steps=0\n"
 unfolding digits
 found_text_of_none = refl
 
-refused_text : text_of answer_text (Response.Refused Refusal.BadField) ≡ codes "refused 6 BadField\n"
+refused_text : text_of (Response.Refused Refusal.BadField) ≡ codes "refused 6 BadField\n"
 unfolding digits
 refused_text = refl
 
-schema_text : text_of answer_text (Response.Schema 4) ≡ codes "ok schema 4\n"
+query_refused_text : text_of (Response.Refused (Refusal.BadQuery FaultKind.MissingOperand 4)) ≡ codes "refused 9 BadQuery MissingOperand at 4\n"
+unfolding digits
+query_refused_text = refl
+
+tree_refused_text : text_of (Response.Refused Refusal.BadTree) ≡ codes "refused 10 BadTree\n"
+unfolding digits
+tree_refused_text = refl
+
+schema_text : text_of (Response.Schema 4) ≡ codes "ok schema 4\n"
 unfolding digits
 schema_text = refl
 
-deleted_text : text_of answer_text (Response.Deleted 0) ≡ codes "ok deleted 0\n"
+deleted_text : text_of (Response.Deleted 0) ≡ codes "ok deleted 0\n"
 unfolding digits
 deleted_text = refl
 

@@ -1,18 +1,16 @@
 -- The main theorem, from the end of a run by its form.
 use Rattle.std.proofs.Common.{◌≡◌, ◌≤◌, ◌^◌, ℕ, Bool, false, List, Some, None, ◌⊎◌, inl, inr, refl, sym, ◌∙◌, subst, arith}
-use Rattle.sk_base.specs.declared.command.Command.{Command}
-use Rattle.sk_base.specs.declared.schema.Field.{Field}
 use Rattle.sk_io.specs.Causes.{Rose}
 use Rattle.sk_run.specs.declared.form.Form.{Form}
 use Rattle.sk_run.specs.declared.response.Response.{Response}
 use Rattle.sk_run.specs.declared.status.Status.{Status}
 use Rattle.sk_run.specs.Statuses.{IsFinished}
 use Rattle.sk_run.specs.Forms.{form_of}
-use Rattle.sk_run.specs.Responses.{text_under, is_refusal, steps_of}
-use Rattle.sk_run.specs.Outsides.{Seen, Outside}
+use Rattle.sk_run.specs.Conducts.{Conduct}
+use Rattle.sk_io.specs.Seen.{Seen}
+use Rattle.sk_run.specs.Outsides.{Outside}
 use Rattle.sk_run.specs.Ends.{TakesAll, Stopped}
-use Rattle.sk_run.specs.Ended.{Ended}
-use Rattle.sk_run.specs.ByForm.{printing_of, WholeBy, TakenBy, FirstBy, Keeps}
+use Rattle.sk_run.specs.ByForm.{EndedBy, TakenBy, Keeps}
 use Rattle.sk_run.specs.Ran.{IsCalm, Ran}
 
 some≢none : {A : Type 0} (a : A) → Some a ≡ None → ⊥
@@ -33,20 +31,15 @@ never_stopped Status.TooMuch before after calm stopped =
     let all : TakesAll (2 ^ 40) calm.bytes after.left = stopped calm.bytes calm.told in
     omega (arith, all.taken, calm.short)
 
-module _ {S A : Type 0} (text : A → List ℕ) (refuses : A → Bool) (cost : A → ℕ) (begun : S) (Does : List Field → S → Command → Response A → S → Type 0) (Ends : List Field → S → Response A → Type 0) where
-  -- What a run did under the words of a form.
-  abbrev pub EndedBy : Form → Status → Outside → Outside → Type 0
-  EndedBy form status before after =
-      Ended (text_under (printing_of form) text) (is_refusal refuses) (steps_of cost) (WholeBy begun Does Ends form before after) (TakenBy begun Does Ends form before after) (FirstBy begun Does Ends form before after) false status before.output after.output
-
+module _ {S : Type 0} (conduct : Conduct S) where
   -- Where both sources are calm nothing was cut short.
-  never_taken : (form : Form) (status : Status) (before after : Outside) (answers : List (Response A)) → IsCalm before.input after.input → IsCalm before.records after.records → TakenBy begun Does Ends form before after status answers → ⊥
+  never_taken : (form : Form) (status : Status) (before after : Outside) (answers : List Response) → IsCalm before.input after.input → IsCalm before.records after.records → TakenBy conduct form before after status answers → ⊥
   never_taken Form.Run status before after answers input records taken = never_stopped status before.input after.input input taken.0
   never_taken (Form.Search join) status before after answers input records (inl taken) = never_stopped status before.records after.records records taken.0
   never_taken (Form.Search join) status before after answers input records (inr taken) = never_stopped status before.input after.input input taken.0
   never_taken (Form.Demo documents) status before after answers input records taken = taken
 
-  comes_to_its_end : (form : Form) (status : Status) (before after : Outside) → EndedBy form status before after → IsCalm before.input after.input → IsCalm before.records after.records → (Rose before.output.faults after.output.faults → ⊥)
+  comes_to_its_end : (form : Form) (status : Status) (before after : Outside) → EndedBy conduct form status before after → IsCalm before.input after.input → IsCalm before.records after.records → (Rose before.output.sink.faults after.output.sink.faults → ⊥)
       → IsFinished status ⊎ (status ≡ Status.Memory)
   comes_to_its_end form Status.Done before after e input records sound = inl tt
   comes_to_its_end form Status.Refused before after e input records sound = inl tt
@@ -56,7 +49,7 @@ module _ {S A : Type 0} (text : A → List ℕ) (refuses : A → Bool) (cost : A
   comes_to_its_end form Status.Memory before after e input records sound = inr refl
   comes_to_its_end form Status.TooMuch before after e input records sound = absurd (never_taken form Status.TooMuch before after e.answers input records e.lines)
 
-  counts_on : (form : Form) (status : Status) (before after : Outside) → EndedBy form status before after → before.output.steps ≤ after.output.steps
+  counts_on : (form : Form) (status : Status) (before after : Outside) → EndedBy conduct form status before after → before.output.steps ≤ after.output.steps
   counts_on form Status.Done before after e = omega (arith, e.steps)
   counts_on form Status.Refused before after e = omega (arith, e.steps)
   counts_on form Status.Usage before after e = absurd e
@@ -65,7 +58,7 @@ module _ {S A : Type 0} (text : A → List ℕ) (refuses : A → Bool) (cost : A
   counts_on form Status.Memory before after e = omega (arith, e.steps)
   counts_on form Status.TooMuch before after e = omega (arith, e.steps)
 
-  no_usage : (form : Form) (status : Status) (before after : Outside) → EndedBy form status before after → status ≡ Status.Usage → ⊥
+  no_usage : (form : Form) (status : Status) (before after : Outside) → EndedBy conduct form status before after → status ≡ Status.Usage → ⊥
   no_usage form Status.Done before after e h = cc
   no_usage form Status.Refused before after e h = cc
   no_usage form Status.Usage before after e h = e
@@ -75,19 +68,19 @@ module _ {S A : Type 0} (text : A → List ℕ) (refuses : A → Bool) (cost : A
   no_usage form Status.TooMuch before after e h = cc
 
   -- The end of a run under the words of a form says it all.
-  pub used : (words : List (List ℕ)) (form : Form) (status : Status) (before after : Outside) → form_of words ≡ Some form → EndedBy form status before after → Keeps form before after
-      → Ran text refuses cost begun Does Ends words status before after
+  pub used : (words : List (List ℕ)) (form : Form) (status : Status) (before after : Outside) → form_of words ≡ Some form → EndedBy conduct form status before after → Keeps form before after
+      → Ran conduct words status before after
   used words form status before after is e keeps = record {
     usage = (λ h. absurd (no_usage form status before after e h), λ h. absurd (some≢none form (sym is ∙ h)));
     untouched = λ h. absurd (no_usage form status before after e h);
-    ended = λ other same. subst (λ (f : Form). EndedBy f status before after) (same_form form other (sym is ∙ same)) e;
+    ended = λ other same. subst (λ (f : Form). EndedBy conduct f status before after) (same_form form other (sym is ∙ same)) e;
     kept = λ other same. subst (λ (f : Form). Keeps f before after) (same_form form other (sym is ∙ same)) keeps;
     complete = λ other same input records sound. comes_to_its_end form status before after e input records sound;
     counts = counts_on form status before after e;
   }
 
   -- Where the words are no form, nothing happens.
-  pub unused : (words : List (List ℕ)) (before after : Outside) → form_of words ≡ None → after ≡ before → Ran text refuses cost begun Does Ends words Status.Usage before after
+  pub unused : (words : List (List ℕ)) (before after : Outside) → form_of words ≡ None → after ≡ before → Ran conduct words Status.Usage before after
   unused words before after is same = record {
     usage = (λ _. is, λ _. refl);
     untouched = λ _. same;

@@ -12,6 +12,9 @@ use Rattle.sk_io.specs.Causes.{Rose}
 use Rattle.sk_io.specs.Fronts.{AppendsPrefix}
 use Rattle.sk_io.specs.Reading.{Reader, pending, StreamIs, outcome}
 use Rattle.sk_io.specs.Answers.{Charged, Ends, LineOf, LongLineOf, OpenLineOf, Stops, ReadsOn}
+use Rattle.sk_run.specs.declared.response.Response.{Response}
+use Rattle.sk_run.specs.declared.response.Printing.{Printing}
+use Rattle.sk_run.specs.Responses.{text_under, is_refusal, steps_of}
 use Rattle.sk_run.specs.Lines.{Runs, stop, line, Meets, Answered, AnsweredLine}
 use Rattle.sk_run.specs.Ends.{EndsLine, PutsFront, AnswersTaken, AnswersFirst, AnswersThrough, TakesAll}
 use Rattle.sk_run.specs.Waiting.{Moves}
@@ -139,38 +142,38 @@ pub or-assoc : (a b c : Bool) → ((a || b) || c) ≡ (a || (b || c))
 or-assoc true b c = refl
 or-assoc false b c = refl
 
--- For answers that have these texts, refuse their lines so and tell of so many readings.
-module _ {R : Type 0} (text : R → List ℕ) (refuses : R → Bool) (cost : R → ℕ) where
+-- Where answers are printed so.
+module _ (printing : Printing) where
   -- The answers so far were put, but for what waits, and counted; whether a line was refused before them, or by them, is known.
-  pub record IsPut (answers : List R) (waiting : List ℕ) (held held_now : Option (List ℕ)) (refused_before refused : Bool) (begun now : ℕ) : Type 0 where
-    pub put : Moves (flat_map text answers) waiting held held_now
-    pub refusals : refused ≡ (refused_before || list_any refuses answers)
-    pub paid : now ≡ begun + sum_by cost answers
+  pub record IsPut (answers : List Response) (waiting : List ℕ) (held held_now : Option (List ℕ)) (refused_before refused : Bool) (begun now : ℕ) : Type 0 where
+    pub put : Moves (flat_map (text_under printing) answers) waiting held held_now
+    pub refusals : refused ≡ (refused_before || list_any is_refusal answers)
+    pub paid : now ≡ begun + sum_by steps_of answers
 
   pub none_put : (waiting : List ℕ) (held : Option (List ℕ)) (refused : Bool) (begun : ℕ) → waiting ≡ [] → IsPut [] waiting held held refused refused begun begun
   none_put waiting held refused begun none = record { put = moves_all [] waiting held held (Appends-nil held) none; refusals = sym (or-false refused); paid = omega arith }
 
   -- One answer more joined what waits.
-  pub put_more : (answers : List R) (waiting waiting' : List ℕ) (held held_now held' : Option (List ℕ)) (refused_before refused refused' : Bool) (begun now now' : ℕ) (answer : R)
-      → IsPut answers waiting held held_now refused_before refused begun now → Moves (waiting ++ text answer) waiting' held_now held' → refused' ≡ (refused || refuses answer) → now' ≡ now + cost answer
+  pub put_more : (answers : List Response) (waiting waiting' : List ℕ) (held held_now held' : Option (List ℕ)) (refused_before refused refused' : Bool) (begun now now' : ℕ) (answer : Response)
+      → IsPut answers waiting held held_now refused_before refused begun now → Moves (waiting ++ text_under printing answer) waiting' held_now held' → refused' ≡ (refused || is_refusal answer) → now' ≡ now + steps_of answer
       → IsPut (answers ++ answer ∷ []) waiting' held held' refused_before refused' begun now'
   put_more answers waiting waiting' held held_now held' refused_before refused refused' begun now now' answer so moves refusal paid = record {
     put =
-        subst (λ w. Moves w waiting' held held') (sym (texts-push text answers answer))
-        (moves_more (flat_map text answers) waiting waiting' (text answer) held held_now held' so.put moves);
+        subst (λ w. Moves w waiting' held held') (sym (texts-push (text_under printing) answers answer))
+        (moves_more (flat_map (text_under printing) answers) waiting waiting' (text_under printing answer) held held_now held' so.put moves);
     refusals =
-        refusal ∙ ap (λ b. b || refuses answer) so.refusals ∙ or-assoc refused_before (list_any refuses answers) (refuses answer)
-        ∙ ap (λ b. refused_before || b) (sym (list_any-append refuses answers (answer ∷ []) ∙ ap (λ b. list_any refuses answers || b) (or-false (refuses answer))));
-    paid = omega (arith, paid, so.paid, sum_by-append cost answers (answer ∷ []));
+        refusal ∙ ap (λ b. b || is_refusal answer) so.refusals ∙ or-assoc refused_before (list_any is_refusal answers) (is_refusal answer)
+        ∙ ap (λ b. refused_before || b) (sym (list_any-append is_refusal answers (answer ∷ []) ∙ ap (λ b. list_any is_refusal answers || b) (or-false (is_refusal answer))));
+    paid = omega (arith, paid, so.paid, sum_by-append steps_of answers (answer ∷ []));
   }
 
   -- A front of what waits and of one answer more was put.
-  pub put_in_part : (answers : List R) (waiting : List ℕ) (held held_now held' : Option (List ℕ)) (answer : R)
-      → Moves (flat_map text answers) waiting held held_now → AppendsPrefix held_now held' (waiting ++ text answer) → PutsFront text (answers ++ answer ∷ []) held held'
+  pub put_in_part : (answers : List Response) (waiting : List ℕ) (held held_now held' : Option (List ℕ)) (answer : Response)
+      → Moves (flat_map (text_under printing) answers) waiting held held_now → AppendsPrefix held_now held' (waiting ++ text_under printing answer) → PutsFront (text_under printing) (answers ++ answer ∷ []) held held'
   put_in_part answers waiting held held_now held' answer before prefix =
-      puts_front text (answers ++ answer ∷ []) held held'
-      (subst (λ w. AppendsPrefix held held' w) (sym (texts-push text answers answer))
-      (moves_prefix (flat_map text answers ++ text answer) (waiting ++ text answer) held held_now held' (moves_text (flat_map text answers) waiting (text answer) held held_now before) prefix))
+      puts_front (text_under printing) (answers ++ answer ∷ []) held held'
+      (subst (λ w. AppendsPrefix held held' w) (sym (texts-push (text_under printing) answers answer))
+      (moves_prefix (flat_map (text_under printing) answers ++ text_under printing answer) (waiting ++ text_under printing answer) held held_now held' (moves_text (flat_map (text_under printing) answers) waiting (text_under printing answer) held held_now before) prefix))
 
 -- Over an answerer that stands for states, where a line may be answered so.
 module _ {W S R : Type 0} (Stands : W → S → Type 0) (Answers : S → List ℕ → R → S → Type 0) where

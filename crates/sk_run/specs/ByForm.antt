@@ -1,7 +1,5 @@
 -- What the answers of a run are answers to, by the form of its words. A run begins without a schema.
-use Rattle.std.specs.Prelude.{◌≡◌, ℕ, List, [], ◌++◌, Option, Some, None, ◌⊎◌}
-use Rattle.sk_base.specs.declared.command.Command.{Command}
-use Rattle.sk_base.specs.declared.schema.Field.{Field}
+use Rattle.std.specs.Prelude.{◌≡◌, ℕ, false, List, [], ◌++◌, Option, Some, None, ◌⊎◌}
 use Rattle.sk_run.specs.declared.form.Form.{Form}
 use Rattle.sk_run.specs.declared.form.Form.TheVariants.{Run, Search, Demo}
 use Rattle.sk_run.specs.declared.response.Response.{Response}
@@ -11,7 +9,8 @@ use Rattle.sk_run.specs.declared.status.Status.{Status}
 use Rattle.sk_run.specs.Outsides.{Outside, WhereTold}
 use Rattle.sk_run.specs.Lines.{Runs}
 use Rattle.sk_run.specs.Ends.{Stopped, AnswersAll, AnswersTaken, AnswersFirst, AnswersSome}
-use Rattle.sk_run.specs.Output.{Obeys, Answers, AnswersQuery, Closes}
+use Rattle.sk_run.specs.Ended.{Ended}
+use Rattle.sk_run.specs.Conducts.{Conduct, Obeys, Answers, AnswersQuery, Closes}
 use Rattle.sk_run.specs.Obeying.{ObeysAll, ObeysSome}
 use Rattle.sk_run.specs.Demos.{demo_commands}
 
@@ -31,36 +30,40 @@ pub record BehindRecords {S R : Type 0} (Answers : S → List ℕ → R → S �
   pub left : left_after ≡ Some []
   pub goes_on : GoesOn middle others
 
--- For a store that begins in a state, obeys commands so and is closed so.
-module _ {S A : Type 0} (begun : S) (Does : List Field → S → Command → Response A → S → Type 0) (Ends : List Field → S → Response A → Type 0) where
+-- Over a store of this conduct.
+module _ {S : Type 0} (conduct : Conduct S) where
   -- All was answered. Under `run`: each line of the input as a command. Under `search`: each line of the records as a command and then each line of the input as a query text. Under `demo`: the commands of the demonstration. The last answer closes the run.
-  abbrev pub WholeBy : Form → Outside → Outside → List (Response A) → Type 0
-  WholeBy Run before after answers = WhereTold before.input (λ input. AnswersAll (Answers begun Does) (Closes Ends) None input answers after.input.left)
+  abbrev pub WholeBy : Form → Outside → Outside → List Response → Type 0
+  WholeBy Run before after answers = WhereTold before.input (λ input. AnswersAll (Answers conduct) (Closes conduct) None input answers after.input.left)
   WholeBy (Search join) before after answers =
       WhereTold before.records (λ records. WhereTold before.input (λ input.
-      BehindRecords (Answers begun Does) None records answers after.records.left
-      (λ middle others. AnswersAll (AnswersQuery begun Does join) (Closes Ends) middle input others after.input.left)))
-  WholeBy (Demo documents) before after answers = ObeysAll (Obeys begun Does) (Closes Ends) None (demo_commands documents) answers
+      BehindRecords (Answers conduct) None records answers after.records.left
+      (λ middle others. AnswersAll (AnswersQuery conduct join) (Closes conduct) middle input others after.input.left)))
+  WholeBy (Demo documents) before after answers = ObeysAll (Obeys conduct) (Closes conduct) None (demo_commands documents) answers
 
   -- A source stopped. All lines were answered whose end was taken: of the input, or of the records, and then nothing of the input was touched, or of the input behind all lines of the records. A demonstration takes nothing of a source.
-  abbrev pub TakenBy : Form → Outside → Outside → Status → List (Response A) → Type 0
-  TakenBy Run before after status answers = Stopped status before.input after.input × WhereTold before.input (λ input. AnswersTaken (Answers begun Does) None input answers after.input.left)
+  abbrev pub TakenBy : Form → Outside → Outside → Status → List Response → Type 0
+  TakenBy Run before after status answers = Stopped status before.input after.input × WhereTold before.input (λ input. AnswersTaken (Answers conduct) None input answers after.input.left)
   TakenBy (Search join) before after status answers =
-      (Stopped status before.records after.records × (after.input ≡ before.input) × WhereTold before.records (λ records. AnswersTaken (Answers begun Does) None records answers after.records.left))
+      (Stopped status before.records after.records × (after.input ≡ before.input) × WhereTold before.records (λ records. AnswersTaken (Answers conduct) None records answers after.records.left))
       ⊎ (Stopped status before.input after.input × WhereTold before.records (λ records. WhereTold before.input (λ input.
-      BehindRecords (Answers begun Does) None records answers after.records.left
-      (λ middle others. AnswersTaken (AnswersQuery begun Does join) middle input others after.input.left))))
+      BehindRecords (Answers conduct) None records answers after.records.left
+      (λ middle others. AnswersTaken (AnswersQuery conduct join) middle input others after.input.left))))
   TakenBy (Demo documents) before after status answers = ⊥
 
   -- First lines, or commands, of those that were taken were answered, or all of them and the run closed.
-  abbrev pub FirstBy : Form → Outside → Outside → List (Response A) → Type 0
-  FirstBy Run before after answers = WhereTold before.input (λ input. AnswersSome (Answers begun Does) (Closes Ends) None input answers after.input.left)
+  abbrev pub FirstBy : Form → Outside → Outside → List Response → Type 0
+  FirstBy Run before after answers = WhereTold before.input (λ input. AnswersSome (Answers conduct) (Closes conduct) None input answers after.input.left)
   FirstBy (Search join) before after answers =
-      ((after.input ≡ before.input) × WhereTold before.records (λ records. AnswersFirst (Answers begun Does) None records answers after.records.left))
+      ((after.input ≡ before.input) × WhereTold before.records (λ records. AnswersFirst (Answers conduct) None records answers after.records.left))
       ⊎ WhereTold before.records (λ records. WhereTold before.input (λ input.
-      BehindRecords (Answers begun Does) None records answers after.records.left
-      (λ middle others. AnswersSome (AnswersQuery begun Does join) (Closes Ends) middle input others after.input.left)))
-  FirstBy (Demo documents) before after answers = ObeysSome (Obeys begun Does) (Closes Ends) None (demo_commands documents) answers
+      BehindRecords (Answers conduct) None records answers after.records.left
+      (λ middle others. AnswersSome (AnswersQuery conduct join) (Closes conduct) middle input others after.input.left)))
+  FirstBy (Demo documents) before after answers = ObeysSome (Obeys conduct) (Closes conduct) None (demo_commands documents) answers
+
+  -- What a run did under the words of a form: what its status says, and what was put, read and counted by then.
+  abbrev pub EndedBy : Form → Status → Outside → Outside → Type 0
+  EndedBy form status before after = Ended (printing_of form) (WholeBy form before after) (TakenBy form before after) (FirstBy form before after) false status before.output after.output
 
 -- The sources that the words do not touch are as before: the records under `run`, and both under `demo`.
 abbrev pub Keeps : Form → Outside → Outside → Type 0

@@ -1,6 +1,8 @@
 -- The commands of a demonstration: a schema, so many documents and five finds, all made from one number.
 use Rattle.std.specs.Prelude.{ℕ, ◌+◌, ◌-◌, ◌%◌, zero, suc, ◌==◌, nat_le, true, false, List, [], ◌∷◌, ◌++◌, codes, decimal, Option, Some, None, if◌then◌else◌}
+use Rattle.serde_json.specs.Data.{Data}
 use Rattle.sk_base.specs.declared.command.Command.{Command}
+use Rattle.sk_base.specs.declared.command.Question.TheVariants as Question
 use Rattle.sk_base.specs.declared.find.Ask.TheVariants as Ask
 use Rattle.sk_base.specs.declared.find.Collapse.{Collapse}
 use Rattle.sk_base.specs.declared.find.Find.{Find}
@@ -10,14 +12,16 @@ use Rattle.sk_base.specs.declared.rank.OrderBy.TheVariants as OrderBy
 use Rattle.sk_base.specs.declared.record.Edit.TheVariants as Edit
 use Rattle.sk_base.specs.declared.record.FieldValue.TheVariants as FieldValue
 use Rattle.sk_base.specs.declared.record.Record.{Record}
-use Rattle.sk_base.specs.declared.schema.Field.{Field}
+use Rattle.sk_base.specs.declared.schema.Schema.{Schema}
 use Rattle.sk_base.specs.declared.schema.FieldKind.TheVariants as FieldKind
-use Rattle.sk_run.specs.Queries.{options_for, by_relevance}
+use Rattle.sk_base.specs.Finds.{default_options, default_paging}
 
--- The fields: a text, a number and a word.
-abbrev pub demo_fields : List Field
-demo_fields =
-    record { name = codes "body"; kind = FieldKind.Text [] 1 } ∷ record { name = codes "year"; kind = FieldKind.Number 0 } ∷ record { name = codes "site"; kind = FieldKind.Word 1 } ∷ []
+-- The schema: a text, a number and a word.
+abbrev pub demo_schema : Schema
+demo_schema = record {
+  fields =
+      record { name = codes "body"; kind = FieldKind.Text [] 1 } ∷ record { name = codes "year"; kind = FieldKind.Number 0 } ∷ record { name = codes "site"; kind = FieldKind.Word 1 } ∷ [];
+}
 
 -- The word `all` so often again, each behind a space.
 abbrev pub alls : ℕ → List ℕ
@@ -40,29 +44,29 @@ demo_record i = record {
 }
 
 -- A find of three hits, by a text.
-abbrev pub three_by : List ℕ → Order → Option Collapse → Find
-three_by text order collapse = record { ask = Ask.Text text Join.Or; options = options_for 3; order = order; collapse = collapse }
+abbrev pub three_by : List ℕ → Order → Option Collapse → Find Data
+three_by text order collapse = record { ask = Ask.Text text Join.Or; paging = record { options = record default_options { size = 3 }; order = order; collapse = collapse } }
 
 -- The five finds, by their places: by relevance, by relevance, by relevance, collapsed on the site, and by the year, the later first.
-abbrev pub demo_find : ℕ → Find
-demo_find zero = three_by (codes "all") by_relevance None
-demo_find (suc zero) = three_by (codes "d3 h3") by_relevance None
-demo_find (suc (suc zero)) = three_by (codes "all AND k7") by_relevance None
-demo_find (suc (suc (suc zero))) = three_by (codes "d1 all") by_relevance (Some (record { slot = 1; max = 1 }))
+abbrev pub demo_find : ℕ → Find Data
+demo_find zero = three_by (codes "all") default_paging.order None
+demo_find (suc zero) = three_by (codes "d3 h3") default_paging.order None
+demo_find (suc (suc zero)) = three_by (codes "all AND k7") default_paging.order None
+demo_find (suc (suc (suc zero))) = three_by (codes "d1 all") default_paging.order (Some (record { slot = 1; max = 1 }))
 demo_find (suc (suc (suc (suc more)))) = three_by (codes "year:1950..1959") (record { by = OrderBy.Value (record { slot = 0; reverse = true }); falling = false }) None
 
 -- The command at a place, of a demonstration with so many documents: the schema, the documents from 1 on, and the finds.
-abbrev pub demo_command : ℕ → ℕ → Command
+abbrev pub demo_command : ℕ → ℕ → Command Data
 demo_command documents place =
-    if place == 0 then Command.Schema demo_fields
+    if place == 0 then Command.Schema demo_schema
     else (if nat_le place documents then Command.Edit (Edit.Add (demo_record place))
-    else Command.Find (demo_find (place - documents - 1)))
+    else Command.Ask (Question.Find (demo_find (place - documents - 1))))
 
 -- So many of the commands, from a place on.
-abbrev pub demo_commands_from : ℕ → ℕ → ℕ → List Command
+abbrev pub demo_commands_from : ℕ → ℕ → ℕ → List (Command Data)
 demo_commands_from documents place zero = []
 demo_commands_from documents place (suc count) = demo_command documents place ∷ demo_commands_from documents (place + 1) count
 
 -- The commands of a demonstration with so many documents, in their order.
-abbrev pub demo_commands : ℕ → List Command
+abbrev pub demo_commands : ℕ → List (Command Data)
 demo_commands documents = demo_commands_from documents 0 (documents + 6)

@@ -4,7 +4,8 @@ use Rattle.std.specs.Io.KnownBytes.{Appends}
 use Rattle.sk_io.specs.Causes.{Rose}
 use Rattle.sk_io.specs.LineText.{NoLineEnd}
 use Rattle.sk_run.specs.declared.status.Status.{Status}
-use Rattle.sk_run.specs.Outsides.{Seen, WhereTold}
+use Rattle.sk_io.specs.Seen.{Seen}
+use Rattle.sk_run.specs.Outsides.{WhereTold}
 use Rattle.sk_run.specs.Lines.{Runs}
 
 -- The bytes are none, or their last one is a line's end.

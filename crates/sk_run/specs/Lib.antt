@@ -1,6 +1,7 @@
 pub mod Refusals
+pub mod Found
 pub mod Responses
-pub mod FindAnswers
+pub mod Asking
 pub mod Statuses
 pub mod Forms
 pub mod Conclusions
@@ -8,12 +9,13 @@ pub mod Meaning
 pub mod Queries
 pub mod Lines
 pub mod Outsides
-pub mod Output
+pub mod Conducts
 pub mod Machines
-pub mod Heard
+pub mod Requests
 pub mod Waiting
 pub mod Ends
 pub mod Ended
+pub mod Sources
 pub mod Closing
 pub mod Obeying
 pub mod Demos

@@ -1,24 +1,23 @@
 -- What a run sees of the outside.
-use Rattle.std.specs.Prelude.{◌≡◌, ℕ, Bool, List, Option, Some}
+use Rattle.std.specs.Prelude.{◌≡◌, ℕ, List, Some}
+use Rattle.sk_io.specs.Seen.{Seen, Taken}
 
--- What is seen of a source: what it has left, where it tells that, and how often it has failed.
-pub record Seen : Type 0 where
-  pub left : Option (List ℕ)
-  pub faults : ℕ
-
--- What is seen of the sink and of the counter: what the sink holds, where it tells that, how often it has failed, whether it is settled and how often it was to finish, and the readings so far.
+-- What is seen of the sink, and the readings so far.
 pub record Output : Type 0 where
-  pub held : Option (List ℕ)
-  pub faults : ℕ
-  pub settled : Bool
-  pub finishes : ℕ
+  pub sink : Taken
   pub steps : ℕ
+
+abbrev pub output_at : Taken → ℕ → Output
+output_at sink steps = record { sink = sink; steps = steps }
 
 -- Two sources, the input and that of the records, a sink and a counter.
 pub record Outside : Type 0 where
   pub input : Seen
   pub records : Seen
   pub output : Output
+
+abbrev pub outside_at : Seen → Seen → Taken → ℕ → Outside
+outside_at input records sink steps = record { input = input; records = records; output = output_at sink steps }
 
 -- Where the source tells its bytes.
 abbrev pub WhereTold : Seen → (List ℕ → Type 0) → Type 0

@@ -1,17 +1,14 @@
 -- The main theorem: what a run does over a store, for all words, every two sources and every sink.
 use Rattle.std.specs.Prelude.{◌≡◌, ℕ, ◌≤◌, ◌<◌, ◌^◌, ◌↔◌, Bool, false, List, length, Some, None, ◌⊎◌}
-use Rattle.sk_base.specs.declared.command.Command.{Command}
-use Rattle.sk_base.specs.declared.schema.Field.{Field}
 use Rattle.sk_io.specs.Causes.{Rose}
 use Rattle.sk_run.specs.declared.form.Form.{Form}
-use Rattle.sk_run.specs.declared.response.Response.{Response}
 use Rattle.sk_run.specs.declared.status.Status.{Status}
 use Rattle.sk_run.specs.Statuses.{IsFinished}
 use Rattle.sk_run.specs.Forms.{form_of}
-use Rattle.sk_run.specs.Responses.{text_under, is_refusal, steps_of}
-use Rattle.sk_run.specs.Outsides.{Seen, Outside}
-use Rattle.sk_run.specs.Ended.{Ended}
-use Rattle.sk_run.specs.ByForm.{printing_of, WholeBy, TakenBy, FirstBy, Keeps}
+use Rattle.sk_io.specs.Seen.{Seen}
+use Rattle.sk_run.specs.Outsides.{Outside}
+use Rattle.sk_run.specs.Conducts.{Conduct}
+use Rattle.sk_run.specs.ByForm.{EndedBy, Keeps}
 
 -- The source tells its bytes, which are fewer than a run takes of one source, and it did not fail.
 pub record IsCalm (before after : Seen) : Type 0 where
@@ -20,18 +17,17 @@ pub record IsCalm (before after : Seen) : Type 0 where
   pub short : length bytes < 2 ^ 40
   pub sound : Rose before.faults after.faults → ⊥
 
--- What a run does that was given these words, over a store whose own answers have these texts, refuse their lines so and tell of so many readings, that begins in a state, obeys commands so and is closed so.
-pub record Ran {S A : Type 0} (text : A → List ℕ) (refuses : A → Bool) (cost : A → ℕ) (begun : S) (Does : List Field → S → Command → Response A → S → Type 0) (Ends : List Field → S → Response A → Type 0) (words : List (List ℕ)) (status : Status) (before after : Outside) : Type 0 where
+-- What a run does that was given these words, over a store of this conduct.
+pub record Ran {S : Type 0} (conduct : Conduct S) (words : List (List ℕ)) (status : Status) (before after : Outside) : Type 0 where
   -- The status of usage comes exactly where the words are no form, and then nothing happened.
   pub usage : (status ≡ Status.Usage) ↔ (form_of words ≡ None)
   pub untouched : status ≡ Status.Usage → after ≡ before
   -- Under the words of a form: what the status says, and what was put, read and counted by then.
-  pub ended : (form : Form) → form_of words ≡ Some form
-      → Ended (text_under (printing_of form) text) (is_refusal refuses) (steps_of cost) (WholeBy begun Does Ends form before after) (TakenBy begun Does Ends form before after) (FirstBy begun Does Ends form before after) false status before.output after.output
+  pub ended : (form : Form) → form_of words ≡ Some form → EndedBy conduct form status before after
   -- What the form does not touch is as before.
   pub kept : (form : Form) → form_of words ≡ Some form → Keeps form before after
   -- Where memory is enough, both sources tell their bytes, which are not too many, and nothing fails, the run comes to its end.
-  pub complete : (form : Form) → form_of words ≡ Some form → IsCalm before.input after.input → IsCalm before.records after.records → (Rose before.output.faults after.output.faults → ⊥)
+  pub complete : (form : Form) → form_of words ≡ Some form → IsCalm before.input after.input → IsCalm before.records after.records → (Rose before.output.sink.faults after.output.sink.faults → ⊥)
       → IsFinished status ⊎ (status ≡ Status.Memory)
   -- The counter never falls.
   pub counts : before.output.steps ≤ after.output.steps

@@ -1,7 +1,8 @@
--- How a refusal is printed that any store knows.
-use Rattle.std.specs.Prelude.{ℕ, List, codes}
+-- How a refusal is printed.
+use Rattle.std.specs.Prelude.{ℕ, List, [], ◌++◌, codes, decimal}
+use Rattle.sk_grammar.specs.declared.fault.FaultKind.{FaultKind}
 use Rattle.sk_run.specs.declared.refusal.Refusal.{Refusal}
-use Rattle.sk_run.specs.declared.refusal.Refusal.TheVariants.{TooLong, NotJson, NoSchema, SchemaAgain, BadShape, BadField, NoIdLeft, NotFound}
+use Rattle.sk_run.specs.declared.refusal.Refusal.TheVariants.{TooLong, NotJson, NoSchema, SchemaAgain, BadShape, BadField, NoIdLeft, NotFound, BadQuery, BadTree}
 
 -- The number that is printed behind `refused`.
 abbrev pub refusal_number : Refusal → ℕ
@@ -13,6 +14,8 @@ refusal_number BadShape = 5
 refusal_number BadField = 6
 refusal_number NoIdLeft = 7
 refusal_number NotFound = 8
+refusal_number (BadQuery kind place) = 9
+refusal_number BadTree = 10
 
 -- The name that is printed behind the number.
 abbrev pub name_of : Refusal → List ℕ
@@ -24,3 +27,32 @@ name_of BadShape = codes "BadShape"
 name_of BadField = codes "BadField"
 name_of NoIdLeft = codes "NoIdLeft"
 name_of NotFound = codes "NotFound"
+name_of (BadQuery kind place) = codes "BadQuery"
+name_of BadTree = codes "BadTree"
+
+-- The name of a fault of a query text.
+abbrev pub fault_name : FaultKind → List ℕ
+fault_name FaultKind.StrayBracket = codes "StrayBracket"
+fault_name FaultKind.UnclosedBracket = codes "UnclosedBracket"
+fault_name FaultKind.MissingOperand = codes "MissingOperand"
+fault_name FaultKind.BadNear = codes "BadNear"
+fault_name FaultKind.BadRange = codes "BadRange"
+fault_name FaultKind.TooDeep = codes "TooDeep"
+fault_name FaultKind.TooMany = codes "TooMany"
+
+-- What is printed behind the name: of a query text its fault, and the byte at which it stands.
+abbrev pub detail_of : Refusal → List ℕ
+detail_of TooLong = []
+detail_of NotJson = []
+detail_of NoSchema = []
+detail_of SchemaAgain = []
+detail_of BadShape = []
+detail_of BadField = []
+detail_of NoIdLeft = []
+detail_of NotFound = []
+detail_of (BadQuery kind place) = codes " " ++ (fault_name kind ++ (codes " at " ++ decimal place))
+detail_of BadTree = []
+
+-- `refused`, the number, the name, and what stands behind it.
+abbrev pub refusal_line : Refusal → List ℕ
+refusal_line why = codes "refused " ++ (decimal (refusal_number why) ++ (codes " " ++ (name_of why ++ (detail_of why ++ codes "\n"))))

@@ -1,23 +1,24 @@
 -- What a program does from its arguments to the number that it ends with.
-use Rattle.std.specs.Prelude.{◌≡◌, ℕ, Bool, List, Option, Result, Ok, Err, map, drop, string_bytes}
+use Rattle.std.specs.Prelude.{◌≡◌, ℕ, List, Result, Ok, Err, map, drop, string_bytes}
 use Rattle.std.proofs.Common.{String, Global, Vec}
 use Rattle.sk_run.specs.declared.status.Status.{Status}
 use Rattle.sk_run.specs.Statuses.{code_of}
 use Rattle.sk_run.specs.Conclusions.{Says}
-use Rattle.sk_run.specs.Outsides.{Seen, Outside}
+use Rattle.sk_io.specs.Seen.{Seen, Taken}
+use Rattle.sk_run.specs.Outsides.{Outside, outside_at}
 
 -- What a program's run sees of the outside, but for its counter, which begins at 0.
 pub record Around : Type 0 where
   pub input : Seen
   pub records : Seen
-  pub held : Option (List ℕ)
-  pub faults : ℕ
-  pub settled : Bool
-  pub finishes : ℕ
+  pub sink : Taken
+
+abbrev pub around : Seen → Seen → Taken → Around
+around input records sink = record { input = input; records = records; sink = sink }
 
 -- The same, with the counter.
 abbrev pub outside : Around → ℕ → Outside
-outside a steps = record { input = a.input; records = a.records; output = record { held = a.held; faults = a.faults; settled = a.settled; finishes = a.finishes; steps = steps } }
+outside a steps = outside_at a.input a.records a.sink steps
 
 -- For runs that do so, by their words, their status, and the outside before and after.
 module _ (Runs : List (List ℕ) → Status → Outside → Outside → Type 0) where
@@ -32,8 +33,8 @@ module _ (Runs : List (List ℕ) → Status → Outside → Outside → Type 0) 
     pub ran : RanBy arguments status (outside before 0) (outside after steps)
 
   -- The run ended with a status, whose number is the code, and whose message is what was said.
-  pub record Started (usage : List ℕ) (arguments : Result (Vec (String Global) Global) Status) (code : ℕ) (before after : Around) (said_before : Option (List ℕ)) (faults_before : ℕ) (said_after : Option (List ℕ)) (faults_after : ℕ) : Type 0 where
+  pub record Started (usage : List ℕ) (arguments : Result (Vec (String Global) Global) Status) (code : ℕ) (before after : Around) (said_before said_after : Taken) : Type 0 where
     pub status : Status
     pub number : code ≡ code_of status
-    pub says : Says usage status said_before faults_before said_after faults_after
+    pub says : Says usage status said_before said_after
     pub ran : RanFrom arguments status before after

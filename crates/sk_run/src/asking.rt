@@ -1,42 +1,93 @@
 //! What is answered where a query is asked for.
-ghost use Rattle.std.specs.Prelude.{◌≡◌, ◌≤◌, length, IfOk};
+ghost use Rattle.std.specs.Prelude.{◌≡◌, ◌≤◌, ◌+◌, false, length, IfOk};
+ghost use Rattle.serde_json.specs.View.{view};
+ghost use Rattle.sk_base.specs.declared.command.Question.TheVariants as Question;
+ghost use Rattle.sk_base.specs.Commands.{FitsQuestion, question_over};
+ghost use Rattle.sk_base.specs.Finds.{FitsFind, find_over};
+ghost use Rattle.sk_parser.specs.Asked.{text_asked};
 ghost use Rattle.sk_run.specs.Responses.{steps_of};
-ghost use Rattle.sk_run.specs.FindAnswers.{steps_in, RefusedFor, Shown};
+ghost use Rattle.sk_run.specs.Asking.{RefusedFor, AnswersAsk, IsShown};
+ghost use Rattle.sk_run.specs.Conducts.{reads, AnswersQuestion};
 
-use crate::{FindAnswer, Response};
+use crate::{Refusal, Response, Store};
+use serde_json::Value;
+use sk_base::{Find, Join, Question, Schema, Text};
 use sk_parser::{AskError, text_query};
-use sk_base::{Join, Schema, Text};
 use sk_query_json::text as compact_text;
+use sk_steps::Steps;
 use std::alloc::{AllocError, Global};
+use std::sync::ledger::Ledger;
 
 /// What is answered where no query was read, with its cause.
-pub fn refused(why: AskError) -> Result<Response<FindAnswer>, AllocError>
+fn refused(why: AskError) -> Result<Response, AllocError>
     ensures answer { IfOk result (RefusedFor why) }
-    ensures free { IfOk result (λ answer. steps_of steps_in answer ≡ 0) }
+    ensures free { IfOk result (λ answer. steps_of answer ≡ 0) }
 {
     match why {
-        AskError::BadQuery(kind, place) => Ok(Response::Own(FindAnswer::BadQuery(kind, place))),
-        AskError::BadTree => Ok(Response::Own(FindAnswer::BadTree)),
+        AskError::BadQuery(kind, place) => Ok(Response::Refused(Refusal::BadQuery(kind, place))),
+        AskError::BadTree => Ok(Response::Refused(Refusal::BadTree)),
         AskError::NoMemory => Err(AllocError),
+    }
+}
+
+/// What a question is answered over a store.
+pub(crate) fn answer_question<M: Store, L: Ledger>(
+    alloc: Global,
+    store: &M,
+    question: &Question<Value>,
+    steps: &mut Steps<L>,
+) -> Result<Response, AllocError>
+    requires { FitsQuestion question.now }
+    ensures answer { IfOk result (λ answer. (s : M.State) → M.holds store.now s → AnswersQuestion M.conduct (M.under store.now) (question_over view question.now) s answer) }
+    ensures cost { IfOk result (λ answer. steps.new ≡ steps.old + steps_of answer) }
+    ensures later { steps.old ≤ steps.new }
+    ensures still { reads question.now ≡ false → steps.new ≡ steps.old }
+{
+    match question {
+        Question::Find(find) => found(store, find, steps),
+        Question::Show(text, join) => shown(alloc, store.schema(), *join, text.as_str()),
+    }
+}
+
+/// Whether readings may be counted where a question is answered: a find alone reads.
+pub(crate) fn reads(question: &Question<Value>) -> bool
+    ensures { result ≡ reads question.now }
+{
+    match question {
+        Question::Find(_) => true,
+        Question::Show(_, _) => false,
+    }
+}
+
+/// What a find is answered over a store.
+#[tactic(auto, using(crate::proofs::AskLemmas::found, crate::proofs::AskLemmas::not_found))]
+fn found<M: Store, L: Ledger>(
+    store: &M,
+    find: &Find<Value>,
+    steps: &mut Steps<L>,
+) -> Result<Response, AllocError>
+    requires { FitsFind find.now }
+    ensures answer { IfOk result (λ answer. (s : M.State) → M.holds store.now s → AnswersQuestion M.conduct (M.under store.now) (Question.Find (find_over view find.now)) s answer) }
+    ensures cost { IfOk result (λ answer. steps.new ≡ steps.old + steps_of answer) }
+    ensures later { steps.old ≤ steps.new }
+{
+    match store.find(find, steps) {
+        Ok(report) => Ok(Response::Found(find.paging.options.first, report)),
+        Err(why) => refused(why),
     }
 }
 
 /// What a line is answered that asks to show the query of a text.
 #[tactic(auto, using(crate::proofs::AskLemmas::refused_for))]
-pub fn shown(
-    alloc: Global,
-    schema: &Schema,
-    join: Join,
-    text: &str,
-) -> Result<Response<FindAnswer>, AllocError>
+fn shown(alloc: Global, schema: &Schema, join: Join, text: &str) -> Result<Response, AllocError>
     requires { length text.now ≤ 1048576 }
-    ensures answer { IfOk result (λ answer. Shown schema.now join text.now answer) }
-    ensures free { IfOk result (λ answer. steps_of steps_in answer ≡ 0) }
+    ensures answer { IfOk result (AnswersAsk IsShown (text_asked schema.now join text.now)) }
+    ensures free { IfOk result (λ answer. steps_of answer ≡ 0) }
 {
     match text_query(alloc, schema, join, text) {
         Ok(query) => {
             let text = compact_text(alloc, &query)?;
-            Ok(Response::Own(FindAnswer::Query(Text::from_string(text))))
+            Ok(Response::Query(Text::from_string(text)))
         }
         Err(why) => refused(why),
     }

@@ -13,7 +13,7 @@ use sk_io::{Failed, Sink, put_all};
 /// with. `usage` is said of words that are no form. Where the line can't be put, the number tells all the same.
 pub fn conclude<E: Sink>(status: Status, usage: &'static [u8], errors: &mut E) -> u8
     ensures code { result ≡ code_of status }
-    ensures says { Says usage.now status (E.held errors.old) (E.faults errors.old) (E.held errors.new) (E.faults errors.new) }
+    ensures says { Says usage.now status (E.seen errors.old) (E.seen errors.new) }
 {
     if let Some(message) = status.message(usage) {
         let _ = say(errors, message);
@@ -23,9 +23,9 @@ pub fn conclude<E: Sink>(status: Status, usage: &'static [u8], errors: &mut E) -
 
 /// Puts the message as a line.
 fn say<E: Sink>(errors: &mut E, message: &[u8]) -> Result<(), Failed>
-    ensures ok { OnOk result (Appends (E.held errors.old) (E.held errors.new) (message.now ++ 10 ∷ [])) }
-    ensures err { OnErr result (AppendsPrefix (E.held errors.old) (E.held errors.new) (message.now ++ 10 ∷ [])) }
-    ensures cause { HasCause (E.faults errors.old) (E.faults errors.new) result }
+    ensures ok { OnOk result (Appends (E.seen errors.old).held (E.seen errors.new).held (message.now ++ 10 ∷ [])) }
+    ensures err { OnErr result (AppendsPrefix (E.seen errors.old).held (E.seen errors.new).held (message.now ++ 10 ∷ [])) }
+    ensures cause { HasCause (E.seen errors.old).faults (E.seen errors.new).faults result }
 {
     put_all(errors, message)?;
     put_all(errors, b"\n")?;

@@ -1,37 +1,33 @@
 //! The commands of a demonstration.
 ghost use Rattle.std.specs.Prelude.{◌≡◌, false, ◌<◌, ◌≤◌, ◌^◌, ◌+◌, ◌%◌, ℕ, List, codes, decimal, ◌++◌, Some, None, IfOk, IfErr, OnOk, string_bytes};
-ghost use Rattle.sk_base.specs.declared.command.Command.{Command};
+ghost use Rattle.serde_json.specs.View.{view};
+ghost use Rattle.sk_base.specs.Commands.{command_over};
+ghost use Rattle.sk_base.specs.Finds.{find_over};
 ghost use Rattle.sk_run.specs.declared.response.Printing.TheVariants as Printing;
 ghost use Rattle.sk_run.specs.declared.response.Response.{Response};
 ghost use Rattle.sk_run.specs.declared.status.Status.{Status};
-ghost use Rattle.sk_run.specs.Responses.{text_under, is_refusal, steps_of};
-ghost use Rattle.sk_run.specs.Outsides.{Output};
+ghost use Rattle.sk_run.specs.Outsides.{output_at};
 ghost use Rattle.sk_run.specs.Machines.{IsAt};
-ghost use Rattle.sk_run.specs.Output.{State, Obeys};
+ghost use Rattle.sk_run.specs.Conducts.{State, Obeys};
 ghost use Rattle.sk_run.specs.Ended.{Ended, Continues, NotWhole};
 ghost use Rattle.sk_run.specs.Closing.{NeverTaken};
 ghost use Rattle.sk_run.specs.Obeying.{ObeysFirst, ObeysThrough};
-ghost use Rattle.sk_run.specs.Demos.{demo_fields, alls, demo_body, demo_record, three_by, demo_find, demo_command, demo_commands};
-ghost use Rattle.sk_run.specs.Queries.{by_relevance};
+ghost use Rattle.sk_run.specs.Demos.{demo_schema, alls, demo_body, demo_record, three_by, demo_find, demo_command, demo_commands};
 
-use crate::answering::answer_heard;
-use crate::heard::Heard;
+use crate::line::answer_request;
+use crate::request::Request;
 use crate::waiting::Waiting;
 use crate::{Machine, Printing, Status, Store};
+use serde_json::Value;
 use sk_base::{
     Ask, Collapse, Command, Edit, Entry, Field, FieldKind, FieldValue, Find, Items, Join, Options,
-    Order, OrderBy, Record, Schema, Scheme, SortKey, Text,
+    Order, OrderBy, Paging, Question, Record, Schema, SortKey, Text, default_options,
+    default_paging,
 };
 use sk_io::Sink;
 use sk_steps::Steps;
 use std::alloc::{AllocError, Global};
 use std::sync::ledger::Ledger;
-
-/// What is found by relevance.
-const BY_RELEVANCE: Order = Order {
-    by: OrderBy::Relevance,
-    falling: false,
-};
 
 /// Obeys the commands of a demonstration with so many documents, each made when the one before it was obeyed. The
 /// answer is the machine behind them, and whether a command was refused, or why not all were obeyed.
@@ -42,14 +38,14 @@ pub(crate) fn obey_demo<M: Store, K: Sink, L: Ledger>(
     steps: &mut Steps<L>,
 ) -> Result<(Machine<M>, bool), Status>
     requires { documents < 2 ^ 32 }
-    ensures ok { IfOk result (λ p. Continues (text_under Printing.WithoutOk M.Answer.text) (is_refusal M.Answer.refuses) (steps_of M.Answer.steps)
-        (ObeysThrough (Obeys M.begun M.does) (IsAt M.fields M.holds) p.0 None (demo_commands documents)) false p.1
-        (record { held = K.held output.old; faults = K.faults output.old; settled = K.settled output.old; finishes = K.finishes output.old; steps = steps.old })
-        (record { held = K.held output.new; faults = K.faults output.new; settled = K.settled output.new; finishes = K.finishes output.new; steps = steps.new })) }
-    ensures err { IfErr result (λ status. Ended (text_under Printing.WithoutOk M.Answer.text) (is_refusal M.Answer.refuses) (steps_of M.Answer.steps)
-        NotWhole NeverTaken (ObeysFirst (Obeys M.begun M.does) None (demo_commands documents)) false status
-        (record { held = K.held output.old; faults = K.faults output.old; settled = K.settled output.old; finishes = K.finishes output.old; steps = steps.old })
-        (record { held = K.held output.new; faults = K.faults output.new; settled = K.settled output.new; finishes = K.finishes output.new; steps = steps.new })) }
+    ensures ok { IfOk result (λ p. Continues Printing.WithoutOk
+        (ObeysThrough (Obeys M.conduct) (IsAt M.under M.holds) p.0 None (demo_commands documents)) false p.1
+        (output_at (K.seen output.old) steps.old)
+        (output_at (K.seen output.new) steps.new)) }
+    ensures err { IfErr result (λ status. Ended Printing.WithoutOk
+        NotWhole NeverTaken (ObeysFirst (Obeys M.conduct) None (demo_commands documents)) false status
+        (output_at (K.seen output.old) steps.old)
+        (output_at (K.seen output.new) steps.new)) }
 {
     let Ok(mut waiting) = Waiting::new(alloc) else {
         return Err(Status::Memory);
@@ -60,10 +56,10 @@ pub(crate) fn obey_demo<M: Store, K: Sink, L: Ledger>(
         let Ok(command) = demo_command(alloc, documents, place) else {
             return Err(waiting.put_last(output));
         };
-        let (next, refuses) = answer_heard(
+        let (next, refuses) = answer_request(
             alloc,
             machine,
-            Heard::Asks(command),
+            Request::Asks(command),
             Printing::WithoutOk,
             &mut waiting,
             output,
@@ -80,8 +76,12 @@ pub(crate) fn obey_demo<M: Store, K: Sink, L: Ledger>(
 
 /// The command at a place, from 0, of a demonstration with so many documents: the schema, the documents from 1 on, and
 /// the finds.
-pub fn demo_command(alloc: Global, documents: usize, place: usize) -> Result<Command, AllocError>
-    ensures { IfOk result (λ command. command ≡ demo_command documents place) }
+pub fn demo_command(
+    alloc: Global,
+    documents: usize,
+    place: usize,
+) -> Result<Command<Value>, AllocError>
+    ensures { IfOk result (λ command. command_over view command ≡ demo_command documents place) }
 {
     if place == 0 {
         let schema = demo_schema(alloc)?;
@@ -92,12 +92,12 @@ pub fn demo_command(alloc: Global, documents: usize, place: usize) -> Result<Com
         return Ok(Command::Edit(Edit::Add(record)));
     }
     let find = demo_find(alloc, place - documents - 1)?;
-    Ok(Command::Find(find))
+    Ok(Command::Ask(Question::Find(find)))
 }
 
 /// A text, a number and a word.
 fn demo_schema(alloc: Global) -> Result<Schema, AllocError>
-    ensures { IfOk result (λ schema. schema ≡ demo_fields) }
+    ensures { IfOk result (λ schema. schema ≡ demo_schema) }
 {
     let mut fields = Vec::new(alloc);
     fields.push(Field {
@@ -173,17 +173,17 @@ fn demo_site(alloc: Global, number: usize) -> Result<Text, AllocError>
 }
 
 /// The find at a place, from 0.
-fn demo_find(alloc: Global, place: usize) -> Result<Find, AllocError>
-    ensures { IfOk result (λ find. find ≡ demo_find place) }
+fn demo_find(alloc: Global, place: usize) -> Result<Find<Value>, AllocError>
+    ensures { IfOk result (λ find. find_over view find ≡ demo_find place) }
 {
     match place {
-        0 => three_by(alloc, "all", BY_RELEVANCE, None),
-        1 => three_by(alloc, "d3 h3", BY_RELEVANCE, None),
-        2 => three_by(alloc, "all AND k7", BY_RELEVANCE, None),
+        0 => three_by(alloc, "all", default_paging().order, None),
+        1 => three_by(alloc, "d3 h3", default_paging().order, None),
+        2 => three_by(alloc, "all AND k7", default_paging().order, None),
         3 => three_by(
             alloc,
             "d1 all",
-            BY_RELEVANCE,
+            default_paging().order,
             Some(Collapse { slot: 1, max: 1 }),
         ),
         _ => three_by(
@@ -207,20 +207,19 @@ fn three_by(
     text: &str,
     order: Order,
     collapse: Option<Collapse>,
-) -> Result<Find, AllocError>
-    ensures { IfOk result (λ find. find ≡ three_by text.now order collapse) }
+) -> Result<Find<Value>, AllocError>
+    ensures { IfOk result (λ find. find_over view find ≡ three_by text.now order collapse) }
 {
     let text = Text::new(alloc, text)?;
     Ok(Find {
         ask: Ask::Text(text, Join::Or),
-        options: Options {
-            scheme: Scheme::Nnn,
-            first: 0,
-            size: 3,
-            check: 0,
-            cutoff: 0,
+        paging: Paging {
+            options: Options {
+                size: 3,
+                ..default_options()
+            },
+            order,
+            collapse,
         },
-        order,
-        collapse,
     })
 }

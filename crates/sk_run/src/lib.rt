@@ -2,36 +2,32 @@
 //! commands of a demonstration. `specs/Ran.antt` has the main theorem.
 #![tactic(auto)]
 
-mod answering;
 mod asking;
+mod by_form;
 mod conclusion;
 mod demo;
-mod find_answer;
 mod form;
-mod heard;
+mod found;
+mod line;
+mod lines;
 mod machine;
-mod printed;
 mod program;
 mod refusal;
+mod request;
 mod response;
-mod running;
-mod runs;
 mod status;
 mod store;
 mod waiting;
 mod words;
 
-pub use asking::{refused, shown};
+pub use by_form::run;
 pub use conclusion::conclude;
 pub use demo::demo_command;
-pub use find_answer::FindAnswer;
 pub use form::{Form, form_of};
-pub use machine::{Machine, Reading, response_to};
-pub use printed::Printed;
+pub use machine::{Machine, Reading};
 pub use program::start;
 pub use refusal::Refusal;
 pub use response::{Printing, Response};
-pub use running::run;
 pub use status::Status;
 pub use store::Store;
 pub use words::{arguments, path_of, words_of};

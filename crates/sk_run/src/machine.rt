@@ -2,15 +2,22 @@
 ghost use Rattle.std.specs.Prelude.{◌≡◌, ◌≤◌, ◌+◌, false, IfOk, OnErr, Some, None};
 ghost use Rattle.std.specs.Option.{option_copied};
 ghost use Rattle.sk_base.specs.declared.command.Command.TheVariants as Command;
+ghost use Rattle.serde_json.specs.View.{view};
+ghost use Rattle.sk_base.specs.Commands.{command_over};
 ghost use Rattle.sk_record.specs.Outcome.{MayCome};
-ghost use Rattle.sk_run.specs.Responses.{steps_of, response_to};
-ghost use Rattle.sk_run.specs.Output.{State, Closes};
-ghost use Rattle.sk_run.specs.Machines.{IsAt, schema_in, schema_behind, Obeyed};
-ghost use Rattle.sk_run.specs.Heard.{MayFollow, Heeded, is_find, may_read, schema_after};
+ghost use Rattle.sk_run.specs.declared.request.Request.TheVariants as Request;
+ghost use Rattle.sk_base.specs.Records.{FitsEdit};
+ghost use Rattle.sk_run.specs.Responses.{steps_of};
+ghost use Rattle.sk_run.specs.Conducts.{State, Closes};
+ghost use Rattle.sk_run.specs.Machines.{IsAt, schema_in, schema_behind, Did, Obeyed};
+ghost use Rattle.sk_run.specs.Requests.{MayBeAsked, AnsweredRequest, may_read, schema_after};
 
-use crate::heard::Heard;
-use crate::{Refusal, Response, Store};
-use sk_base::{Command, Join, Reply, Schema};
+use crate::asking::answer_question;
+use crate::request::Request;
+use crate::response::response_to;
+use crate::{Response, Store};
+use serde_json::Value;
+use sk_base::{Command, Edit, Join, Schema};
 use sk_steps::Steps;
 use std::alloc::{AllocError, Global};
 use std::sync::ledger::Ledger;
@@ -33,39 +40,39 @@ pub struct Machine<M: Drop> {
 impl<M: Store> Machine<M> {
     /// A machine that waits for a schema.
     pub fn new() -> Machine<M>
-        ensures { IsAt M.fields M.holds result None }
+        ensures { IsAt M.under M.holds result None }
     {
         Machine { store: None }
     }
 
-    /// Answers what a line was heard as. Where memory runs out the machine is given up.
-    pub(crate) fn follow<L: Ledger>(
+    /// Answers what a line asks for. Where memory runs out the machine is given up.
+    pub(crate) fn answer<L: Ledger>(
         self,
         alloc: Global,
-        heard: Heard,
+        request: Request,
         steps: &mut Steps<L>,
-    ) -> Result<(Machine<M>, Response<M::Answer>), AllocError>
-        requires { MayFollow (schema_in M.fields self) heard }
-        ensures heeded { IfOk result (λ p. Heeded M.fields M.holds M.begun M.does self heard p.1 p.0) }
-        ensures schema { IfOk result (λ p. schema_in M.fields p.0 ≡ schema_after (schema_in M.fields self) heard) }
-        ensures cost { IfOk result (λ p. steps.new ≡ steps.old + steps_of M.Answer.steps p.1) }
+    ) -> Result<(Machine<M>, Response), AllocError>
+        requires { MayBeAsked (schema_in M.under self) request }
+        ensures answered { IfOk result (λ p. AnsweredRequest M.under M.holds M.conduct self request p.1 p.0) }
+        ensures schema { IfOk result (λ p. schema_in M.under p.0 ≡ schema_after (schema_in M.under self) request) }
+        ensures cost { IfOk result (λ p. steps.new ≡ steps.old + steps_of p.1) }
         ensures later { steps.old ≤ steps.new }
-        ensures still { OnErr result (may_read heard ≡ false → steps.new ≡ steps.old) }
+        ensures still { OnErr result (may_read request ≡ false → steps.new ≡ steps.old) }
     {
-        match heard {
-            Heard::Blank => Ok((self, Response::Skipped)),
-            Heard::Refused(why) => Ok((self, Response::Refused(why))),
-            Heard::Asks(command) => {
-                let (machine, response) = self.execute(alloc, command, steps)?;
+        match request {
+            Request::Blank => Ok((self, Response::Skipped)),
+            Request::Refused(why) => Ok((self, Response::Refused(why))),
+            Request::Asks(command) => {
+                let (machine, response) = self.obey(alloc, command, steps)?;
                 Ok((machine, response))
             }
         }
     }
 
     /// What is put behind the answers of all lines. It is no reading.
-    pub(crate) fn close(self, alloc: Global) -> Result<Response<M::Answer>, AllocError>
-        ensures closes { IfOk result (λ answer. (s : State M.State) → IsAt M.fields M.holds self s → Closes M.closes s answer) }
-        ensures free { IfOk result (λ answer. steps_of M.Answer.steps answer ≡ 0) }
+    pub(crate) fn close(self, alloc: Global) -> Result<Response, AllocError>
+        ensures closes { IfOk result (λ answer. (s : State M.State) → IsAt M.under M.holds self s → Closes M.conduct s answer) }
+        ensures free { IfOk result (λ answer. steps_of answer ≡ 0) }
     {
         match self.store {
             Some(store) => store.close(alloc),
@@ -74,7 +81,7 @@ impl<M: Store> Machine<M> {
     }
 
     pub(crate) fn schema(&self) -> Option<&Schema>
-        ensures { option_copied result ≡ schema_in M.fields self.now }
+        ensures { option_copied result ≡ schema_in M.under self.now }
     {
         match &self.store {
             Some(store) => Some(store.schema()),
@@ -83,18 +90,18 @@ impl<M: Store> Machine<M> {
     }
 
     /// Obeys a command that may come.
-    fn execute<L: Ledger>(
+    fn obey<L: Ledger>(
         self,
         alloc: Global,
-        command: Command,
+        command: Command<Value>,
         steps: &mut Steps<L>,
-    ) -> Result<(Machine<M>, Response<M::Answer>), AllocError>
-        requires { MayCome (schema_in M.fields self) command }
-        ensures obeyed { IfOk result (λ p. Obeyed M.fields M.holds M.begun M.does self.store command p.1 p.0) }
-        ensures schema { IfOk result (λ p. schema_in M.fields p.0 ≡ schema_behind (schema_in M.fields self) command) }
-        ensures cost { IfOk result (λ p. steps.new ≡ steps.old + steps_of M.Answer.steps p.1) }
+    ) -> Result<(Machine<M>, Response), AllocError>
+        requires { MayCome (schema_in M.under self) command }
+        ensures obeyed { IfOk result (λ p. Obeyed M.under M.holds M.conduct self.store (command_over view command) p.1 p.0) }
+        ensures schema { IfOk result (λ p. schema_in M.under p.0 ≡ schema_behind (schema_in M.under self) command) }
+        ensures cost { IfOk result (λ p. steps.new ≡ steps.old + steps_of p.1) }
         ensures later { steps.old ≤ steps.new }
-        ensures still { OnErr result (is_find command ≡ false → steps.new ≡ steps.old) }
+        ensures still { OnErr result (may_read (Request.Asks command) ≡ false → steps.new ≡ steps.old) }
     {
         match (self.store, command) {
             (None, Command::Schema(schema)) => {
@@ -102,8 +109,8 @@ impl<M: Store> Machine<M> {
                 Ok((machine, response))
             }
             (Some(store), command) => {
-                let (machine, response) = obey(store, command, steps)?;
-                Ok((machine, response))
+                let (store, response) = obey(alloc, store, command, steps)?;
+                Ok((Machine { store: Some(store) }, response))
             }
             _ => unreachable!(),
         }
@@ -114,41 +121,47 @@ impl<M: Store> Machine<M> {
 fn accept_schema<M: Store>(
     alloc: Global,
     schema: Schema,
-) -> Result<(Machine<M>, Response<M::Answer>), AllocError>
-    ensures obeyed { IfOk result (λ p. Obeyed M.fields M.holds M.begun M.does None (Command.Schema schema) p.1 p.0) }
-    ensures schema { IfOk result (λ p. schema_in M.fields p.0 ≡ Some schema) }
-    ensures cost { IfOk result (λ p. steps_of M.Answer.steps p.1 ≡ 0) }
+) -> Result<(Machine<M>, Response), AllocError>
+    ensures obeyed { IfOk result (λ p. Obeyed M.under M.holds M.conduct None (Command.Schema schema) p.1 p.0) }
+    ensures schema { IfOk result (λ p. schema_in M.under p.0 ≡ Some schema) }
+    ensures cost { IfOk result (λ p. steps_of p.1 ≡ 0) }
 {
     let fields = schema.fields().len();
     let store = M::new(alloc, schema)?;
     Ok((Machine { store: Some(store) }, Response::Schema(fields)))
 }
 
-/// What a store does.
+/// What a store does with a command, which is no schema.
 fn obey<M: Store, L: Ledger>(
+    alloc: Global,
     store: M,
-    command: Command,
+    command: Command<Value>,
     steps: &mut Steps<L>,
-) -> Result<(Machine<M>, Response<M::Answer>), AllocError>
-    requires { MayCome (Some (M.fields store)) command }
-    ensures obeyed { IfOk result (λ p. Obeyed M.fields M.holds M.begun M.does (Some store) command p.1 p.0) }
-    ensures schema { IfOk result (λ p. schema_in M.fields p.0 ≡ Some (M.fields store)) }
-    ensures cost { IfOk result (λ p. steps.new ≡ steps.old + steps_of M.Answer.steps p.1) }
+) -> Result<(M, Response), AllocError>
+    requires { MayCome (Some (M.under store)) command }
+    ensures did { IfOk result (λ p. Did M.under M.holds M.conduct store (command_over view command) p.1 p.0) }
+    ensures schema { IfOk result (λ p. M.under p.0 ≡ M.under store) }
+    ensures cost { IfOk result (λ p. steps.new ≡ steps.old + steps_of p.1) }
     ensures later { steps.old ≤ steps.new }
-    ensures still { OnErr result (is_find command ≡ false → steps.new ≡ steps.old) }
+    ensures still { OnErr result (may_read (Request.Asks command) ≡ false → steps.new ≡ steps.old) }
 {
-    let (store, response) = store.obey(command, steps)?;
-    Ok((Machine { store: Some(store) }, response))
+    match command {
+        Command::Schema(_) => unreachable!(),
+        Command::Edit(edit) => apply(store, edit),
+        Command::Ask(question) => {
+            let response = answer_question(alloc, &store, &question, steps)?;
+            Ok((store, response))
+        }
+    }
 }
 
-/// What an edit's reply is answered.
-pub fn response_to<A: Drop>(reply: Reply) -> Response<A>
-    ensures { result ≡ response_to reply }
+/// Changes the documents of a store.
+fn apply<M: Store>(store: M, edit: Edit) -> Result<(M, Response), AllocError>
+    requires { FitsEdit (M.under store) edit }
+    ensures did { IfOk result (λ p. Did M.under M.holds M.conduct store (Command.Edit edit) p.1 p.0) }
+    ensures schema { IfOk result (λ p. M.under p.0 ≡ M.under store) }
+    ensures cost { IfOk result (λ p. steps_of p.1 ≡ 0) }
 {
-    match reply {
-        Reply::Id(id) => Response::Id(id),
-        Reply::Done(count) => Response::Deleted(count),
-        Reply::NotFound => Response::Refused(Refusal::NotFound),
-        Reply::NoIdLeft => Response::Refused(Refusal::NoIdLeft),
-    }
+    let (store, reply) = store.apply(edit)?;
+    Ok((store, response_to(reply)))
 }

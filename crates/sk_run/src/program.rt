@@ -1,8 +1,7 @@
 //! A program: from its arguments to the number that it ends with.
 ghost use Rattle.std.specs.Prelude.{◌≡◌};
-ghost use Rattle.sk_run.specs.Outsides.{Seen};
 ghost use Rattle.sk_run.specs.Ran.{Ran};
-ghost use Rattle.sk_run.specs.Started.{Around, RanFrom, Started};
+ghost use Rattle.sk_run.specs.Started.{around, RanFrom, Started};
 
 use crate::{Status, Store, conclude, run, words_of};
 use sk_io::{Sink, Source};
@@ -26,10 +25,10 @@ pub fn start<M: Store, S: Source, R: Source, K: Sink, E: Sink, L: Ledger>(
     requires name { blank.name ≡ L.name }
     requires parts { blank.parts ≡ L.parts }
     requires one { blank.parts ≡ 1 }
-    ensures started { Started (Ran M.Answer.text M.Answer.refuses M.Answer.steps M.begun M.does M.closes) usage.now arguments result
-        (record { input = record { left = S.left input.old; faults = S.faults input.old }; records = record { left = R.left records.old; faults = R.faults records.old }; held = K.held output.old; faults = K.faults output.old; settled = K.settled output.old; finishes = K.finishes output.old })
-        (record { input = record { left = S.left input.new; faults = S.faults input.new }; records = record { left = R.left records.new; faults = R.faults records.new }; held = K.held output.new; faults = K.faults output.new; settled = K.settled output.new; finishes = K.finishes output.new })
-        (E.held errors.old) (E.faults errors.old) (E.held errors.new) (E.faults errors.new) }
+    ensures started { Started (Ran M.conduct) usage.now arguments result
+        (around (S.seen input.old) (R.seen records.old) (K.seen output.old))
+        (around (S.seen input.new) (R.seen records.new) (K.seen output.new))
+        (E.seen errors.old) (E.seen errors.new) }
 {
     let mut steps = Steps::<L>::open(blank);
     let status = status_of::<M, _, _, _, _>(alloc, arguments, input, records, output, &mut steps);
@@ -46,9 +45,9 @@ fn status_of<M: Store, S: Source, R: Source, K: Sink, L: Ledger>(
     steps: &mut Steps<L>,
 ) -> Status
     requires { steps.old ≡ 0 }
-    ensures ran { RanFrom (Ran M.Answer.text M.Answer.refuses M.Answer.steps M.begun M.does M.closes) arguments result
-        (record { input = record { left = S.left input.old; faults = S.faults input.old }; records = record { left = R.left records.old; faults = R.faults records.old }; held = K.held output.old; faults = K.faults output.old; settled = K.settled output.old; finishes = K.finishes output.old })
-        (record { input = record { left = S.left input.new; faults = S.faults input.new }; records = record { left = R.left records.new; faults = R.faults records.new }; held = K.held output.new; faults = K.faults output.new; settled = K.settled output.new; finishes = K.finishes output.new }) }
+    ensures ran { RanFrom (Ran M.conduct) arguments result
+        (around (S.seen input.old) (R.seen records.old) (K.seen output.old))
+        (around (S.seen input.new) (R.seen records.new) (K.seen output.new)) }
 {
     match arguments {
         Ok(arguments) => run::<M, _, _, _, _>(

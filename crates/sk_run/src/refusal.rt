@@ -1,7 +1,12 @@
 //! Why a line is refused.
-ghost use Rattle.std.specs.Prelude.{◌≡◌};
+ghost use Rattle.std.specs.Prelude.{◌≡◌, IfOk, string_bytes};
+ghost use Rattle.sk_run.specs.declared.refusal.Refusal.TheVariants as Refusal;
+ghost use Rattle.sk_run.specs.Refusals.{refusal_number, name_of, fault_name, detail_of, refusal_line};
 
-/// Why a line is refused, whatever store answers it. The tests are made in this order.
+use sk_grammar::FaultKind;
+use std::alloc::{AllocError, Global};
+
+/// Why a line is refused. The tests are made in this order.
 #[derive(Clone, Copy, Debug, PartialEq, Eq)]
 pub enum Refusal {
     /// The line has more bytes than a line may have.
@@ -20,11 +25,13 @@ pub enum Refusal {
     NoIdLeft,
     /// No live document has the id.
     NotFound,
+    /// The text has this first fault, at this byte.
+    BadQuery(FaultKind, usize),
+    /// The tree is no query.
+    BadTree,
 }
 
 impl Refusal {
-    ghost use Rattle.sk_run.specs.Refusals.{refusal_number, name_of};
-
     pub fn number(self) -> u32
         ensures { result ≡ refusal_number self }
     {
@@ -37,6 +44,8 @@ impl Refusal {
             Refusal::BadField => 6,
             Refusal::NoIdLeft => 7,
             Refusal::NotFound => 8,
+            Refusal::BadQuery(_, _) => 9,
+            Refusal::BadTree => 10,
         }
     }
 
@@ -52,6 +61,50 @@ impl Refusal {
             Refusal::BadField => "BadField",
             Refusal::NoIdLeft => "NoIdLeft",
             Refusal::NotFound => "NotFound",
+            Refusal::BadQuery(_, _) => "BadQuery",
+            Refusal::BadTree => "BadTree",
         }
+    }
+
+    /// What is printed behind the name: of a query text its fault, and the byte at which it stands.
+    fn detail(self, alloc: Global) -> Result<String, AllocError>
+        ensures { IfOk result (λ s. string_bytes s ≡ detail_of self) }
+    {
+        match self {
+            Refusal::BadQuery(kind, place) => fault_text(alloc, kind, place),
+            _ => Ok(String::new(alloc)),
+        }
+    }
+
+    /// The line that is printed.
+    pub(crate) fn line(self, alloc: Global) -> Result<String, AllocError>
+        ensures { IfOk result (λ s. string_bytes s ≡ refusal_line self) }
+    {
+        let number = self.number();
+        let name = self.name();
+        let detail = self.detail(alloc)?;
+        let detail = detail.as_str();
+        format!(in alloc; "refused {number} {name}{detail}\n")
+    }
+}
+
+fn fault_text(alloc: Global, kind: FaultKind, place: usize) -> Result<String, AllocError>
+    ensures { IfOk result (λ s. string_bytes s ≡ detail_of (Refusal.BadQuery kind place)) }
+{
+    let name = fault_name(kind);
+    format!(in alloc; " {name} at {place}")
+}
+
+fn fault_name(kind: FaultKind) -> &'static str
+    ensures { result.now ≡ fault_name kind }
+{
+    match kind {
+        FaultKind::StrayBracket => "StrayBracket",
+        FaultKind::UnclosedBracket => "UnclosedBracket",
+        FaultKind::MissingOperand => "MissingOperand",
+        FaultKind::BadNear => "BadNear",
+        FaultKind::BadRange => "BadRange",
+        FaultKind::TooDeep => "TooDeep",
+        FaultKind::TooMany => "TooMany",
     }
 }

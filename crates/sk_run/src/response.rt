@@ -1,14 +1,15 @@
-//! What a line of commands is answered.
-ghost use Rattle.std.specs.Prelude.{◌≡◌, IfOk, string_bytes};
+//! What a line is answered, and its text.
+ghost use Rattle.std.specs.Prelude.{◌≡◌, ◌++◌, codes, IfOk, string_bytes};
+ghost use Rattle.sk_run.specs.Responses.{response_to};
 
-use crate::Printed;
+use crate::found::found_lines;
 use crate::refusal::Refusal;
-use sk_base::DocId;
+use sk_base::{DocId, Reply, Report, Text};
 use std::alloc::{AllocError, Global};
 
-/// What one line is answered, by a store that has answers of its own.
+/// What one line is answered.
 #[derive(Debug, Drop)]
-pub enum Response<A> {
+pub enum Response {
     /// A blank line has no answer.
     Skipped,
     Refused(Refusal),
@@ -18,8 +19,10 @@ pub enum Response<A> {
     Id(DocId),
     /// So many documents were removed.
     Deleted(u32),
-    /// What the store answers to a line that is neither a schema nor an edit.
-    Own(A),
+    /// The rank of the first hit, and the report.
+    Found(u32, Report),
+    /// The text of a query.
+    Query(Text),
 }
 
 /// Which answers are printed.
@@ -30,75 +33,73 @@ pub enum Printing {
     WithoutOk,
 }
 
-impl<A: Printed> Response<A> {
+impl Response {
     ghost use Rattle.std.specs.Prelude.{◌≡◌, IfOk, string_bytes};
-    ghost use Rattle.sk_run.specs.Responses.{says_ok, text_under};
+    ghost use Rattle.sk_run.specs.Responses.{text_of, says_ok, text_under, is_refusal};
 
     /// Whether it says no more than that its line was done.
     fn says_ok(&self) -> bool
         ensures { result ≡ says_ok self.now }
     {
+        matches!(
+            self,
+            Response::Schema(_) | Response::Id(_) | Response::Deleted(_)
+        )
+    }
+
+    /// Whether it refuses its line.
+    pub(crate) fn refuses(&self) -> bool
+        ensures { result ≡ is_refusal self.now }
+    {
+        matches!(self, Response::Refused(_))
+    }
+
+    /// The lines that are printed, each with its end.
+    fn text(&self, alloc: Global) -> Result<String, AllocError>
+        ensures { IfOk result (λ s. string_bytes s ≡ text_of self.now) }
+    {
         match self {
-            Response::Schema(_) | Response::Id(_) | Response::Deleted(_) => true,
-            Response::Skipped | Response::Refused(_) | Response::Own(_) => false,
+            Response::Skipped => Ok(String::new(alloc)),
+            Response::Refused(why) => why.line(alloc),
+            Response::Schema(fields) => format!(in alloc; "ok schema {fields}\n"),
+            Response::Id(id) => format!(in alloc; "ok id {id}\n"),
+            Response::Deleted(count) => format!(in alloc; "ok deleted {count}\n"),
+            Response::Found(first, report) => found_lines(alloc, *first, report),
+            Response::Query(text) => query_line(alloc, text),
         }
     }
 
     /// The lines that are printed, where answers are printed so.
-    pub(crate) fn into_text_under(
-        self,
-        alloc: Global,
-        printing: Printing,
-    ) -> Result<String, AllocError>
-        ensures { IfOk result (λ s. string_bytes s ≡ text_under printing A.text self) }
+    pub(crate) fn text_under(&self, alloc: Global, printing: Printing) -> Result<String, AllocError>
+        ensures { IfOk result (λ s. string_bytes s ≡ text_under printing self.now) }
     {
         match printing {
-            Printing::All => self.into_text(alloc),
+            Printing::All => self.text(alloc),
             Printing::WithoutOk => {
                 if self.says_ok() {
                     return Ok(String::new(alloc));
                 }
-                self.into_text(alloc)
+                self.text(alloc)
             }
         }
     }
 }
 
-impl<A: Printed> Printed for Response<A> {
-    ghost use Rattle.sk_run.specs.Responses.{text_of, is_refusal, steps_of};
-
-    ghost text = { text_of A.text };
-
-    ghost refuses = { is_refusal A.refuses };
-
-    ghost steps = { steps_of A.steps };
-
-    fn into_text(self, alloc: Global) -> Result<String, AllocError> {
-        match self {
-            Response::Skipped => Ok(String::new(alloc)),
-            Response::Refused(refusal) => refusal_line(alloc, refusal),
-            Response::Schema(fields) => format!(in alloc; "ok schema {fields}\n"),
-            Response::Id(id) => format!(in alloc; "ok id {id}\n"),
-            Response::Deleted(count) => format!(in alloc; "ok deleted {count}\n"),
-            Response::Own(answer) => answer.into_text(alloc),
-        }
-    }
-
-    fn refuses(&self) -> bool {
-        match self {
-            Response::Refused(_) => true,
-            Response::Own(answer) => answer.refuses(),
-            _ => false,
-        }
-    }
+fn query_line(alloc: Global, text: &Text) -> Result<String, AllocError>
+    ensures { IfOk result (λ s. string_bytes s ≡ codes "query " ++ (text.now ++ codes "\n")) }
+{
+    let text = text.as_str();
+    format!(in alloc; "query {text}\n")
 }
 
-ghost use Rattle.sk_run.specs.Responses.{refusal_line};
-
-fn refusal_line(alloc: Global, refusal: Refusal) -> Result<String, AllocError>
-    ensures { IfOk result (λ s. string_bytes s ≡ refusal_line refusal) }
+/// What an edit's reply is answered.
+pub fn response_to(reply: Reply) -> Response
+    ensures { result ≡ response_to reply }
 {
-    let number = refusal.number();
-    let name = refusal.name();
-    format!(in alloc; "refused {number} {name}\n")
+    match reply {
+        Reply::Id(id) => Response::Id(id),
+        Reply::Done(count) => Response::Deleted(count),
+        Reply::NotFound => Response::Refused(Refusal::NotFound),
+        Reply::NoIdLeft => Response::Refused(Refusal::NoIdLeft),
+    }
 }

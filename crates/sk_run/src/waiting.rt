@@ -4,7 +4,7 @@ ghost use Rattle.std.specs.Io.KnownBytes.{Appends};
 ghost use Rattle.sk_io.specs.Causes.{HasCause};
 ghost use Rattle.sk_io.specs.Fronts.{AppendsPrefix};
 ghost use Rattle.sk_run.specs.declared.status.Status.TheVariants as Status;
-ghost use Rattle.sk_run.specs.Outsides.{Output};
+ghost use Rattle.sk_run.specs.Outsides.{output_at};
 ghost use Rattle.sk_run.specs.Waiting.{Moves, PutsLast};
 
 use crate::Status;
@@ -44,11 +44,11 @@ impl Waiting {
     /// Puts all that waits. Where nothing waits the sink is not asked.
     pub(crate) fn put<K: Sink>(&mut self, output: &mut K) -> Result<(), Failed>
         ensures empty { OnOk result (self.new ≡ []) }
-        ensures ok { OnOk result (Appends (K.held output.old) (K.held output.new) self.old) }
-        ensures err { OnErr result (AppendsPrefix (K.held output.old) (K.held output.new) self.old) }
+        ensures ok { OnOk result (Appends (K.seen output.old).held (K.seen output.new).held self.old) }
+        ensures err { OnErr result (AppendsPrefix (K.seen output.old).held (K.seen output.new).held self.old) }
         ensures none { self.old ≡ [] → IsOk result }
-        ensures finishes { K.finishes output.new ≡ K.finishes output.old }
-        ensures cause { HasCause (K.faults output.old) (K.faults output.new) result }
+        ensures finishes { (K.seen output.new).finishes ≡ (K.seen output.old).finishes }
+        ensures cause { HasCause (K.seen output.old).faults (K.seen output.new).faults result }
     {
         if self.bytes.is_empty() {
             return Ok(());
@@ -61,10 +61,10 @@ impl Waiting {
     /// Puts all that waits, unless it may stay.
     pub(crate) fn put_unless<K: Sink>(&mut self, stays: bool, output: &mut K) -> Result<(), Failed>
         ensures empty { OnOk result (stays ≡ false → self.new ≡ []) }
-        ensures ok { OnOk result (Moves self.old self.new (K.held output.old) (K.held output.new)) }
-        ensures err { OnErr result (AppendsPrefix (K.held output.old) (K.held output.new) self.old) }
-        ensures finishes { K.finishes output.new ≡ K.finishes output.old }
-        ensures cause { HasCause (K.faults output.old) (K.faults output.new) result }
+        ensures ok { OnOk result (Moves self.old self.new (K.seen output.old).held (K.seen output.new).held) }
+        ensures err { OnErr result (AppendsPrefix (K.seen output.old).held (K.seen output.new).held self.old) }
+        ensures finishes { (K.seen output.new).finishes ≡ (K.seen output.old).finishes }
+        ensures cause { HasCause (K.seen output.old).faults (K.seen output.new).faults result }
     {
         if stays {
             return Ok(());
@@ -75,10 +75,10 @@ impl Waiting {
     /// The text waits behind the others, which are put first where it has no room beside them. One that has no room
     /// alone is put at once.
     pub(crate) fn join<K: Sink>(&mut self, text: &[u8], output: &mut K) -> Result<(), Failed>
-        ensures ok { OnOk result (Moves (self.old ++ text.now) self.new (K.held output.old) (K.held output.new)) }
-        ensures err { OnErr result (AppendsPrefix (K.held output.old) (K.held output.new) (self.old ++ text.now)) }
-        ensures finishes { K.finishes output.new ≡ K.finishes output.old }
-        ensures cause { HasCause (K.faults output.old) (K.faults output.new) result }
+        ensures ok { OnOk result (Moves (self.old ++ text.now) self.new (K.seen output.old).held (K.seen output.new).held) }
+        ensures err { OnErr result (AppendsPrefix (K.seen output.old).held (K.seen output.new).held (self.old ++ text.now)) }
+        ensures finishes { (K.seen output.new).finishes ≡ (K.seen output.old).finishes }
+        ensures cause { HasCause (K.seen output.old).faults (K.seen output.new).faults result }
     {
         if text.len() > BOUND {
             self.put(output)?;
@@ -95,8 +95,8 @@ impl Waiting {
     /// Puts all that waits where memory ran out, and tells how the run ends.
     pub(crate) fn put_last<K: Sink>(&mut self, output: &mut K) -> Status
         ensures last { (count : ℕ) → PutsLast self.old result
-            (record { held = K.held output.old; faults = K.faults output.old; settled = K.settled output.old; finishes = K.finishes output.old; steps = count })
-            (record { held = K.held output.new; faults = K.faults output.new; settled = K.settled output.new; finishes = K.finishes output.new; steps = count }) }
+            (output_at (K.seen output.old) count)
+            (output_at (K.seen output.new) count) }
         ensures none { self.old ≡ [] → result ≡ Status.Memory }
     {
         match self.put(output) {

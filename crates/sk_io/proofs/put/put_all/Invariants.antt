@@ -4,10 +4,10 @@ use Rattle.sk_io.proofs.put.put_all.Given as goal
 
 abbrev pub invariant-pieces : goal.invariant-pieces
 invariant-pieces g l = record {
-  so_far : PutSoFar (g.K.Sink.held l.fn.sink) (g.K.Sink.held l.sink) l.piece l.rest;
-  settled : g.K.Sink.settled l.sink ≡ (g.K.Sink.settled l.fn.sink && (length l.rest == length l.piece));
-  finishes : g.K.Sink.finishes l.sink ≡ g.K.Sink.finishes l.fn.sink;
-  later : g.K.Sink.faults l.fn.sink ≤ g.K.Sink.faults l.sink;
+  so_far : PutSoFar (g.K.Sink.seen l.fn.sink).held (g.K.Sink.seen l.sink).held l.piece l.rest;
+  settled : (g.K.Sink.seen l.sink).settled ≡ ((g.K.Sink.seen l.fn.sink).settled && (length l.rest == length l.piece));
+  finishes : (g.K.Sink.seen l.sink).finishes ≡ (g.K.Sink.seen l.fn.sink).finishes;
+  later : (g.K.Sink.seen l.fn.sink).faults ≤ (g.K.Sink.seen l.sink).faults;
 }
 
 abbrev pub decreases-pieces : goal.decreases-pieces

@@ -1,31 +1,35 @@
 use Rattle.std.proofs.Common.{arith, ap, refl, sym, ◌∙◌, subst, None, Option, List}
 use Rattle.std.proofs.lemmas.Result.{err_from_is_err_and}
+use Rattle.serde_json.specs.Data.{Data}
+use Rattle.serde_json.specs.View.{view}
 use Rattle.sk_base.specs.declared.command.Command.{Command}
-use Rattle.sk_base.specs.declared.schema.Field.{Field}
+use Rattle.sk_base.specs.Commands.{command_over}
+use Rattle.sk_base.specs.declared.schema.Schema.{Schema}
 use Rattle.sk_record.specs.Outcome.{MayCome}
+use Rattle.sk_run.specs.Outsides.{output_at}
 use Rattle.sk_run.specs.declared.response.Printing.TheVariants as Printing
-use Rattle.sk_run.specs.Responses.{text_under, is_refusal, steps_of}
 use Rattle.sk_run.specs.Machines.{IsAt, schema_behind}
-use Rattle.sk_run.specs.Output.{Obeys}
+use Rattle.sk_run.specs.Conducts.{Obeys}
 use Rattle.sk_run.proofs.MachineLemmas.{schema_in_state}
-use Rattle.sk_run.proofs.DemoLemmas.{demo_schema, comes, next_schema, demo_none, demo_at_once, demo_more, demo_last, demo_within, demo_unput, demo_ended}
+use Rattle.sk_run.proofs.DemoLemmas.{schema_before, comes_as, behind_as, comes, next_schema, demo_none, demo_at_once, demo_more, demo_last, demo_within, demo_unput, demo_ended}
 use Rattle.sk_run.proofs.demo.obey_demo.Goals as goal
 
 pub returns-in_default-clause-err : goal.returns-in_default-clause-err
-returns-in_default-clause-err g c = demo_at_once (text_under Printing.WithoutOk g.M.Answer.Printed.text) (is_refusal g.M.Answer.Printed.refuses) (steps_of g.M.Answer.Printed.steps) (IsAt g.M.Store.fields g.M.Store.holds) (Obeys g.M.Store.begun g.M.Store.does) None c.args.documents _ _ refl
+returns-in_default-clause-err g c = demo_at_once Printing.WithoutOk (IsAt g.M.Store.under g.M.Store.holds) (Obeys g.M.Store.conduct) None c.args.documents _ _ refl
 
 pub commands-init : goal.commands-init
 commands-init g c = record {
-  schema = schema_in_state g.M.Store.fields g.M.Store.holds g.M.Store.begun g.M.Store.does c.new-machine.result.store None c.new-machine.ensures;
+  schema = schema_in_state g.M.Store.under g.M.Store.holds g.M.Store.conduct c.new-machine.result.store None c.new-machine.ensures;
   write_later = omega arith;
   finishes = refl;
-  so_far = demo_none (text_under Printing.WithoutOk g.M.Answer.Printed.text) (is_refusal g.M.Answer.Printed.refuses) (steps_of g.M.Answer.Printed.steps) (IsAt g.M.Store.fields g.M.Store.holds) (Obeys g.M.Store.begun g.M.Store.does) None c.args.documents _ _ _ _ c.in-Ok.ensures c.new-machine.ensures;
+  so_far = demo_none Printing.WithoutOk (IsAt g.M.Store.under g.M.Store.holds) (Obeys g.M.Store.conduct) None c.args.documents _ _ _ _ c.in-Ok.ensures c.new-machine.ensures;
 }
 
-pub answer_heard-requires : goal.answer_heard-requires
-answer_heard-requires g c =
-    subst (λ (s : Option (List Field)). MayCome s c.in-Ok-demo_command.command) (sym c.commands.invariant.schema)
-    (subst (λ (k : Command). MayCome (demo_schema c.commands.place) k) (sym c.in-Ok-demo_command.ensures) (comes c.args.documents c.commands.place))
+pub answer_request-requires : goal.answer_request-requires
+answer_request-requires g c =
+    subst (λ (s : Option Schema). MayCome s c.in-Ok-demo_command.command) (sym c.commands.invariant.schema)
+    (comes_as view (schema_before c.commands.place) c.in-Ok-demo_command.command
+    (subst (λ (k : Command Data). MayCome (schema_before c.commands.place) k) (sym c.in-Ok-demo_command.ensures) (comes c.args.documents c.commands.place)))
 
 pub commands-preserved : goal.commands-preserved
 commands-preserved g c =
@@ -33,23 +37,24 @@ commands-preserved g c =
     let joins = c.in_ok-next.ensures.ok in
     record {
       schema =
-          c.in_ok-next.ensures.schema ∙ ap (λ (s : Option (List Field)). schema_behind s c.in-Ok-demo_command.command) so.schema
-          ∙ ap (λ (k : Command). schema_behind (demo_schema c.commands.place) k) c.in-Ok-demo_command.ensures ∙ next_schema c.args.documents c.commands.place;
+          c.in_ok-next.ensures.schema ∙ ap (λ (s : Option Schema). schema_behind s c.in-Ok-demo_command.command) so.schema
+          ∙ behind_as view (schema_before c.commands.place) c.in-Ok-demo_command.command
+          ∙ ap (λ (k : Command Data). schema_behind (schema_before c.commands.place) k) c.in-Ok-demo_command.ensures ∙ next_schema c.args.documents c.commands.place;
       write_later = omega (arith, so.write_later, joins.later);
       finishes = joins.finishes ∙ so.finishes;
       so_far =
-          demo_more (text_under Printing.WithoutOk g.M.Answer.Printed.text) (is_refusal g.M.Answer.Printed.refuses) (steps_of g.M.Answer.Printed.steps) (IsAt g.M.Store.fields g.M.Store.holds) (Obeys g.M.Store.begun g.M.Store.does) None c.args.documents _ _ c.commands.place c.commands.waiting _ c.commands.machine c.in_ok-next.next c.commands.refused c.in_ok-next.refuses
-          (record { held = g.K.Sink.held c.commands.output; faults = g.K.Sink.faults c.commands.output; settled = g.K.Sink.settled c.commands.output; finishes = g.K.Sink.finishes c.commands.output; steps = c.commands.steps })
-          (record { held = g.K.Sink.held c.answer_heard.new.output; faults = g.K.Sink.faults c.answer_heard.new.output; settled = g.K.Sink.settled c.answer_heard.new.output; finishes = g.K.Sink.finishes c.answer_heard.new.output; steps = c.answer_heard.new.steps })
-          c.in-Ok-demo_command.command c.commands-test.true so.so_far c.in-Ok-demo_command.ensures joins;
+          demo_more Printing.WithoutOk (IsAt g.M.Store.under g.M.Store.holds) (Obeys g.M.Store.conduct) None c.args.documents _ _ c.commands.place c.commands.waiting _ c.commands.machine c.in_ok-next.next c.commands.refused c.in_ok-next.refuses
+          (output_at (g.K.Sink.seen c.commands.output) c.commands.steps)
+          (output_at (g.K.Sink.seen c.answer_request.new.output) c.answer_request.new.steps)
+          (command_over view c.in-Ok-demo_command.command) c.commands-test.true so.so_far c.in-Ok-demo_command.ensures joins;
     }
 
 pub returns-in_default-demo_command-clause-err : goal.returns-in_default-demo_command-clause-err
 returns-in_default-demo_command-clause-err g c =
     let so = c.commands.invariant in
-    demo_last (text_under Printing.WithoutOk g.M.Answer.Printed.text) (is_refusal g.M.Answer.Printed.refuses) (steps_of g.M.Answer.Printed.steps) (IsAt g.M.Store.fields g.M.Store.holds) (Obeys g.M.Store.begun g.M.Store.does) None c.args.documents c.commands.place c.commands.waiting c.commands.machine c.commands.refused (record { held = g.K.Sink.held c.args.output.now; faults = g.K.Sink.faults c.args.output.now; settled = g.K.Sink.settled c.args.output.now; finishes = g.K.Sink.finishes c.args.output.now; steps = c.args.steps.now })
-    (record { held = g.K.Sink.held c.commands.output; faults = g.K.Sink.faults c.commands.output; settled = g.K.Sink.settled c.commands.output; finishes = g.K.Sink.finishes c.commands.output; steps = c.commands.steps })
-    (record { held = g.K.Sink.held c.put_last.new.output; faults = g.K.Sink.faults c.put_last.new.output; settled = g.K.Sink.settled c.put_last.new.output; finishes = g.K.Sink.finishes c.put_last.new.output; steps = c.commands.steps })
+    demo_last Printing.WithoutOk (IsAt g.M.Store.under g.M.Store.holds) (Obeys g.M.Store.conduct) None c.args.documents c.commands.place c.commands.waiting c.commands.machine c.commands.refused (output_at (g.K.Sink.seen c.args.output.now) c.args.steps.now)
+    (output_at (g.K.Sink.seen c.commands.output) c.commands.steps)
+    (output_at (g.K.Sink.seen c.put_last.new.output) c.commands.steps)
     so.so_far so.finishes so.write_later
     c.put_last.result (c.put_last.ensures.last c.commands.steps) refl
 
@@ -58,26 +63,26 @@ returns-in_err-next-clause-err g c =
     let so = c.commands.invariant in
     let p = err_from_is_err_and c.from_residual.result c.from_residual.ensures.1 in
     rw (p.1, p.2)
-    (demo_within (text_under Printing.WithoutOk g.M.Answer.Printed.text) (is_refusal g.M.Answer.Printed.refuses) (steps_of g.M.Answer.Printed.steps) (IsAt g.M.Store.fields g.M.Store.holds) (Obeys g.M.Store.begun g.M.Store.does) None c.args.documents c.commands.place c.commands.waiting c.commands.machine c.commands.refused (record { held = g.K.Sink.held c.args.output.now; faults = g.K.Sink.faults c.args.output.now; settled = g.K.Sink.settled c.args.output.now; finishes = g.K.Sink.finishes c.args.output.now; steps = c.args.steps.now })
-    (record { held = g.K.Sink.held c.commands.output; faults = g.K.Sink.faults c.commands.output; settled = g.K.Sink.settled c.commands.output; finishes = g.K.Sink.finishes c.commands.output; steps = c.commands.steps })
-    (record { held = g.K.Sink.held c.answer_heard.new.output; faults = g.K.Sink.faults c.answer_heard.new.output; settled = g.K.Sink.settled c.answer_heard.new.output; finishes = g.K.Sink.finishes c.answer_heard.new.output; steps = c.answer_heard.new.steps })
+    (demo_within Printing.WithoutOk (IsAt g.M.Store.under g.M.Store.holds) (Obeys g.M.Store.conduct) None c.args.documents c.commands.place c.commands.waiting c.commands.machine c.commands.refused (output_at (g.K.Sink.seen c.args.output.now) c.args.steps.now)
+    (output_at (g.K.Sink.seen c.commands.output) c.commands.steps)
+    (output_at (g.K.Sink.seen c.answer_request.new.output) c.answer_request.new.steps)
     so.so_far so.finishes so.write_later
-    c.in-Ok-demo_command.command c.commands-test.true c.in-Ok-demo_command.ensures _ c.in_err-next.ensures.err)
+    (command_over view c.in-Ok-demo_command.command) c.commands-test.true c.in-Ok-demo_command.ensures _ c.in_err-next.ensures.err)
 
 pub returns-in_default-put-clause-err : goal.returns-in_default-put-clause-err
 returns-in_default-put-clause-err g c =
     let so = c.commands.invariant in
-    demo_unput (text_under Printing.WithoutOk g.M.Answer.Printed.text) (is_refusal g.M.Answer.Printed.refuses) (steps_of g.M.Answer.Printed.steps) (IsAt g.M.Store.fields g.M.Store.holds) (Obeys g.M.Store.begun g.M.Store.does) None c.args.documents c.commands.place c.commands.waiting c.commands.machine c.commands.refused (record { held = g.K.Sink.held c.args.output.now; faults = g.K.Sink.faults c.args.output.now; settled = g.K.Sink.settled c.args.output.now; finishes = g.K.Sink.finishes c.args.output.now; steps = c.args.steps.now })
-    (record { held = g.K.Sink.held c.commands.output; faults = g.K.Sink.faults c.commands.output; settled = g.K.Sink.settled c.commands.output; finishes = g.K.Sink.finishes c.commands.output; steps = c.commands.steps })
-    (record { held = g.K.Sink.held c.put.new.output; faults = g.K.Sink.faults c.put.new.output; settled = g.K.Sink.settled c.put.new.output; finishes = g.K.Sink.finishes c.put.new.output; steps = c.commands.steps })
+    demo_unput Printing.WithoutOk (IsAt g.M.Store.under g.M.Store.holds) (Obeys g.M.Store.conduct) None c.args.documents c.commands.place c.commands.waiting c.commands.machine c.commands.refused (output_at (g.K.Sink.seen c.args.output.now) c.args.steps.now)
+    (output_at (g.K.Sink.seen c.commands.output) c.commands.steps)
+    (output_at (g.K.Sink.seen c.put.new.output) c.commands.steps)
     so.so_far so.finishes so.write_later
     c.in_default-put.ensures.err refl c.put.ensures.finishes (c.in_default-put.ensures.cause.failed refl)
 
 pub returns-clause-ok : goal.returns-clause-ok
 returns-clause-ok g c =
     let so = c.commands.invariant in
-    demo_ended (text_under Printing.WithoutOk g.M.Answer.Printed.text) (is_refusal g.M.Answer.Printed.refuses) (steps_of g.M.Answer.Printed.steps) (IsAt g.M.Store.fields g.M.Store.holds) (Obeys g.M.Store.begun g.M.Store.does) None c.args.documents c.commands.place c.commands.waiting c.commands.machine c.commands.refused (record { held = g.K.Sink.held c.args.output.now; faults = g.K.Sink.faults c.args.output.now; settled = g.K.Sink.settled c.args.output.now; finishes = g.K.Sink.finishes c.args.output.now; steps = c.args.steps.now })
-    (record { held = g.K.Sink.held c.commands.output; faults = g.K.Sink.faults c.commands.output; settled = g.K.Sink.settled c.commands.output; finishes = g.K.Sink.finishes c.commands.output; steps = c.commands.steps })
-    (record { held = g.K.Sink.held c.put.new.output; faults = g.K.Sink.faults c.put.new.output; settled = g.K.Sink.settled c.put.new.output; finishes = g.K.Sink.finishes c.put.new.output; steps = c.commands.steps })
+    demo_ended Printing.WithoutOk (IsAt g.M.Store.under g.M.Store.holds) (Obeys g.M.Store.conduct) None c.args.documents c.commands.place c.commands.waiting c.commands.machine c.commands.refused (output_at (g.K.Sink.seen c.args.output.now) c.args.steps.now)
+    (output_at (g.K.Sink.seen c.commands.output) c.commands.steps)
+    (output_at (g.K.Sink.seen c.put.new.output) c.commands.steps)
     so.so_far so.finishes so.write_later
     (omega (arith, c.commands-test.false, c.commands.auto.place-end)) c.in-Ok-put.ensures.ok refl c.put.ensures.finishes c.put.ensures.cause.later

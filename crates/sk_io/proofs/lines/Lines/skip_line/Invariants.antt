@@ -4,8 +4,8 @@ use Rattle.sk_io.proofs.lines.Lines.skip_line.Given as goal
 
 abbrev pub invariant-skip : goal.invariant-skip
 invariant-skip g l = record {
-  so_far : SkipSoFar l.fn.self (g.S.Source.left l.fn.source) l.self (g.S.Source.left l.source);
-  later : g.S.Source.faults l.fn.source ≤ g.S.Source.faults l.source;
+  so_far : SkipSoFar l.fn.self (g.S.Source.seen l.fn.source).left l.self (g.S.Source.seen l.source).left;
+  later : (g.S.Source.seen l.fn.source).faults ≤ (g.S.Source.seen l.source).faults;
   ended : l.fn.self.ended ≡ true → (l.self.ended ≡ true) × (l.source ≡ l.fn.source);
 }
 

@@ -1,4 +1,0 @@
-use Rattle.sk_engine.proofs.store.SessionStore.obey.Goals as goal
-
-pub returns-in-Edit-clause-did : goal.returns-in-Edit-clause-did
-returns-in-Edit-clause-did g c = rw c.in-Edit.is c.apply.ensures.did

@@ -1,6 +1,0 @@
-use Rattle.std.proofs.Common.{◌≡◌, ◌++◌, ◌+◌, drop, string_bytes}
-use Rattle.sk_run.specs.FindAnswers.{hit_lines, found_text}
-use Rattle.sk_run.proofs.find_answer.found_lines.Given as goal
-
-abbrev pub invariant-hits : goal.invariant-hits
-invariant-hits l = string_bytes l.text ++ hit_lines (l.first + l.i) (drop l.i l.report.hits) ≡ found_text l.first l.report

@@ -1,8 +1,0 @@
-use Rattle.std.proofs.Common.{Ok, sym, ◌∙◌}
-use Rattle.std.specs.Option.{option_copied}
-use Rattle.sk_record.specs.Told.{told_by}
-use Rattle.sk_run.proofs.MachineLemmas.{line_meant}
-use Rattle.sk_run.proofs.heard.hear_command.Goals as goal
-
-pub returns-in-Ok-clause-heard : goal.returns-in-Ok-clause-heard
-returns-in-Ok-clause-heard c = line_meant (option_copied c.args.schema) c.args.line.now (Ok (told_by c.in-Ok.command)) c.requires (sym c.is_blank.ensures ∙ c.if-is_blank.false) c.in-Ok.ensures.reads
