@@ -12,7 +12,7 @@ ghost use Rattle.sk_page.specs.Views.{Opens, MaySee, Sees, MayReport, Reports};
 use crate::hits::hits_of;
 use crate::offer::show;
 use crate::reader::{Reader, key_of, value_of};
-use sk_base::{Collapse, DocId, Paging, Options, Order, OrderBy, Report, Weight};
+use sk_base::{Collapse, DocId, Options, Order, OrderBy, Paging, Report, Weight};
 use sk_collapse::Collapser;
 use sk_heap::ResultHeap;
 use sk_steps::Steps;

@@ -7,12 +7,14 @@ use crate::{Status, Store, conclude, run, words_of};
 use sk_io::{Sink, Source};
 use sk_steps::Steps;
 use std::alloc::Global;
+use std::rt::Env;
 use std::sync::ledger::{Blank, Ledger};
 
 /// Runs what the arguments of a program ask for, over a store of its own and under a counter of its own, and answers
 /// the number that the program ends with. Why a run did not come to its end is said on `errors`; `usage` is said of
 /// words that are no form.
-pub fn start<M: Store, S: Source, R: Source, K: Sink, E: Sink, L: Ledger>(
+pub fn start<M: Store, H: Env, S: Source, R: Source, K: Sink, E: Sink, L: Ledger>(
+    host: &H,
     blank: Blank,
     alloc: Global,
     usage: &'static [u8],
@@ -30,7 +32,7 @@ pub fn start<M: Store, S: Source, R: Source, K: Sink, E: Sink, L: Ledger>(
         (around (S.seen input.new) (R.seen records.new) (K.seen output.new))
         (E.seen errors.old) (E.seen errors.new) }
 {
-    let mut steps = Steps::<L>::open(blank);
+    let mut steps = Steps::<L>::open(host, blank);
     let status = status_of::<M, _, _, _, _>(alloc, arguments, input, records, output, &mut steps);
     conclude(status, usage, errors)
 }

@@ -111,7 +111,12 @@ fn seeks_of<R: Env, L: Ledger>(
 }
 
 /// The same of a line, under a counter of its own; none where the line is no query.
-fn outcome<R: Env>(rt: &R, alloc: Global, index: &Index, line: &[u8]) -> Result<Option<u64>, AllocError> {
+fn outcome<R: Env>(
+    rt: &R,
+    alloc: Global,
+    index: &Index,
+    line: &[u8],
+) -> Result<Option<u64>, AllocError> {
     let Ok(value) = Value::from_slice(alloc, line) else {
         return Ok(None);
     };

@@ -84,7 +84,12 @@ fn walk<L: Ledger>(
 }
 
 /// The sum of all weights in all rounds.
-fn sum_of<R: Env, L: Ledger>(rt: &R, blank: Blank, alloc: Global, rounds: Rounds) -> Result<u64, AllocError>
+fn sum_of<R: Env, L: Ledger>(
+    rt: &R,
+    blank: Blank,
+    alloc: Global,
+    rounds: Rounds,
+) -> Result<u64, AllocError>
     requires name { blank.name ≡ L.name }
     requires parts { blank.parts ≡ L.parts }
     requires one { blank.parts ≡ 1 }
@@ -103,7 +108,11 @@ fn sum_of<R: Env, L: Ledger>(rt: &R, blank: Blank, alloc: Global, rounds: Rounds
 }
 
 /// The same, under a counter of its own.
-pub(crate) fn sum_of_rounds<R: Env>(rt: &R, alloc: Global, rounds: Rounds) -> Result<u64, AllocError> {
+pub(crate) fn sum_of_rounds<R: Env>(
+    rt: &R,
+    alloc: Global,
+    rounds: Rounds,
+) -> Result<u64, AllocError> {
     let sum = sum_of::<_, Brand>(rt, Blank::new(1), alloc, rounds)?;
     Ok(sum)
 }
