@@ -11,10 +11,11 @@ ghost use Rattle.sk_report.specs.Reports.{ReportsFor};
 ghost use Rattle.sk_index.specs.Indexed.{Indexed};
 ghost use Rattle.sk_model.specs.Counts.{wanted};
 ghost use Rattle.sk_model.specs.Matches.{found_by};
-ghost use Rattle.sk_model.specs.Sharp.{is_plain, flat_lists, ups, sharp};
+ghost use Rattle.sk_model.specs.Sharp.{is_plain, flat_lists, sharp};
 ghost use Rattle.sk_nodes.specs.Built.{scored, IsTree};
 ghost use Rattle.sk_page.specs.Needs.{is_whole};
-ghost use Rattle.sk_page.specs.Paces.{IsEarly, reached_by};
+ghost use Rattle.sk_page.specs.Paces.{IsEarly};
+ghost use Rattle.sk_match.specs.Paces.{ups_seen};
 ghost use Rattle.sk_match.specs.Searches.{IsOn, Stands, Asks, Passes, MovesPast, ahead, left_to_stop, is_done, spent_by};
 ghost use Rattle.sk_match.specs.declared.open_search.Turn.TheVariants as Turn;
 
@@ -192,7 +193,7 @@ impl Search {
         // While a find of terms alone by relevance wants to see more, it read each list up to the last match that it saw, and
         // one entry more.
         ensures paced { (i : Indexed) (paging : Paging) (query : QueryTree.Tree) (lists : List (List ℕ)) → Stands self.now i paging query → IsEarly paging self.now.page.seen
-            → flat_lists query i.live.documents ≡ Some lists → result ≤ ups lists (reached_by self.now.page.seen (found_by query paging i.live.documents)) i.live.documents }
+            → flat_lists query i.live.documents ≡ Some lists → result ≤ ups_seen lists paging query i self.now }
     {
         self.tree
             .spent()
