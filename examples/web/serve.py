@@ -66,20 +66,20 @@ class Corpus:
     def load(self):
         """Starts the program, and adds all documents."""
         begin = time.monotonic()
-        with open(self.path, encoding="utf-8-sig") as lines:
-            schema = json.loads(next(lines, "null"))
+        with open(self.path, "rb") as lines:
+            schema = json.loads(next(lines, b"null").decode("utf-8-sig"))
             if not isinstance(schema, dict) or "schema" not in schema:
                 raise ValueError(f"{self.path}: its first line is no schema")
             index = comfreystair.Index(self.tool, schema["schema"], on_refused=complain)
             for place, line in enumerate(lines, 2):
                 try:
-                    told = json.loads(line)
+                    told = json.loads(line.decode())
                     index.add(told["add"], told.get("data", ""))
-                except (ValueError, TypeError, KeyError, comfreystair.NotSent) as cause:
-                    print(f"{self.path}:{place}: no addition, passed over ({cause!r:.100})", file=sys.stderr)
+                except (ValueError, TypeError, KeyError, RecursionError) as cause:
+                    complain(f"{self.path}:{place}: no addition, passed over: {str(cause)[:100]!r}")
         self.fields = index.fields
         self.count = index.count({"all": []})
-        print(f"{self.count:,} documents in {time.monotonic() - begin:.1f} seconds", file=sys.stderr)
+        complain(f"{plural(self.count, 'document')} in {time.monotonic() - begin:.1f} seconds")
         return index
 
     def find(self, asked):

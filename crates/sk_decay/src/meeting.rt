@@ -3,20 +3,24 @@ ghost use Rattle.std.specs.Prelude.{◌≡◌, ◌≤◌, ◌<◌, ◌+◌, ◌^
 ghost use Rattle.sk_decay.specs.Sides.{is_led};
 ghost use Rattle.sk_decay.specs.Heads.{IsHead, Meets, GoesOnOnly, MeetsAt, MeetsBoth, behind};
 
+use sk_base::Weight;
 use sk_query::Form;
 
+/// The first id that a side gives, or `END`.
+pub type Head = u64;
+
 /// The head of a side that has ended.
-pub const END: u64 = 4_294_967_296;
+pub const END: Head = 4_294_967_296;
 
 /// Where what two sides give together begins, with its weight, or from where on the sides have to be sought.
 #[derive(Clone, Copy, Debug, PartialEq, Eq)]
 pub enum Meeting {
-    At(u64, u64),
-    Behind(u64),
+    At(Head, Weight),
+    Behind(Head),
 }
 
 /// Where sides with the heads `a` and `b`, which weigh `v` and `w` there, meet under the form.
-pub fn meeting_of(form: Form, a: u64, v: u64, b: u64, w: u64) -> Meeting
+pub fn meeting_of(form: Form, a: Head, v: Weight, b: Head, w: Weight) -> Meeting
     requires fits { v + w < 2 ^ 63 }
     requires led { is_led form ≡ true → a ≤ b }
     ensures meets { (f g : ℕ → Option ℕ) → IsHead a v f → IsHead b w g → Meets form a f g result }
@@ -85,7 +89,7 @@ pub fn meeting_of(form: Form, a: u64, v: u64, b: u64, w: u64) -> Meeting
     }
 }
 
-fn behind(next: u64) -> Meeting
+fn behind(next: Head) -> Meeting
     ensures { result ≡ behind next }
 {
     if next < END {

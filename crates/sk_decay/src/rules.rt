@@ -4,10 +4,11 @@ ghost use Rattle.sk_query.specs.declared.form.Form.TheVariants as Form;
 ghost use Rattle.sk_decay.specs.Changes.{or_change, maybe_change, both_change, xor_change, max_change, filter_change, not_change, change_of, Serves};
 
 use crate::Change;
+use sk_base::Weight;
 use sk_query::Form;
 
 /// What stands for an or from now on. `a` and `b` are the greatest weights that are left on its sides.
-pub fn or_rule(a: u64, b: u64, a_ended: bool, b_ended: bool, need: u64) -> Change
+pub fn or_rule(a: Weight, b: Weight, a_ended: bool, b_ended: bool, need: Weight) -> Change
     requires { a + b < 2 ^ 63 }
     ensures table { result ≡ or_change a b a_ended b_ended need }
     ensures serves { Serves result Form.Or a b a_ended b_ended need }
@@ -37,7 +38,7 @@ pub fn or_rule(a: u64, b: u64, a_ended: bool, b_ended: bool, need: u64) -> Chang
 }
 
 /// What stands for an and_maybe from now on. `a` and `b` are the greatest weights that are left on its sides.
-pub fn maybe_rule(a: u64, b: u64, a_ended: bool, b_ended: bool, need: u64) -> Change
+pub fn maybe_rule(a: Weight, b: Weight, a_ended: bool, b_ended: bool, need: Weight) -> Change
     requires { a + b < 2 ^ 63 }
     ensures table { result ≡ maybe_change a b a_ended b_ended need }
     ensures serves { Serves result Form.AndMaybe a b a_ended b_ended need }
@@ -58,7 +59,7 @@ pub fn maybe_rule(a: u64, b: u64, a_ended: bool, b_ended: bool, need: u64) -> Ch
 }
 
 /// What stands for an and from now on. `a` and `b` are the greatest weights that are left on its sides.
-pub fn both_rule(a: u64, b: u64, a_ended: bool, b_ended: bool, need: u64) -> Change
+pub fn both_rule(a: Weight, b: Weight, a_ended: bool, b_ended: bool, need: Weight) -> Change
     requires { a + b < 2 ^ 63 }
     ensures table { result ≡ both_change a b a_ended b_ended need }
     ensures serves { Serves result Form.And a b a_ended b_ended need }
@@ -76,7 +77,7 @@ pub fn both_rule(a: u64, b: u64, a_ended: bool, b_ended: bool, need: u64) -> Cha
 }
 
 /// What stands for an xor of two sides from now on. `a` and `b` are the greatest weights that are left on its sides.
-pub fn xor_rule(a: u64, b: u64, a_ended: bool, b_ended: bool, need: u64) -> Change
+pub fn xor_rule(a: Weight, b: Weight, a_ended: bool, b_ended: bool, need: Weight) -> Change
     requires { a + b < 2 ^ 63 }
     ensures table { result ≡ xor_change a b a_ended b_ended need }
     ensures serves { Serves result Form.Xor a b a_ended b_ended need }
@@ -103,7 +104,7 @@ pub fn xor_rule(a: u64, b: u64, a_ended: bool, b_ended: bool, need: u64) -> Chan
 }
 
 /// What stands for a max from now on. `a` and `b` are the greatest weights that are left on its sides.
-pub fn max_rule(a: u64, b: u64, a_ended: bool, b_ended: bool, need: u64) -> Change
+pub fn max_rule(a: Weight, b: Weight, a_ended: bool, b_ended: bool, need: Weight) -> Change
     requires { a + b < 2 ^ 63 }
     ensures table { result ≡ max_change a b a_ended b_ended need }
     ensures serves { Serves result Form.Max a b a_ended b_ended need }
@@ -130,7 +131,7 @@ pub fn max_rule(a: u64, b: u64, a_ended: bool, b_ended: bool, need: u64) -> Chan
 }
 
 /// What stands for a filter from now on. `a` and `b` are the greatest weights that are left on its sides.
-pub fn filter_rule(a: u64, b: u64, a_ended: bool, b_ended: bool, need: u64) -> Change
+pub fn filter_rule(a: Weight, b: Weight, a_ended: bool, b_ended: bool, need: Weight) -> Change
     requires { a + b < 2 ^ 63 }
     ensures table { result ≡ filter_change a b a_ended b_ended need }
     ensures serves { Serves result Form.Filter a b a_ended b_ended need }
@@ -148,7 +149,7 @@ pub fn filter_rule(a: u64, b: u64, a_ended: bool, b_ended: bool, need: u64) -> C
 }
 
 /// What stands for an and_not from now on. `a` and `b` are the greatest weights that are left on its sides.
-pub fn not_rule(a: u64, b: u64, a_ended: bool, b_ended: bool, need: u64) -> Change
+pub fn not_rule(a: Weight, b: Weight, a_ended: bool, b_ended: bool, need: Weight) -> Change
     requires { a + b < 2 ^ 63 }
     ensures table { result ≡ not_change a b a_ended b_ended need }
     ensures serves { Serves result Form.AndNot a b a_ended b_ended need }
@@ -166,7 +167,7 @@ pub fn not_rule(a: u64, b: u64, a_ended: bool, b_ended: bool, need: u64) -> Chan
 }
 
 /// The change that the table of the form says.
-pub fn rule(form: Form, a: u64, b: u64, a_ended: bool, b_ended: bool, need: u64) -> Change
+pub fn rule(form: Form, a: Weight, b: Weight, a_ended: bool, b_ended: bool, need: Weight) -> Change
     requires { a + b < 2 ^ 63 }
     ensures table { result ≡ change_of form a b a_ended b_ended need }
     ensures serves { Serves result form a b a_ended b_ended need }

@@ -5,10 +5,12 @@ ghost use Rattle.sk_model.specs.Combining.{combined};
 ghost use Rattle.sk_model.specs.Covers.{first_need, second_need};
 ghost use Rattle.sk_decay.specs.Sides.{paired, greatest_under, is_led, second_target};
 
+use crate::Head;
+use sk_base::Weight;
 use sk_query::Form;
 
 /// The need of the first side, by the greatest weight of the second.
-pub fn first_need(form: Form, need: u64, b: u64) -> u64
+pub fn first_need(form: Form, need: Weight, b: Weight) -> Weight
     ensures { result ≡ first_need form need b }
 {
     match form {
@@ -19,7 +21,7 @@ pub fn first_need(form: Form, need: u64, b: u64) -> u64
 }
 
 /// The need of the second side, by the greatest weight that is left of the first.
-pub fn second_need(form: Form, need: u64, a: u64) -> u64
+pub fn second_need(form: Form, need: Weight, a: Weight) -> Weight
     ensures { result ≡ second_need form need a }
 {
     match form {
@@ -30,7 +32,7 @@ pub fn second_need(form: Form, need: u64, a: u64) -> u64
 }
 
 /// No weight under the form is above it, by the greatest of the sides.
-pub fn greatest_under(form: Form, a: u64, b: u64) -> u64
+pub fn greatest_under(form: Form, a: Weight, b: Weight) -> Weight
     requires { a + b < 2 ^ 63 }
     ensures { result ≡ greatest_under form a b }
 {
@@ -52,7 +54,7 @@ pub fn is_led(form: Form) -> bool
 }
 
 /// From where the second side is sought: where the first leads, from its head.
-pub fn second_target(form: Form, target: u64, head: u64) -> u64
+pub fn second_target(form: Form, target: Head, head: Head) -> Head
     ensures { result ≡ second_target form target head }
 {
     if is_led(form) { head } else { target }

@@ -13,14 +13,14 @@ use Rattle.sk_lists.specs.Lists.{Runs}
 use Rattle.sk_lists.specs.Seeks.{ArePassed, Passes}
 use Rattle.sk_lists.specs.Cursor.{left, IsOn}
 use Rattle.sk_lists.proofs.CursorLaws.{AreSorted-left}
-use Rattle.sk_index.specs.Indexed.{Indexed, runs_in}
+use Rattle.sk_index.specs.Indexed.{Indexed}
 use Rattle.sk_model.specs.Weights.{weigh_by}
 use Rattle.sk_model.specs.Covers.{CoversAt, Covers}
 use Rattle.sk_model.proofs.CoverLaws.{covers_itself}
 use Rattle.sk_decay.specs.Heads.{IsHead}
 use Rattle.sk_nodes.specs.declared.top.Top.{Top}
 use Rattle.sk_nodes.specs.declared.leaf.Leaf.{Leaf}
-use Rattle.sk_nodes.specs.Leaves.{entries_of, weighed, leaf_rest, head_of, AreLight, AtMost, IsLeafOn, IsLeafTop}
+use Rattle.sk_nodes.specs.Leaves.{runs_of, entries_of, weighed, leaf_rest, head_of, AreLight, AtMost, IsLeafOn, IsLeafTop}
 use Rattle.sk_nodes.specs.Left.{from_on}
 use Rattle.sk_nodes.specs.Shapes.{leaf}
 use Rattle.sk_nodes.specs.Sound.{IsTop}
@@ -192,10 +192,10 @@ pub leaf_shown : (i : Indexed) (t : Top) (l : Leaf) (id wdf : ℕ) → IsLeafOn 
     → t.head ≡ id → t.weight ≡ weigh_by l.factor l.scheme wdf → t.greatest ≡ l.greatest → IsLeafTop i t l
 leaf_shown i t l id wdf on here much same weighs greatest = record {
   head = same_head id wdf t.head t.weight l.factor l.scheme (leaf_rest i l) same weighs
-      (weighed-head l.factor l.scheme id wdf (entries_of i l) (AreSorted-left l.cursor (runs_in i l.number) on.runs on.on) here much);
+      (weighed-head l.factor l.scheme id wdf (entries_of i l) (AreSorted-left l.cursor (runs_of i l.source) on.runs on.on) here much);
   bound = subst (λ g. AtMost g (leaf_rest i l)) (sym greatest) on.bound;
   exact = λ lt. greatest;
-  closed = λ end. absurd (omega (arith, end, same, first_small id (entries_of i l) (AreSorted-left l.cursor (runs_in i l.number) on.runs on.on) here));
+  closed = λ end. absurd (omega (arith, end, same, first_small id (entries_of i l) (AreSorted-left l.cursor (runs_of i l.source) on.runs on.on) here));
 }
 
 -- what is written of it where what it can weigh is kept
@@ -203,10 +203,10 @@ pub leaf_pointed : (i : Indexed) (t : Top) (l : Leaf) (id wdf : ℕ) → IsLeafO
     → t.head ≡ id → t.weight ≡ weigh_by l.factor l.scheme wdf → AtMost t.greatest (leaf_rest i l) → t.greatest ≤ l.greatest → IsTop i t (leaf l)
 leaf_pointed i t l id wdf on here much same weighs bound le = record {
   head = same_head id wdf t.head t.weight l.factor l.scheme (leaf_rest i l) same weighs
-      (weighed-head l.factor l.scheme id wdf (entries_of i l) (AreSorted-left l.cursor (runs_in i l.number) on.runs on.on) here much);
+      (weighed-head l.factor l.scheme id wdf (entries_of i l) (AreSorted-left l.cursor (runs_of i l.source) on.runs on.on) here much);
   bound = bound;
   summed = λ lt. le;
-  closed = λ end. absurd (omega (arith, end, same, first_small id (entries_of i l) (AreSorted-left l.cursor (runs_in i l.number) on.runs on.on) here));
+  closed = λ end. absurd (omega (arith, end, same, first_small id (entries_of i l) (AreSorted-left l.cursor (runs_of i l.source) on.runs on.on) here));
 }
 
 -- the first entry is not behind one that is found
@@ -232,7 +232,7 @@ some_found factor scheme (Some w) weight e = (w, refl)
 pub head_is_below : (i : Indexed) (t : Top) (l : Leaf) (target : ℕ) → IsTop i t (leaf l) → IsLeafOn i l → t.head < target → target < 2 ^ 32 → is_below target (entries_of i l) ≡ true
 head_is_below i t l target top on lt small =
     let there = some_found l.factor l.scheme (found t.head (entries_of i l)) t.weight (top.head.at (omega (arith, lt, small))) in
-    first_below t.head target there.0 (entries_of i l) (AreSorted-left l.cursor (runs_in i l.number) on.runs on.on) there.1 lt
+    first_below t.head target there.0 (entries_of i l) (AreSorted-left l.cursor (runs_of i l.source) on.runs on.on) there.1 lt
 
 -- the cursor moved on
 pub sought_covers : (factor : ℕ) (scheme : Scheme) (need_wdf need target : ℕ) (runs : Runs) (old new : Cursor) → AreRuns runs → IsOn old runs → AreLight factor scheme need_wdf need
@@ -241,14 +241,14 @@ sought_covers factor scheme need_wdf need target runs old new are on light passe
     Passes-covers factor scheme need_wdf need target (left old runs) (left new runs) light (AreSorted-left old runs are on) passes
 
 -- a leaf whose cursor moved on is sound
-pub leaf_moved : (i : Indexed) (old new : Leaf) (target : ℕ) → IsLeafOn i old → new.number ≡ old.number → new.scheme ≡ old.scheme → new.factor ≡ old.factor → new.greatest ≡ old.greatest
-    → IsOn new.cursor (runs_in i old.number) → AreLight new.factor new.scheme new.need_wdf new.need
+pub leaf_moved : (i : Indexed) (old new : Leaf) (target : ℕ) → IsLeafOn i old → new.source ≡ old.source → new.scheme ≡ old.scheme → new.factor ≡ old.factor → new.greatest ≡ old.greatest
+    → IsOn new.cursor (runs_of i old.source) → AreLight new.factor new.scheme new.need_wdf new.need
     → Covers (from_on target (leaf_rest i old)) (leaf_rest i new) new.need → IsLeafOn i new
-leaf_moved i old new target sound number scheme factor greatest on light covers = record {
-  there = subst (λ n. Rattle.sk_nodes.specs.Leaves.IsThere n i.terms) (sym number) sound.there;
+leaf_moved i old new target sound source scheme factor greatest on light covers = record {
+  there = subst (λ n. Rattle.sk_nodes.specs.Leaves.IsThere n i.terms) (sym source) sound.there;
   factor = omega (arith, factor, sound.factor);
-  on = subst (λ n. IsOn new.cursor (runs_in i n)) (sym number) on;
-  runs = subst (λ n. AreRuns (runs_in i n)) (sym number) sound.runs;
+  on = subst (λ n. IsOn new.cursor (runs_of i n)) (sym source) on;
+  runs = subst (λ n. AreRuns (runs_of i n)) (sym source) sound.runs;
   light = light;
   bound = subst (λ g. AtMost g (leaf_rest i new)) (sym greatest) (AtMost-covers target new.need old.greatest (leaf_rest i old) (leaf_rest i new) sound.bound covers);
   live = λ id none. covers_none (from_on target (leaf_rest i old) id) (leaf_rest i new id) new.need (from_on-none target (leaf_rest i old) id (sound.live id none)) (covers id);

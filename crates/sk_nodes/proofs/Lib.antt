@@ -26,3 +26,4 @@ pub mod FadingLaws
 pub mod SkipLaws
 pub mod AccountLaws
 pub mod MoveLaws
+pub mod OpenedQueryLaws

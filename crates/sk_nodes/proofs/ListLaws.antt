@@ -18,12 +18,13 @@ use Rattle.sk_model.specs.Edits.{document_at}
 use Rattle.sk_model.specs.Weights.{weigh_by}
 use Rattle.sk_model.specs.Scores.{weight_if}
 use Rattle.sk_model.specs.Bounds.{term_ceil}
-use Rattle.sk_index.specs.Indexed.{Indexed, runs_in, postings, all_postings}
+use Rattle.sk_index.specs.Indexed.{Indexed, postings, all_postings}
 use Rattle.sk_index.proofs.NumberLemmas.{length-postings, greatest-postings}
 use Rattle.sk_sorted.specs.Runs.{AreRuns}
 use Rattle.sk_lists.specs.Cursor.{IsOn}
 use Rattle.sk_nodes.specs.declared.leaf.Leaf.{Leaf}
-use Rattle.sk_nodes.specs.Leaves.{list_in, entries_of, IsThere, weighed, leaf_greatest, AtMost, IsLeafOn}
+use Rattle.sk_nodes.specs.declared.leaf.ListOf.{ListOf}
+use Rattle.sk_nodes.specs.Leaves.{runs_of, list_in, entries_of, IsThere, weighed, leaf_greatest, AtMost, IsLeafOn}
 use Rattle.sk_nodes.specs.declared.top.Top.{Top}
 use Rattle.sk_nodes.specs.Shapes.{Shape, ended}
 use Rattle.sk_nodes.specs.Opened.{score_of, Opens}
@@ -87,9 +88,9 @@ found-all id (one ∷ more) =
     ]
 
 -- a document that is not live stands in no list
-pub list-live : (i : Indexed) (number : Option ℕ) (id : ℕ) → AreSorted i.live.documents → document_at id i.live.documents ≡ None → found id (list_in i number) ≡ None
-list-live i None id sorted none = found-all id i.live.documents ∙ ap zero_at none
-list-live i (Some n) id sorted none = found-postings (term_at i.terms n) 0 id i.live.documents sorted.rise ∙ ap (wdf_at (term_at i.terms n)) none
+pub list-live : (i : Indexed) (source : ListOf) (id : ℕ) → AreSorted i.live.documents → document_at id i.live.documents ≡ None → found id (list_in i source) ≡ None
+list-live i ListOf.All id sorted none = found-all id i.live.documents ∙ ap zero_at none
+list-live i (ListOf.Term n) id sorted none = found-postings (term_at i.terms n) 0 id i.live.documents sorted.rise ∙ ap (wdf_at (term_at i.terms n)) none
 
 -- ---- numbers
 
@@ -182,8 +183,8 @@ term-none scheme factor t docs id none = none_scores scheme factor t docs id non
 
 -- ---- a leaf
 
-pub leaf_opened : (i : Indexed) (l : Leaf) → IsThere l.number i.terms → l.factor ≤ 65536 → IsOn l.cursor (runs_in i l.number) → AreRuns (runs_in i l.number) → l.need_wdf ≡ 0
-    → entries_of i l ≡ list_in i l.number → l.greatest ≡ leaf_greatest l.factor l.scheme (list_in i l.number) → AreSorted i.live.documents → IsLeafOn i l
+pub leaf_opened : (i : Indexed) (l : Leaf) → IsThere l.source i.terms → l.factor ≤ 65536 → IsOn l.cursor (runs_of i l.source) → AreRuns (runs_of i l.source) → l.need_wdf ≡ 0
+    → entries_of i l ≡ list_in i l.source → l.greatest ≡ leaf_greatest l.factor l.scheme (list_in i l.source) → AreSorted i.live.documents → IsLeafOn i l
 leaf_opened i l there factor on runs light whole greatest documents = record {
   there = there;
   factor = factor;
@@ -191,8 +192,8 @@ leaf_opened i l there factor on runs light whole greatest documents = record {
   runs = runs;
   light = λ w lt. absurd (omega (arith, lt, light));
   bound = λ id. subst (λ (es : Postings). unwrap_or (weighed l.factor l.scheme es id) 0 ≤ l.greatest) (sym whole)
-      (subst (λ n. unwrap_or (weighed l.factor l.scheme (list_in i l.number) id) 0 ≤ n) (sym greatest) (leaf_bound l.factor l.scheme (list_in i l.number) id));
-  live = λ id none. weighed-none l.factor l.scheme id (entries_of i l) (ap (found id) whole ∙ list-live i l.number id documents none);
+      (subst (λ n. unwrap_or (weighed l.factor l.scheme (list_in i l.source) id) 0 ≤ n) (sym greatest) (leaf_bound l.factor l.scheme (list_in i l.source) id));
+  live = λ id none. weighed-none l.factor l.scheme id (entries_of i l) (ap (found id) whole ∙ list-live i l.source id documents none);
 }
 
 -- nothing, where nothing scores

@@ -19,6 +19,7 @@ use Rattle.sk_index.specs.Indexed.{Indexed, postings, AreAllWith}
 use Rattle.sk_index.proofs.NumberLemmas.{length-postings, count_to-postings}
 use Rattle.sk_nodes.proofs.SynonymLaws.{wild_apart, only_one}
 use Rattle.sk_nodes.specs.declared.top.Top.{Top}
+use Rattle.sk_nodes.specs.declared.leaf.ListOf.{ListOf}
 use Rattle.sk_nodes.specs.Leaves.{list_in}
 use Rattle.sk_nodes.specs.Shapes.{Shape, ended, leaf, pair, any, Sides, no_sides, side}
 use Rattle.sk_nodes.specs.Left.{rest}
@@ -140,7 +141,7 @@ none_nest i form s lists spent e = record {
 
 -- the leaf of a term
 pub term_nest : (i : Indexed) (form : Form) (s : Shape) (number before after : ℕ) → IsNest form s
-    → ((point : ℕ) → after + room_to i point s ≤ before + (min 1 (length (list_in i (Some number))) + count_to point (list_in i (Some number))))
+    → ((point : ℕ) → after + room_to i point s ≤ before + (min 1 (length (list_in i (ListOf.Term number))) + count_to point (list_in i (ListOf.Term number))))
     → OpensNest i form s (term_at i.terms number ∷ []) before after
 term_nest i form s number before after nest begins = record {
   nest = nest;

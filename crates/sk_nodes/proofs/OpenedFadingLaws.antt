@@ -18,6 +18,7 @@ use Rattle.sk_index.specs.Indexed.{Indexed, postings}
 use Rattle.sk_index.proofs.NumberLemmas.{length-postings, count_to-postings}
 use Rattle.sk_nodes.specs.declared.top.Top.{Top}
 use Rattle.sk_nodes.specs.declared.leaf.Leaf.{Leaf}
+use Rattle.sk_nodes.specs.declared.leaf.ListOf.{ListOf}
 use Rattle.sk_nodes.specs.Leaves.{entries_of, head_of, list_in, leaf_greatest}
 use Rattle.sk_nodes.specs.Shapes.{Shape, ended, leaf, pair}
 use Rattle.sk_nodes.specs.Flat.{SplitsTerms}
@@ -55,7 +56,7 @@ leaf_begins i top l list greatest at is own = record {
 }
 
 -- that of the term with a number
-pub numbered_alone : (i : Indexed) (t : Top) (s : Shape) (number factor : ℕ) (scheme : Scheme) (before after : ℕ) → Begins i t s (list_in i (Some number)) (leaf_greatest factor scheme (list_in i (Some number))) → OpensLone i t s (length (list_in i (Some number))) before after
+pub numbered_alone : (i : Indexed) (t : Top) (s : Shape) (number factor : ℕ) (scheme : Scheme) (before after : ℕ) → Begins i t s (list_in i (ListOf.Term number)) (leaf_greatest factor scheme (list_in i (ListOf.Term number))) → OpensLone i t s (length (list_in i (ListOf.Term number))) before after
     → OpensAlone i t s (term_at i.terms number) (term_ceil scheme factor (term_at i.terms number) i.live.documents) before after
 numbered_alone i t s number factor scheme before after begins lone = record {
   stands = begins.stands;

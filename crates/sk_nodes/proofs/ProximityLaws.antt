@@ -15,6 +15,7 @@ use Rattle.sk_index.specs.Indexed.{Indexed}
 use Rattle.sk_decay.specs.Heads.{IsHead}
 use Rattle.sk_nodes.specs.declared.top.Top.{Top}
 use Rattle.sk_nodes.specs.declared.proximity.Proximity.{Proximity}
+use Rattle.sk_nodes.specs.declared.leaf.ListOf.{ListOf}
 use Rattle.sk_nodes.specs.Leaves.{list_in}
 use Rattle.sk_nodes.specs.Shapes.{Shape, ended, tested, size_of}
 use Rattle.sk_nodes.specs.Left.{rest, from_on}
@@ -308,7 +309,7 @@ from_more low next id (e ∷ es) up there le =
 pub entries_left : (i : Indexed) (next id : ℕ) (ns : List ℕ) → AreInOrder i ns → IsInAll i id ns → next ≤ id → entries_from i (id + 1) ns + length ns ≤ entries_from i next ns
 entries_left i next id [] sorted all le = omega arith
 entries_left i next id (n ∷ ns) sorted all le =
-    let one = from_more 0 next id (list_in i (Some n)) sorted.0.rise all.0 le in
+    let one = from_more 0 next id (list_in i (ListOf.Term n)) sorted.0.rise all.0 le in
     let more = entries_left i next id ns sorted.1 all.1 le in
     omega (arith, one, more)
 
@@ -321,11 +322,11 @@ there_all i ns there = All-from_recursion (λ n. n < length i.terms) ns (by ns t
 
 -- ---- lengths, one by one
 
-pub lengths_next : (i : Indexed) (ns : List ℕ) (k n most more start : ℕ) → drop k ns ≡ n ∷ drop (k + 1) ns → more ≡ most + length (list_in i (Some n)) → most + entries_from i 0 (drop k ns) ≡ start
+pub lengths_next : (i : Indexed) (ns : List ℕ) (k n most more start : ℕ) → drop k ns ≡ n ∷ drop (k + 1) ns → more ≡ most + length (list_in i (ListOf.Term n)) → most + entries_from i 0 (drop k ns) ≡ start
     → more + entries_from i 0 (drop (k + 1) ns) ≡ start
 lengths_next i ns k n most more start e f before =
-    let here : entries_from i 0 (drop k ns) ≡ length (from 0 (list_in i (Some n))) + entries_from i 0 (drop (k + 1) ns) = ap (entries_from i 0) e in
-    let whole : length (from 0 (list_in i (Some n))) ≡ length (list_in i (Some n)) = ap length (from_zero (list_in i (Some n))) in
+    let here : entries_from i 0 (drop k ns) ≡ length (from 0 (list_in i (ListOf.Term n))) + entries_from i 0 (drop (k + 1) ns) = ap (entries_from i 0) e in
+    let whole : length (from 0 (list_in i (ListOf.Term n))) ≡ length (list_in i (ListOf.Term n)) = ap length (from_zero (list_in i (ListOf.Term n))) in
     omega (arith, here, whole, f, before)
 
 -- the node below has ended

@@ -26,6 +26,7 @@ use Rattle.sk_index.specs.Indexed.{Indexed, term_positions, AreNumbered}
 use Rattle.sk_nodes.specs.declared.top.Top.{Top}
 use Rattle.sk_nodes.specs.declared.proximity.Standing.{Standing}
 use Rattle.sk_nodes.specs.declared.proximity.Proximity.{Proximity}
+use Rattle.sk_nodes.specs.declared.leaf.ListOf.{ListOf}
 use Rattle.sk_nodes.specs.Leaves.{list_in}
 use Rattle.sk_nodes.specs.Shapes.{Shape}
 use Rattle.sk_nodes.specs.Left.{rest}
@@ -266,7 +267,7 @@ pub entries_all : (i : Indexed) (ns : List ℕ) → entries_from i 0 ns ≡ leng
 entries_all i [] = refl
 entries_all i (n ∷ ns) =
     let more = entries_all i ns in
-    let one : length (from 0 (list_in i (Some n))) ≡ length_of (term_at i.terms n) i.live.documents = ap length (from_zero (list_in i (Some n))) ∙ length-postings (term_at i.terms n) i.live.documents in
+    let one : length (from 0 (list_in i (ListOf.Term n))) ≡ length_of (term_at i.terms n) i.live.documents = ap length (from_zero (list_in i (ListOf.Term n))) ∙ length-postings (term_at i.terms n) i.live.documents in
     omega (arith, more, one)
 
 -- ---- the node of an and, and a test

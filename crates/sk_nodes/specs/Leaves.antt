@@ -5,6 +5,7 @@ use Rattle.sk_base.specs.declared.find.Scheme.{Scheme}
 use Rattle.sk_sorted.specs.Entries.{found}
 use Rattle.sk_chunks.specs.Postings.{Postings, greatest_wdf}
 use Rattle.sk_sorted.specs.Runs.{AreRuns}
+use Rattle.sk_lists.specs.Lists.{Runs}
 use Rattle.sk_lists.specs.Cursor.{unread, left, IsOn}
 use Rattle.sk_dict.specs.Terms.{term_at}
 use Rattle.sk_model.specs.Edits.{document_at}
@@ -13,20 +14,26 @@ use Rattle.sk_index.specs.Indexed.{Indexed, runs_in, postings, all_postings}
 use Rattle.sk_decay.specs.Heads.{IsHead}
 use Rattle.sk_nodes.specs.declared.top.Top.{Top}
 use Rattle.sk_nodes.specs.declared.leaf.Leaf.{Leaf}
+use Rattle.sk_nodes.specs.declared.leaf.ListOf.{ListOf}
 
 -- The list of a term by its number, and of all documents.
-abbrev pub list_in : Indexed → Option ℕ → Postings
-list_in i None = all_postings i.live.documents
-list_in i (Some n) = postings (term_at i.terms n) i.live.documents
+abbrev pub list_in : Indexed → ListOf → Postings
+list_in i ListOf.All = all_postings i.live.documents
+list_in i (ListOf.Term n) = postings (term_at i.terms n) i.live.documents
 
 -- The number was given for a term.
-abbrev pub IsThere : Option ℕ → List (List ℕ) → Type 0
-IsThere None terms = Unit {0}
-IsThere (Some n) terms = n < length terms
+abbrev pub IsThere : ListOf → List (List ℕ) → Type 0
+IsThere ListOf.All terms = Unit {0}
+IsThere (ListOf.Term n) terms = n < length terms
+
+-- The list in its pieces, as it is kept.
+abbrev pub runs_of : Indexed → ListOf → Runs
+runs_of i ListOf.All = runs_in i None
+runs_of i (ListOf.Term n) = runs_in i (Some n)
 
 -- The entries that are left to a leaf.
 abbrev pub entries_of : Indexed → Leaf → Postings
-entries_of i l = left l.cursor (runs_in i l.number)
+entries_of i l = left l.cursor (runs_of i l.source)
 
 -- The first id of entries, and 2 ^ 32 where there is none.
 abbrev pub head_of : Postings → ℕ
@@ -43,7 +50,7 @@ leaf_rest i l id = weighed l.factor l.scheme (entries_of i l) id
 
 -- How many entries a leaf has not read and not passed over.
 abbrev pub leaf_unread : Indexed → Leaf → ℕ
-leaf_unread i l = length (unread l.cursor (runs_in i l.number))
+leaf_unread i l = length (unread l.cursor (runs_of i l.source))
 
 -- What the entries of a list can weigh: the greatest wdf, and nothing where there is no entry.
 abbrev pub leaf_greatest : ℕ → Scheme → Postings → ℕ
@@ -59,10 +66,10 @@ AtMost greatest f = (id : ℕ) → unwrap_or (f id) 0 ≤ greatest
 
 -- A leaf stands on its list.
 pub record IsLeafOn (i : Indexed) (l : Leaf) : Type 0 where
-  pub there : IsThere l.number i.terms
+  pub there : IsThere l.source i.terms
   pub factor : l.factor ≤ 65536
-  pub on : IsOn l.cursor (runs_in i l.number)
-  pub runs : AreRuns (runs_in i l.number)
+  pub on : IsOn l.cursor (runs_of i l.source)
+  pub runs : AreRuns (runs_of i l.source)
   pub light : AreLight l.factor l.scheme l.need_wdf l.need
   pub bound : AtMost l.greatest (leaf_rest i l)
   pub live : (id : ℕ) → document_at id i.live.documents ≡ None → leaf_rest i l id ≡ None

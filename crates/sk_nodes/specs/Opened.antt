@@ -1,9 +1,11 @@
 -- What a node is opened for.
-use Rattle.std.specs.Prelude.{◌≡◌, ◌≤◌, ◌<◌, ◌+◌, ℕ, nat_le, Bool, true, List, [], ◌∷◌, length, Option, None, Some}
+use Rattle.std.specs.Prelude.{◌≡◌, ◌≤◌, ◌<◌, ◌+◌, ◌^◌, ℕ, nat_le, Bool, true, All, List, [], ◌∷◌, length, Option, None, Some}
 use Rattle.sk_base.specs.declared.find.Scheme.{Scheme}
+use Rattle.sk_base.specs.Loads.{IsLight}
+use Rattle.sk_sorted.specs.Entries.{AreSorted}
 use Rattle.sk_query.specs.declared.form.Form.{Form}
 use Rattle.sk_query.specs.Trees as Query
-use Rattle.sk_query.specs.Fits.{are_sound, leaves_in}
+use Rattle.sk_query.specs.Fits.{is_sound, are_sound, leaves_of, leaves_in}
 use Rattle.sk_model.specs.Documents.{Document}
 use Rattle.sk_model.specs.Edits.{document_at}
 use Rattle.sk_model.specs.Combining.{combined}
@@ -85,6 +87,23 @@ abbrev mutual
 abbrev pub count_in : Query.Trees → ℕ
 count_in Query.no_trees = 0
 count_in (Query.tree t ts) = 1 + count_in ts
+
+-- A leaf can be opened on this index, with this spent, and so much of it allowed.
+pub record CanRead (i : Indexed) (spent most : ℕ) : Type 0 where
+  pub documents : AreSorted i.live.documents
+  pub room : spent ≤ most
+  pub small : most < 2 ^ 128
+
+-- A node can be opened under this factor, since no document is beyond its limits.
+pub record CanOpen (i : Indexed) (factor spent most : ℕ) : Type 0 where
+  pub read : CanRead i spent most
+  pub bounded : factor ≤ 65536
+  pub light : All IsLight i.live.documents
+
+-- A query of which a node can be opened under a factor.
+pub record IsPart (factor : ℕ) (query : Query.Tree) : Type 0 where
+  pub sound : is_sound factor query ≡ true
+  pub leaves : leaves_of query ≤ 1024
 
 -- Parts of which a node can be opened under a form and a factor.
 pub record AreParts (form : Form) (factor : ℕ) (ts : Query.Trees) : Type 0 where

@@ -8,6 +8,7 @@ use Rattle.sk_model.specs.Positions.{is_near, is_phrase}
 use Rattle.sk_index.specs.Indexed.{Indexed, term_positions}
 use Rattle.sk_nodes.specs.declared.proximity.Standing.{Standing}
 use Rattle.sk_nodes.specs.declared.proximity.Proximity.{Proximity}
+use Rattle.sk_nodes.specs.declared.leaf.ListOf.{ListOf}
 use Rattle.sk_nodes.specs.Leaves.{list_in}
 
 -- The query of terms that stand so.
@@ -31,7 +32,7 @@ holds i p id = stand p.standing p.window (positions_at i p.numbers.items id)
 -- How many entries the lists of these terms have from an id on.
 abbrev pub entries_from : Indexed → ℕ → List ℕ → ℕ
 entries_from i next [] = 0
-entries_from i next (n ∷ ns) = length (from next (list_in i (Some n))) + entries_from i next ns
+entries_from i next (n ∷ ns) = length (from next (list_in i (ListOf.Term n))) + entries_from i next ns
 
 -- The numbers were given for terms.
 abbrev pub AreThere : Indexed → List ℕ → Type 0
@@ -41,12 +42,12 @@ AreThere i (n ∷ ns) = (n < length i.terms) × AreThere i ns
 -- The lists of these terms are in order.
 abbrev pub AreInOrder : Indexed → List ℕ → Type 0
 AreInOrder i [] = Unit {0}
-AreInOrder i (n ∷ ns) = AreSorted (list_in i (Some n)) × AreInOrder i ns
+AreInOrder i (n ∷ ns) = AreSorted (list_in i (ListOf.Term n)) × AreInOrder i ns
 
 -- The document is in the lists of all these terms.
 abbrev pub IsInAll : Indexed → ℕ → List ℕ → Type 0
 IsInAll i id [] = Unit {0}
-IsInAll i id (n ∷ ns) = (has id (list_in i (Some n)) ≡ true) × IsInAll i id ns
+IsInAll i id (n ∷ ns) = (has id (list_in i (ListOf.Term n)) ≡ true) × IsInAll i id ns
 
 -- Documents can be tested.
 pub record CanTest (i : Indexed) (p : Proximity) : Type 0 where

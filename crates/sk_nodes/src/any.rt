@@ -10,16 +10,18 @@ ghost use Rattle.sk_nodes.specs.Odd.{AreFrom, weight_sum};
 
 use crate::node::Node;
 use crate::top::Top;
+use sk_base::Weight;
+use sk_decay::Head;
 
 /// The first id that sides give, and what they weigh there together.
 #[derive(Clone, Copy, Debug)]
 pub(crate) struct First {
-    pub head: u64,
-    pub weight: u64,
+    pub head: Head,
+    pub weight: Weight,
 }
 
 /// Where sides begin together with others, of which the first id and the weight there are given.
-pub(crate) fn first_of(tops: &[Top], nodes: &[Node], head: u64, weight: u64) -> First
+pub(crate) fn first_of(tops: &[Top], nodes: &[Node], head: Head, weight: Weight) -> First
     requires { weight + weight_sum (sides_on tops.now nodes.now) < 2 ^ 63 }
     ensures first { (i : Indexed) (others : ℕ → Option ℕ) → AreSound i (sides_on tops.now nodes.now) → IsHead head weight others → IsHead result.head result.weight (λ id. either (others id) (sum_of_any (rests i (sides_on tops.now nodes.now) id))) }
     ensures reached { (from : ℕ) → from ≤ head → AreFrom from (sides_on tops.now nodes.now) → from ≤ result.head }
@@ -41,7 +43,7 @@ pub(crate) fn first_of(tops: &[Top], nodes: &[Node], head: u64, weight: u64) -> 
 /// What a side weighs at an id that it does not stand before.
 #[tactic(auto, using(crate::proofs::AnyLaws::weight_there, crate::proofs::AnyLaws::weight_none))]
 #[inline(always)]
-pub(crate) fn weight_at(top: &Top, id: u64) -> u64
+pub(crate) fn weight_at(top: &Top, id: Head) -> Weight
     ensures there { (f : ℕ → Option ℕ) → IsHead top.now.head top.now.weight f → id ≤ top.now.head → id < 2 ^ 32 → unwrap_or (f id) 0 ≡ result }
     ensures within { result ≤ top.now.weight }
 {

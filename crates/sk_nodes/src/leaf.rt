@@ -4,9 +4,9 @@ ghost use Rattle.sk_sorted.specs.Entries.{AreSorted};
 ghost use Rattle.sk_sorted.specs.Runs.{flat};
 ghost use Rattle.sk_lists.specs.Seeks.{count_to};
 ghost use Rattle.sk_model.specs.Covers.{Covers};
-ghost use Rattle.sk_index.specs.Indexed.{Indexed, runs_in};
+ghost use Rattle.sk_index.specs.Indexed.{Indexed};
 ghost use Rattle.sk_nodes.specs.Accounts.{Spends};
-ghost use Rattle.sk_nodes.specs.Leaves.{list_in, weighed, leaf_rest, leaf_unread, leaf_greatest, IsThere, entries_of, head_of, AtMost, IsLeafOn, AreLight, IsLeafTop};
+ghost use Rattle.sk_nodes.specs.Leaves.{list_in, runs_of, weighed, leaf_rest, leaf_unread, leaf_greatest, IsThere, entries_of, head_of, AtMost, IsLeafOn, AreLight, IsLeafTop};
 ghost use Rattle.sk_nodes.specs.Sound.{IsTop};
 ghost use Rattle.sk_nodes.specs.Left.{from_on};
 ghost use Rattle.sk_nodes.specs.Shapes.{leaf};
@@ -15,30 +15,38 @@ ghost use Rattle.sk_nodes.specs.OpenedLed.{OpensLone};
 ghost use Rattle.sk_nodes.specs.OpenedFading.{Begins};
 
 use crate::top::{END, Top};
-use sk_base::{MOST_WDF, Scheme};
+use sk_base::{MOST_WDF, Scheme, Weight};
+use sk_decay::Head;
 use sk_index::Index;
 use sk_lists::{Cursor, List};
 use sk_steps::Steps;
 use sk_weight::{need_wdf, weigh_by};
 use std::sync::ledger::Ledger;
 
-/// The list of a term by its number, or of all documents. The need and what wdf it comes to are those of the last seek.
+/// Which list: that of a term, by its number, or that of all documents.
+#[derive(Clone, Copy, Debug)]
+pub(crate) enum ListOf {
+    Term(usize),
+    All,
+}
+
+/// The entries of a list from one on. The need and what wdf it comes to are those of the last seek.
 #[derive(Drop)]
 pub(crate) struct Leaf {
-    number: Option<usize>,
+    source: ListOf,
     scheme: Scheme,
     factor: u64,
-    need: u64,
+    need: Weight,
     need_wdf: u32,
-    greatest: u64,
+    greatest: Weight,
     cursor: Cursor,
 }
 
 /// None of a leaf's entries weighs more, from some target on up to the last id.
 #[derive(Clone, Copy, Debug)]
 pub(crate) struct Block {
-    pub last: u64,
-    pub greatest: u64,
+    pub last: Head,
+    pub greatest: Weight,
 }
 
 impl Leaf {
@@ -46,29 +54,29 @@ impl Leaf {
     pub fn open<L: Ledger>(
         top: &mut Top,
         index: &Index,
-        number: Option<usize>,
+        source: ListOf,
         scheme: Scheme,
         factor: u64,
         spent: &mut u128,
         steps: &mut Steps<L>,
     ) -> Leaf
-        requires there { IsThere number index.now.terms }
+        requires there { IsThere source index.now.terms }
         requires factor { factor ≤ 65536 }
         requires documents { AreSorted index.now.live.documents }
-        requires room { spent.old + length (list_in index.now number) < 2 ^ 128 }
+        requires room { spent.old + length (list_in index.now source) < 2 ^ 128 }
         ensures sound { IsLeafOn index.now result }
         ensures top { IsLeafTop index.now top.new result }
-        ensures gives { (id : ℕ) → leaf_rest index.now result id ≡ weighed factor scheme (list_in index.now number) id }
-        ensures ceiling { top.new.greatest ≤ leaf_greatest factor scheme (list_in index.now number) }
-        ensures lone { OpensLone index.now top.new (leaf result) (length (list_in index.now number)) spent.old spent.new }
-        ensures begun { Begins index.now top.new (leaf result) (list_in index.now number) (leaf_greatest factor scheme (list_in index.now number)) }
-        ensures begins { (point : ℕ) → spent.new + count_to point (entries_of index.now result) ≤ spent.old + (min 1 (length (list_in index.now number)) + count_to point (list_in index.now number)) }
-        ensures spends { Spends (length (list_in index.now number)) (leaf_unread index.now result) spent.old spent.new steps.old steps.new }
+        ensures gives { (id : ℕ) → leaf_rest index.now result id ≡ weighed factor scheme (list_in index.now source) id }
+        ensures ceiling { top.new.greatest ≤ leaf_greatest factor scheme (list_in index.now source) }
+        ensures lone { OpensLone index.now top.new (leaf result) (length (list_in index.now source)) spent.old spent.new }
+        ensures begun { Begins index.now top.new (leaf result) (list_in index.now source) (leaf_greatest factor scheme (list_in index.now source)) }
+        ensures begins { (point : ℕ) → spent.new + count_to point (entries_of index.now result) ≤ spent.old + (min 1 (length (list_in index.now source)) + count_to point (list_in index.now source)) }
+        ensures spends { Spends (length (list_in index.now source)) (leaf_unread index.now result) spent.old spent.new steps.old steps.new }
     {
-        let list = list_of(index, number);
+        let list = list_of(index, source);
         let length = list.length();
         let leaf = Leaf {
-            number,
+            source,
             scheme,
             factor,
             need: 0,
@@ -86,8 +94,8 @@ impl Leaf {
         &mut self,
         top: &mut Top,
         index: &Index,
-        target: u64,
-        need: u64,
+        target: Head,
+        need: Weight,
         spent: &mut u128,
         steps: &mut Steps<L>,
     )
@@ -105,7 +113,7 @@ impl Leaf {
         ensures moves { (point : ℕ) → target ≤ point + 1 → spent.new + count_to point (entries_of index.now self.new) ≤ spent.old + count_to point (entries_of index.now self.old) }
         ensures spends { Spends (leaf_unread index.now self.old) (leaf_unread index.now self.new) spent.old spent.new steps.old steps.new }
     {
-        let list = list_of(index, self.number);
+        let list = list_of(index, self.source);
         self.need_wdf = self.wdf_for(need);
         self.need = need;
         let read = self.cursor.seek(list, target as u32, self.need_wdf, steps);
@@ -119,8 +127,8 @@ impl Leaf {
         &mut self,
         top: &mut Top,
         index: &Index,
-        target: u64,
-        need: u64,
+        target: Head,
+        need: Weight,
         spent: &mut u128,
         steps: &mut Steps<L>,
     )
@@ -140,7 +148,7 @@ impl Leaf {
         ensures moves { (point : ℕ) → target ≤ point + 1 → spent.new + count_to point (entries_of index.now self.new) ≤ spent.old + count_to point (entries_of index.now self.old) }
         ensures spends { Spends (leaf_unread index.now self.old) (leaf_unread index.now self.new) spent.old spent.new steps.old steps.new }
     {
-        let list = list_of(index, self.number);
+        let list = list_of(index, self.source);
         self.need_wdf = self.wdf_for(need);
         self.need = need;
         let read = self
@@ -153,7 +161,7 @@ impl Leaf {
     /// How much its entries from the target on can weigh, up to the end of the chunk that the target falls into. It reads
     /// nothing.
     #[inline(always)]
-    pub fn block_max(&self, index: &Index, target: u64) -> Block
+    pub fn block_max(&self, index: &Index, target: Head) -> Block
         requires sound { IsLeafOn index.now self.now }
         requires target { target < 2 ^ 32 }
         ensures reached { target ≤ result.last }
@@ -161,16 +169,16 @@ impl Leaf {
         ensures bound { (id : ℕ) → target ≤ id → id ≤ result.last → unwrap_or (leaf_rest index.now self.now id) 0 ≤ result.greatest }
         ensures fits { result.greatest < 2 ^ 62 }
     {
-        let list = list_of(index, self.number);
+        let list = list_of(index, self.source);
         let block = self.cursor.block_max(list, target as u32);
         Block {
-            last: u64::from(block.last),
+            last: Head::from(block.last),
             greatest: weigh_by(self.factor, self.scheme, u64::from(block.greatest)),
         }
     }
 
     /// The least wdf that weighs what is needed, worked out anew for a new need.
-    fn wdf_for(&self, need: u64) -> u32
+    fn wdf_for(&self, need: Weight) -> u32
         requires factor { self.now.factor ≤ 65536 }
         requires light { AreLight self.now.factor self.now.scheme self.now.need_wdf self.now.need }
         ensures { AreLight self.now.factor self.now.scheme result need }
@@ -196,7 +204,7 @@ impl Leaf {
         let wdf = self.cursor.wdf();
         match self.cursor.head() {
             Some(id) => {
-                top.head = u64::from(id);
+                top.head = Head::from(id);
                 top.weight = weigh_by(self.factor, self.scheme, u64::from(wdf));
             }
             None => *top = Top::ended(),
@@ -213,7 +221,7 @@ impl Leaf {
         let wdf = self.cursor.wdf();
         match self.cursor.head() {
             Some(id) => {
-                top.head = u64::from(id);
+                top.head = Head::from(id);
                 top.weight = weigh_by(self.factor, self.scheme, u64::from(wdf));
                 top.greatest = self.greatest;
             }
@@ -227,7 +235,7 @@ impl Leaf {
 }
 
 /// What the entries of a list can weigh.
-fn greatest_of(list: &List, scheme: Scheme, factor: u64) -> u64
+fn greatest_of(list: &List, scheme: Scheme, factor: u64) -> Weight
     requires { factor ≤ 65536 }
     ensures { result ≡ leaf_greatest factor scheme (flat list.now) }
 {
@@ -238,22 +246,22 @@ fn greatest_of(list: &List, scheme: Scheme, factor: u64) -> u64
 }
 
 /// How long the list is.
-pub(crate) fn list_length(index: &Index, number: Option<usize>) -> u32
-    requires { IsThere number index.now.terms }
-    ensures value { result ≡ length (list_in index.now number) }
-    ensures sorted { AreSorted (list_in index.now number) }
+pub(crate) fn list_length(index: &Index, source: ListOf) -> u32
+    requires { IsThere source index.now.terms }
+    ensures value { result ≡ length (list_in index.now source) }
+    ensures sorted { AreSorted (list_in index.now source) }
 {
-    list_of(index, number).length()
+    list_of(index, source).length()
 }
 
 /// The list.
-fn list_of(index: &Index, number: Option<usize>) -> &List
-    requires { IsThere number index.now.terms }
-    ensures runs { result.now ≡ runs_in index.now number }
-    ensures entries { flat result.now ≡ list_in index.now number }
+fn list_of(index: &Index, source: ListOf) -> &List
+    requires { IsThere source index.now.terms }
+    ensures runs { result.now ≡ runs_of index.now source }
+    ensures entries { flat result.now ≡ list_in index.now source }
 {
-    match number {
-        Some(number) => index.list(number),
-        None => index.all(),
+    match source {
+        ListOf::Term(number) => index.list(number),
+        ListOf::All => index.all(),
     }
 }

@@ -16,7 +16,8 @@ use crate::odd::{FEW, odd_greatest, odd_meeting, sum_of};
 use crate::proximity::Proximity;
 use crate::skip::skip;
 use crate::top::{END, Top};
-use sk_decay::{Meeting, first_need, greatest_under, meeting_of, second_need, second_target};
+use sk_base::Weight;
+use sk_decay::{Head, Meeting, first_need, greatest_under, meeting_of, second_need, second_target};
 use sk_index::Index;
 use sk_query::Form;
 use sk_steps::Steps;
@@ -29,8 +30,8 @@ pub(crate) fn reach<L: Ledger>(
     top: &mut Top,
     node: &mut Node,
     index: &Index,
-    target: u64,
-    need: u64,
+    target: Head,
+    need: Weight,
     spent: &mut u128,
     steps: &mut Steps<L>,
 )
@@ -71,8 +72,8 @@ fn reach_inner<L: Ledger>(
     top: &mut Top,
     node: &mut Node,
     index: &Index,
-    target: u64,
-    need: u64,
+    target: Head,
+    need: Weight,
     spent: &mut u128,
     steps: &mut Steps<L>,
 )
@@ -98,8 +99,8 @@ fn seek<L: Ledger>(
     top: &mut Top,
     node: &mut Node,
     index: &Index,
-    target: u64,
-    need: u64,
+    target: Head,
+    need: Weight,
     spent: &mut u128,
     steps: &mut Steps<L>,
 )
@@ -135,8 +136,8 @@ pub(crate) fn seek_pair<L: Ledger>(
     tb: &mut Top,
     b: &mut Node,
     index: &Index,
-    target: u64,
-    need: u64,
+    target: Head,
+    need: Weight,
     spent: &mut u128,
     steps: &mut Steps<L>,
 )
@@ -194,8 +195,8 @@ fn seek_sides<L: Ledger>(
     tb: &mut Top,
     b: &mut Node,
     index: &Index,
-    target: u64,
-    need: u64,
+    target: Head,
+    need: Weight,
     spent: &mut u128,
     steps: &mut Steps<L>,
 )
@@ -237,7 +238,7 @@ fn seek_sides<L: Ledger>(
 }
 
 /// What a node of two sides can weigh: nothing at the end.
-fn greatest_at(form: Form, head: u64, a: u64, b: u64) -> u64
+fn greatest_at(form: Form, head: Head, a: Weight, b: Weight) -> Weight
     requires { a + b < 2 ^ 63 }
     ensures there { head < 2 ^ 32 → result ≡ greatest_under form a b }
     ensures ended { head ≡ 2 ^ 32 → result ≡ 0 }
@@ -256,7 +257,7 @@ pub(crate) fn seek_odd<L: Ledger>(
     tops: &mut [Top],
     nodes: &mut [Node],
     index: &Index,
-    target: u64,
+    target: Head,
     spent: &mut u128,
     steps: &mut Steps<L>,
 )
@@ -287,8 +288,8 @@ pub(crate) fn seek_any<L: Ledger>(
     tops: &mut [Top],
     nodes: &mut [Node],
     index: &Index,
-    target: u64,
-    need: u64,
+    target: Head,
+    need: Weight,
     spent: &mut u128,
     steps: &mut Steps<L>,
 )
@@ -312,7 +313,7 @@ fn seek_all<L: Ledger>(
     tops: &mut [Top],
     nodes: &mut [Node],
     index: &Index,
-    target: u64,
+    target: Head,
     spent: &mut u128,
     steps: &mut Steps<L>,
 )
@@ -337,8 +338,8 @@ fn seek_some<L: Ledger>(
     tops: &mut [Top],
     nodes: &mut [Node],
     index: &Index,
-    target: u64,
-    need: u64,
+    target: Head,
+    need: Weight,
     spent: &mut u128,
     steps: &mut Steps<L>,
 )
@@ -379,13 +380,13 @@ fn lead<L: Ledger>(
     tops: &mut [Top],
     nodes: &mut [Node],
     index: &Index,
-    from: u64,
-    need: u64,
-    most: u64,
-    last: u64,
+    from: Head,
+    need: Weight,
+    most: Weight,
+    last: Head,
     spent: &mut u128,
     steps: &mut Steps<L>,
-) -> u64
+) -> Head
     requires sound { AreSound index.now (sides_on tops.old nodes.old) }
     requires from { from < 2 ^ 32 }
     requires room { spent.old + unread_in index.now (sides_on tops.old nodes.old) < 2 ^ 128 }
@@ -425,13 +426,13 @@ fn weigh<L: Ledger>(
     tops: &mut [Top],
     nodes: &mut [Node],
     index: &Index,
-    id: u64,
-    need: u64,
-    most: u64,
-    others: u64,
+    id: Head,
+    need: Weight,
+    most: Weight,
+    others: Weight,
     spent: &mut u128,
     steps: &mut Steps<L>,
-) -> u64
+) -> Weight
     requires sound { AreSound index.now (sides_on tops.old nodes.old) }
     requires id { id < 2 ^ 32 }
     requires room { spent.old + unread_in index.now (sides_on tops.old nodes.old) < 2 ^ 128 }
@@ -492,7 +493,7 @@ fn reach_all<L: Ledger>(
     tops: &mut [Top],
     nodes: &mut [Node],
     index: &Index,
-    target: u64,
+    target: Head,
     spent: &mut u128,
     steps: &mut Steps<L>,
 )
@@ -521,7 +522,7 @@ fn reach_few<L: Ledger>(
     tops: &mut [Top],
     nodes: &mut [Node],
     index: &Index,
-    target: u64,
+    target: Head,
     spent: &mut u128,
     steps: &mut Steps<L>,
 )
@@ -549,8 +550,8 @@ pub(crate) fn seek_tested<L: Ledger>(
     below: &mut Top,
     node: &mut Node,
     index: &Index,
-    target: u64,
-    need: u64,
+    target: Head,
+    need: Weight,
     spent: &mut u128,
     steps: &mut Steps<L>,
 )

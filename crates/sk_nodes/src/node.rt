@@ -10,6 +10,7 @@ use crate::leaf::Leaf;
 use crate::proximity::Proximity;
 use crate::span::Span;
 use crate::top::{END, Top};
+use sk_base::Weight;
 use sk_decay::{Change, rule};
 use sk_index::Index;
 use sk_query::Form;
@@ -30,7 +31,7 @@ pub(crate) enum Node {
 
 /// Puts what is enough under the need in the node's place. The rule is asked only where it may say anything.
 #[inline(always)]
-pub(crate) fn settle(node: &mut Node, index: &Index, need: u64)
+pub(crate) fn settle(node: &mut Node, index: &Index, need: Weight)
     requires { Sound index.now (shape_of node.old) }
     ensures decays { Replaces index.now need (shape_of node.old) (shape_of node.new) }
     ensures stands { shape_of node.new ≡ decayed need (shape_of node.old) }
@@ -43,7 +44,7 @@ pub(crate) fn settle(node: &mut Node, index: &Index, need: u64)
 
 /// Neither side has ended, or weighs too little for the form.
 #[inline(always)]
-fn is_settled(node: &Node, need: u64) -> bool
+fn is_settled(node: &Node, need: Weight) -> bool
     ensures { result ≡ true → decayed need (shape_of node.now) ≡ shape_of node.now }
 {
     match node {
@@ -61,7 +62,7 @@ fn is_settled(node: &Node, need: u64) -> bool
 
 /// Whether two sides stay under their form, of which neither has ended, and that can weigh so much.
 #[inline(always)]
-fn stands(form: Form, a: u64, b: u64, need: u64) -> bool
+fn stands(form: Form, a: Weight, b: Weight, need: Weight) -> bool
     ensures { result ≡ true → change_of form a b false false need ≡ Change.Keep }
 {
     match form {
@@ -74,7 +75,7 @@ fn stands(form: Form, a: u64, b: u64, need: u64) -> bool
 }
 
 #[inline(never)]
-fn decay(node: &mut Node, _index: &Index, need: u64)
+fn decay(node: &mut Node, _index: &Index, need: Weight)
     requires { Sound _index.now (shape_of node.old) }
     ensures decays { Replaces _index.now need (shape_of node.old) (shape_of node.new) }
     ensures stands { shape_of node.new ≡ decayed need (shape_of node.old) }

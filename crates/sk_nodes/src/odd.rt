@@ -8,7 +8,8 @@ ghost use Rattle.sk_nodes.specs.Odd.{AreFrom, weight_sum, IsTally, OddMeets};
 
 use crate::node::Node;
 use crate::top::{END, Top};
-use sk_decay::Meeting;
+use sk_base::Weight;
+use sk_decay::{Head, Meeting};
 
 /// So many sides are gone over one by one; more are halved first, so that the stack stays small.
 pub(crate) const FEW: usize = 64;
@@ -16,9 +17,9 @@ pub(crate) const FEW: usize = 64;
 /// The first head of all, whether an odd number of sides has it, and what these weigh there.
 #[derive(Clone, Copy, Debug)]
 pub(crate) struct Tally {
-    head: u64,
+    head: Head,
     odd: bool,
-    weight: u64,
+    weight: Weight,
 }
 
 /// Where an odd number of sides begins, with their weight, or from where on the sides have to be sought.
@@ -111,7 +112,7 @@ fn joined(some: Tally, others: Tally) -> Tally
 }
 
 /// What a node of these sides can weigh: nothing at the end.
-pub(crate) fn odd_greatest(head: u64, tops: &[Top], nodes: &[Node]) -> u64
+pub(crate) fn odd_greatest(head: Head, tops: &[Top], nodes: &[Node]) -> Weight
     requires { greatest_sum (sides_on tops.now nodes.now) < 2 ^ 63 }
     ensures there { head < 2 ^ 32 → result ≡ greatest_sum (sides_on tops.now nodes.now) }
     ensures ended { head ≡ 2 ^ 32 → result ≡ 0 }
@@ -124,7 +125,7 @@ pub(crate) fn odd_greatest(head: u64, tops: &[Top], nodes: &[Node]) -> u64
 }
 
 /// What all sides can weigh together.
-pub(crate) fn sum_of(tops: &[Top], nodes: &[Node]) -> u64
+pub(crate) fn sum_of(tops: &[Top], nodes: &[Node]) -> Weight
     requires { greatest_sum (sides_on tops.now nodes.now) < 2 ^ 63 }
     ensures { result ≡ greatest_sum (sides_on tops.now nodes.now) }
 {
@@ -138,7 +139,7 @@ pub(crate) fn sum_of(tops: &[Top], nodes: &[Node]) -> u64
 }
 
 /// Of few sides, one by one.
-fn sum_of_few(tops: &[Top], nodes: &[Node]) -> u64
+fn sum_of_few(tops: &[Top], nodes: &[Node]) -> Weight
     requires { greatest_sum (sides_on tops.now nodes.now) < 2 ^ 63 }
     ensures { result ≡ greatest_sum (sides_on tops.now nodes.now) }
 {

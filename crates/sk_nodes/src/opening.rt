@@ -1,31 +1,26 @@
 //! How the node of a query is opened.
-ghost use Rattle.std.specs.Prelude.{◌≡◌, ◌≤◌, ◌<◌, ◌+◌, ◌^◌, ◌&&◌, ◌⊎◌, ℕ, min, true, List, [], ◌∷◌, All, IfOk, length, Some};
-ghost use Rattle.sk_base.specs.Loads.{IsLight};
+ghost use Rattle.std.specs.Prelude.{◌≡◌, ◌≤◌, ◌<◌, ◌+◌, ◌&&◌, ℕ, true, List, IfOk, length, Some};
 ghost use Rattle.sk_base.specs.Numbers.{length_of};
-ghost use Rattle.sk_sorted.specs.Entries.{AreSorted};
 ghost use Rattle.sk_dict.specs.Terms.{term_at};
 ghost use Rattle.sk_query.specs.declared.form.Form.TheVariants as Form;
 ghost use Rattle.sk_query.specs.Trees as QueryTree;
 ghost use Rattle.sk_query.specs.Trees.{query_view, queries_view};
-ghost use Rattle.sk_query.specs.Fits.{is_sound, leaves_of, is_window, are_given};
+ghost use Rattle.sk_query.specs.Fits.{is_window, are_given};
 ghost use Rattle.sk_model.specs.Bounds.{sum_in, ceil, ceils, ceil_of, term_ceil, terms_ceil, lengths_of};
 ghost use Rattle.sk_model.specs.Allowance.{leaf_readings, leaves_readings};
-ghost use Rattle.sk_model.specs.Sharp.{terms_in, flat_lists, rare_lists, rare_readings};
-ghost use Rattle.sk_lists.specs.Seeks.{count_to};
-ghost use Rattle.sk_nodes.specs.Accounts.{Pays};
+ghost use Rattle.sk_model.specs.Sharp.{terms_in};
+ghost use Rattle.sk_nodes.specs.Accounts.{Pays, Counts};
 ghost use Rattle.sk_nodes.specs.Leaves.{IsThere, list_in, weighed, leaf_greatest};
 ghost use Rattle.sk_nodes.specs.Shapes.{shape_of, sides_on};
 ghost use Rattle.sk_nodes.specs.Left.{rest, unread_of, unread_in};
 ghost use Rattle.sk_nodes.specs.Sound.{IsTop, Sound};
 ghost use Rattle.sk_nodes.specs.Any.{OpensTerms};
-ghost use Rattle.sk_nodes.specs.Flat.{room_to, IsNest, IsJoint, OpensNest, OpensFlat};
-ghost use Rattle.sk_nodes.specs.OpenedLed.{CanLead, OpensLone, OpensFollowing, OpensLed, OpensRare};
-ghost use Rattle.sk_nodes.specs.OpenedFading.{Begins, OpensAlone, OpensFading};
+ghost use Rattle.sk_nodes.specs.OpenedAccounts.{OpensList, OpensTerm, OpensQuery, OpensParts};
 ghost use Rattle.sk_nodes.specs.Proximity.{standing_query};
-ghost use Rattle.sk_nodes.specs.Opened.{score_of, part_scores, OpensSides, joint_score_of, AreParts, Opens};
+ghost use Rattle.sk_nodes.specs.Opened.{CanRead, CanOpen, IsPart, score_of, part_scores, OpensSides, joint_score_of, AreParts, Opens};
 
 use crate::begun::{any_of, odd_of, one_side, pair_of, tested_of, with_more};
-use crate::leaf::{Leaf, list_length};
+use crate::leaf::{Leaf, ListOf, list_length};
 use crate::node::Node;
 use crate::parts::{any_parts, odd_halves, odd_parts, only_part, others_of, parts_of, split_parts};
 use crate::proximity::{Proximity, Standing};
@@ -52,24 +47,12 @@ pub(crate) fn open_node<L: Ledger>(
     spent: &mut u128,
     steps: &mut Steps<L>,
 ) -> Result<(Top, Node), AllocError>
-    requires factor { factor ≤ 65536 }
-    requires sound { is_sound factor (query_view query.now) ≡ true }
-    requires leaves { leaves_of (query_view query.now) ≤ 1024 }
-    requires documents { AreSorted index.now.live.documents }
-    requires light { All IsLight index.now.live.documents }
-    requires room { spent.old ≤ most.old }
-    requires small { most.old < 2 ^ 128 }
+    requires can { CanOpen index.now factor spent.old most.old }
+    requires part { IsPart factor (query_view query.now) }
     ensures opens { IfOk result (λ p. Opens index.now p.0 (shape_of p.1) (score_of (query_view query.now) scheme factor) (ceil (query_view query.now) scheme factor index.now.live.documents)) }
     ensures pays { IfOk result (λ p. Pays spent.old spent.new most.old most.new (unread_of index.now (shape_of p.1)) (leaf_readings (query_view query.now) index.now.live.documents)) }
-    ensures counted { steps.new + spent.old ≡ steps.old + spent.new }
-    ensures later { spent.old ≤ spent.new }
-    ensures small { most.new < 2 ^ 128 }
-    ensures alone { IfOk result (λ p. (t : List ℕ) (form : Form) → query_view query.now ≡ QueryTree.term t → OpensNest index.now form (shape_of p.1) (t ∷ []) spent.old spent.new) }
-    ensures flat { IfOk result (λ p. (lists : List (List ℕ)) → flat_lists (query_view query.now) index.now.live.documents ≡ Some lists → OpensFlat index.now (shape_of p.1) lists spent.old spent.new) }
-    ensures lone { IfOk result (λ p. (t : List ℕ) → query_view query.now ≡ QueryTree.term t → OpensLone index.now p.0 (shape_of p.1) (length_of t index.now.live.documents) spent.old spent.new) }
-    ensures begun { IfOk result (λ p. (t : List ℕ) → query_view query.now ≡ QueryTree.term t → OpensAlone index.now p.0 (shape_of p.1) t (term_ceil scheme factor t index.now.live.documents) spent.old spent.new) }
-    ensures fading { IfOk result (λ p. (ts : QueryTree.Trees) (x y : List ℕ) → query_view query.now ≡ QueryTree.parts Form.Or ts → terms_in ts ≡ Some (x ∷ y ∷ []) → OpensFading index.now scheme factor (shape_of p.1) x y spent.old spent.new) }
-    ensures rare { IfOk result (λ p. (lists : List (List ℕ)) (m : ℕ) → rare_lists (query_view query.now) index.now.live.documents ≡ Some (lists, m) → OpensRare index.now p.0 (shape_of p.1) (rare_readings lists m index.now.live.documents) spent.old spent.new) }
+    ensures counts { Counts spent.old spent.new steps.old steps.new most.new }
+    ensures accounts { IfOk result (λ p. OpensQuery index.now (query_view query.now) scheme factor p.0 (shape_of p.1) spent.old spent.new) }
 {
     if let Some((form, parts)) = parts_of(query, factor) {
         return open_parts(
@@ -78,7 +61,7 @@ pub(crate) fn open_node<L: Ledger>(
     }
     match query {
         Query::Nothing => Ok((Top::ended(), Node::Nothing)),
-        Query::All => open_all(index, scheme, factor, most, spent, steps),
+        Query::All => open_all(index, scheme, most, spent, steps),
         Query::Term(word) => open_term(index, word, scheme, factor, most, spent, steps),
         Query::Scale(more, part) => open_node(
             alloc,
@@ -137,7 +120,7 @@ pub(crate) fn open_node<L: Ledger>(
             )
         }
         Query::Range(slot, lo, hi) => open_range(
-            alloc, index, *slot, lo, hi, scheme, factor, most, spent, steps,
+            alloc, index, *slot, lo, hi, scheme, most, spent, steps,
         ),
         // Those of several parts went by `parts_of`.
         _ => Err(AllocError),
@@ -158,18 +141,12 @@ fn open_standing<L: Ledger>(
     spent: &mut u128,
     steps: &mut Steps<L>,
 ) -> Result<(Top, Node), AllocError>
-    requires factor { factor ≤ 65536 }
+    requires can { CanOpen index.now factor spent.old most.old }
     requires sound { (is_window window && are_given words.now) ≡ true }
     requires leaves { length words.now ≤ 1024 }
-    requires documents { AreSorted index.now.live.documents }
-    requires light { All IsLight index.now.live.documents }
-    requires room { spent.old ≤ most.old }
-    requires small { most.old < 2 ^ 128 }
     ensures opens { IfOk result (λ p. Opens index.now p.0 (shape_of p.1) (score_of (standing_query standing window words.now) scheme factor) (terms_ceil scheme factor words.now index.now.live.documents)) }
     ensures pays { IfOk result (λ p. Pays spent.old spent.new most.old most.new (unread_of index.now (shape_of p.1)) (lengths_of words.now index.now.live.documents + lengths_of words.now index.now.live.documents)) }
-    ensures counted { steps.new + spent.old ≡ steps.old + spent.new }
-    ensures later { spent.old ≤ spent.new }
-    ensures small { most.new < 2 ^ 128 }
+    ensures counts { Counts spent.old spent.new steps.old steps.new most.new }
 {
     let numbers = numbers_of(alloc, index, words)?;
     if numbers.len() < words.len() {
@@ -215,22 +192,12 @@ fn open_parts<L: Ledger>(
     spent: &mut u128,
     steps: &mut Steps<L>,
 ) -> Result<(Top, Node), AllocError>
-    requires factor { factor ≤ 65536 }
+    requires can { CanOpen index.now factor spent.old most.old }
     requires parts { AreParts form factor (queries_view parts.now) }
-    requires documents { AreSorted index.now.live.documents }
-    requires light { All IsLight index.now.live.documents }
-    requires room { spent.old ≤ most.old }
-    requires small { most.old < 2 ^ 128 }
     ensures opens { IfOk result (λ p. Opens index.now p.0 (shape_of p.1) (joint_score_of form (queries_view parts.now) scheme factor) (ceil_of form (ceils (queries_view parts.now) scheme factor index.now.live.documents))) }
     ensures pays { IfOk result (λ p. Pays spent.old spent.new most.old most.new (unread_of index.now (shape_of p.1)) (leaves_readings (queries_view parts.now) index.now.live.documents)) }
-    ensures counted { steps.new + spent.old ≡ steps.old + spent.new }
-    ensures later { spent.old ≤ spent.new }
-    ensures small { most.new < 2 ^ 128 }
-    ensures nest { IfOk result (λ p. (lists : List (List ℕ)) → IsJoint form → terms_in (queries_view parts.now) ≡ Some lists → OpensNest index.now form (shape_of p.1) lists spent.old spent.new) }
-    ensures led { IfOk result (λ p. (lists : List (List ℕ)) → CanLead form lists → terms_in (queries_view parts.now) ≡ Some lists → OpensLed index.now form p.0 (shape_of p.1) lists spent.old spent.new) }
-    ensures follows { IfOk result (λ p. (lists : List (List ℕ)) → (form ≡ Form.Or) ⊎ (length lists ≡ 1) → terms_in (queries_view parts.now) ≡ Some lists → OpensFollowing index.now (shape_of p.1) lists spent.old spent.new) }
-    ensures begun { IfOk result (λ p. (t : List ℕ) → terms_in (queries_view parts.now) ≡ Some (t ∷ []) → OpensAlone index.now p.0 (shape_of p.1) t (term_ceil scheme factor t index.now.live.documents) spent.old spent.new) }
-    ensures fading { IfOk result (λ p. (x y : List ℕ) → form ≡ Form.Or → terms_in (queries_view parts.now) ≡ Some (x ∷ y ∷ []) → OpensFading index.now scheme factor (shape_of p.1) x y spent.old spent.new) }
+    ensures counts { Counts spent.old spent.new steps.old steps.new most.new }
+    ensures accounts { IfOk result (λ p. OpensParts index.now form (queries_view parts.now) scheme factor p.0 (shape_of p.1) spent.old spent.new) }
 {
     if let Some(part) = only_part(form, parts, factor) {
         return open_node(alloc, index, part, scheme, factor, most, spent, steps);
@@ -277,18 +244,12 @@ fn open_sides<L: Ledger>(
     spent: &mut u128,
     steps: &mut Steps<L>,
 ) -> Result<(Vec<Top>, Vec<Node>), AllocError>
-    requires factor { factor ≤ 65536 }
+    requires can { CanOpen index.now factor spent.old most.old }
     requires parts { AreParts Form.Xor factor (queries_view parts.now) }
-    requires documents { AreSorted index.now.live.documents }
-    requires light { All IsLight index.now.live.documents }
-    requires room { spent.old ≤ most.old }
-    requires small { most.old < 2 ^ 128 }
     ensures opens { IfOk result (λ p. OpensSides index.now (sides_on p.0.items p.1.items) (part_scores (queries_view parts.now) scheme factor) (sum_in (ceils (queries_view parts.now) scheme factor index.now.live.documents))) }
     ensures even { IfOk result (λ p. length p.0.items ≡ length p.1.items) }
     ensures pays { IfOk result (λ p. Pays spent.old spent.new most.old most.new (unread_in index.now (sides_on p.0.items p.1.items)) (leaves_readings (queries_view parts.now) index.now.live.documents)) }
-    ensures counted { steps.new + spent.old ≡ steps.old + spent.new }
-    ensures later { spent.old ≤ spent.new }
-    ensures small { most.new < 2 ^ 128 }
+    ensures counts { Counts spent.old spent.new steps.old steps.new most.new }
     ensures terms { IfOk result (λ p. (lists : List (List ℕ)) → terms_in (queries_view parts.now) ≡ Some lists → OpensTerms index.now (sides_on p.0.items p.1.items) lists spent.old spent.new) }
 {
     if let Some(part) = only_part(Form::Xor, parts, factor) {
@@ -311,21 +272,16 @@ fn open_sides<L: Ledger>(
 fn open_all<L: Ledger>(
     index: &Index,
     scheme: Scheme,
-    _factor: u64,
     most: &mut u128,
     spent: &mut u128,
     steps: &mut Steps<L>,
 ) -> Result<(Top, Node), AllocError>
-    requires documents { AreSorted index.now.live.documents }
-    requires room { spent.old ≤ most.old }
-    requires small { most.old < 2 ^ 128 }
-    ensures opens { IfOk result (λ p. Opens index.now p.0 (shape_of p.1) (score_of QueryTree.all scheme _factor) 0) }
+    requires can { CanRead index.now spent.old most.old }
+    ensures opens { IfOk result (λ p. (factor : ℕ) → Opens index.now p.0 (shape_of p.1) (score_of QueryTree.all scheme factor) 0) }
     ensures pays { IfOk result (λ p. Pays spent.old spent.new most.old most.new (unread_of index.now (shape_of p.1)) (leaf_readings QueryTree.all index.now.live.documents)) }
-    ensures counted { steps.new + spent.old ≡ steps.old + spent.new }
-    ensures later { spent.old ≤ spent.new }
-    ensures small { most.new < 2 ^ 128 }
+    ensures counts { Counts spent.old spent.new steps.old steps.new most.new }
 {
-    let (top, node) = open_leaf(index, None, scheme, 0, most, spent, steps)?;
+    let (top, node) = open_leaf(index, ListOf::All, scheme, 0, most, spent, steps)?;
     Ok((top, node))
 }
 
@@ -340,17 +296,11 @@ fn open_term<L: Ledger>(
     steps: &mut Steps<L>,
 ) -> Result<(Top, Node), AllocError>
     requires factor { factor ≤ 65536 }
-    requires documents { AreSorted index.now.live.documents }
-    requires room { spent.old ≤ most.old }
-    requires small { most.old < 2 ^ 128 }
+    requires can { CanRead index.now spent.old most.old }
     ensures opens { IfOk result (λ p. Opens index.now p.0 (shape_of p.1) (score_of (QueryTree.term word.now) scheme factor) (term_ceil scheme factor word.now index.now.live.documents)) }
     ensures pays { IfOk result (λ p. Pays spent.old spent.new most.old most.new (unread_of index.now (shape_of p.1)) (length_of word.now index.now.live.documents)) }
-    ensures counted { steps.new + spent.old ≡ steps.old + spent.new }
-    ensures later { spent.old ≤ spent.new }
-    ensures small { most.new < 2 ^ 128 }
-    ensures nest { IfOk result (λ p. (form : Form) → OpensNest index.now form (shape_of p.1) (word.now ∷ []) spent.old spent.new) }
-    ensures lone { IfOk result (λ p. OpensLone index.now p.0 (shape_of p.1) (length_of word.now index.now.live.documents) spent.old spent.new) }
-    ensures begun { IfOk result (λ p. OpensAlone index.now p.0 (shape_of p.1) word.now (term_ceil scheme factor word.now index.now.live.documents) spent.old spent.new) }
+    ensures counts { Counts spent.old spent.new steps.old steps.new most.new }
+    ensures term { IfOk result (λ p. OpensTerm index.now p.0 (shape_of p.1) word.now (term_ceil scheme factor word.now index.now.live.documents) spent.old spent.new) }
 {
     match index.number_of(word.as_str().as_bytes()) {
         None => Ok((Top::ended(), Node::Nothing)),
@@ -373,55 +323,50 @@ pub(crate) fn open_numbered<L: Ledger>(
 ) -> Result<(Top, Node), AllocError>
     requires there { number < length index.now.terms }
     requires factor { factor ≤ 65536 }
-    requires documents { AreSorted index.now.live.documents }
-    requires room { spent.old ≤ most.old }
-    requires small { most.old < 2 ^ 128 }
+    requires can { CanRead index.now spent.old most.old }
     ensures opens { IfOk result (λ p. Opens index.now p.0 (shape_of p.1) (score_of (QueryTree.term (term_at index.now.terms number)) scheme factor) (term_ceil scheme factor (term_at index.now.terms number) index.now.live.documents)) }
     ensures pays { IfOk result (λ p. Pays spent.old spent.new most.old most.new (unread_of index.now (shape_of p.1)) (length_of (term_at index.now.terms number) index.now.live.documents)) }
     ensures exact { IfOk result (λ p. most.new ≡ most.old + length_of (term_at index.now.terms number) index.now.live.documents) }
-    ensures counted { steps.new + spent.old ≡ steps.old + spent.new }
-    ensures later { spent.old ≤ spent.new }
-    ensures small { most.new < 2 ^ 128 }
-    ensures nest { IfOk result (λ p. (form : Form) → OpensNest index.now form (shape_of p.1) (term_at index.now.terms number ∷ []) spent.old spent.new) }
-    ensures lone { IfOk result (λ p. OpensLone index.now p.0 (shape_of p.1) (length_of (term_at index.now.terms number) index.now.live.documents) spent.old spent.new) }
-    ensures begun { IfOk result (λ p. OpensAlone index.now p.0 (shape_of p.1) (term_at index.now.terms number) (term_ceil scheme factor (term_at index.now.terms number) index.now.live.documents) spent.old spent.new) }
+    ensures counts { Counts spent.old spent.new steps.old steps.new most.new }
+    ensures term { IfOk result (λ p. OpensTerm index.now p.0 (shape_of p.1) (term_at index.now.terms number) (term_ceil scheme factor (term_at index.now.terms number) index.now.live.documents) spent.old spent.new) }
 {
-    let (top, node) = open_leaf(index, Some(number), scheme, factor, most, spent, steps)?;
+    let (top, node) = open_leaf(
+        index,
+        ListOf::Term(number),
+        scheme,
+        factor,
+        most,
+        spent,
+        steps,
+    )?;
     Ok((top, node))
 }
 
 /// A leaf, and its top.
 fn open_leaf<L: Ledger>(
     index: &Index,
-    number: Option<usize>,
+    source: ListOf,
     scheme: Scheme,
     factor: u64,
     most: &mut u128,
     spent: &mut u128,
     steps: &mut Steps<L>,
 ) -> Result<(Top, Node), AllocError>
-    requires there { IsThere number index.now.terms }
+    requires there { IsThere source index.now.terms }
     requires factor { factor ≤ 65536 }
-    requires documents { AreSorted index.now.live.documents }
-    requires room { spent.old ≤ most.old }
-    requires small { most.old < 2 ^ 128 }
+    requires can { CanRead index.now spent.old most.old }
     ensures top { IfOk result (λ p. IsTop index.now p.0 (shape_of p.1)) }
     ensures sound { IfOk result (λ p. Sound index.now (shape_of p.1)) }
-    ensures gives { IfOk result (λ p. (id : ℕ) → rest index.now (shape_of p.1) id ≡ weighed factor scheme (list_in index.now number) id) }
-    ensures ceiling { IfOk result (λ p. p.0.greatest ≤ leaf_greatest factor scheme (list_in index.now number)) }
-    ensures pays { IfOk result (λ p. Pays spent.old spent.new most.old most.new (unread_of index.now (shape_of p.1)) (length (list_in index.now number))) }
-    ensures exact { IfOk result (λ p. most.new ≡ most.old + length (list_in index.now number)) }
-    ensures counted { steps.new + spent.old ≡ steps.old + spent.new }
-    ensures later { spent.old ≤ spent.new }
-    ensures small { most.new < 2 ^ 128 }
-    ensures alone { IfOk result (λ p. (form : Form) → IsNest form (shape_of p.1)) }
-    ensures begins { IfOk result (λ p. (point : ℕ) → spent.new + room_to index.now point (shape_of p.1) ≤ spent.old + (min 1 (length (list_in index.now number)) + count_to point (list_in index.now number))) }
-    ensures lone { IfOk result (λ p. OpensLone index.now p.0 (shape_of p.1) (length (list_in index.now number)) spent.old spent.new) }
-    ensures begun { IfOk result (λ p. Begins index.now p.0 (shape_of p.1) (list_in index.now number) (leaf_greatest factor scheme (list_in index.now number))) }
+    ensures gives { IfOk result (λ p. (id : ℕ) → rest index.now (shape_of p.1) id ≡ weighed factor scheme (list_in index.now source) id) }
+    ensures ceiling { IfOk result (λ p. p.0.greatest ≤ leaf_greatest factor scheme (list_in index.now source)) }
+    ensures pays { IfOk result (λ p. Pays spent.old spent.new most.old most.new (unread_of index.now (shape_of p.1)) (length (list_in index.now source))) }
+    ensures exact { IfOk result (λ p. most.new ≡ most.old + length (list_in index.now source)) }
+    ensures counts { Counts spent.old spent.new steps.old steps.new most.new }
+    ensures list { IfOk result (λ p. OpensList index.now p.0 (shape_of p.1) (list_in index.now source) (leaf_greatest factor scheme (list_in index.now source)) spent.old spent.new) }
 {
-    let length = list_length(index, number);
+    let length = list_length(index, source);
     raise(most, length)?;
     let mut top = Top::ended();
-    let leaf = Leaf::open(&mut top, index, number, scheme, factor, spent, steps);
+    let leaf = Leaf::open(&mut top, index, source, scheme, factor, spent, steps);
     Ok((top, Node::Leaf(leaf)))
 }

@@ -1,11 +1,10 @@
 //! How the parts of a query come to the sides of nodes.
-ghost use Rattle.std.specs.Prelude.{◌≡◌, ◌≤◌, ◌<◌, ◌+◌, ℕ, true, false, List, ◌++◌, IfSome, IfNone, length, Option, Some};
+ghost use Rattle.std.specs.Prelude.{◌≡◌, ◌≤◌, ◌<◌, ◌+◌, ℕ, true, false, List, ◌++◌, IfSome, IfNone, length, Option, None, Some};
 ghost use Rattle.sk_base.specs.declared.find.Scheme.{Scheme};
 ghost use Rattle.sk_base.specs.Numbers.{Docs};
 ghost use Rattle.sk_query.specs.declared.form.Form.TheVariants as Form;
 ghost use Rattle.sk_query.specs.Trees as QueryTree;
-ghost use Rattle.sk_query.specs.Trees.{query_view, queries_view};
-ghost use Rattle.sk_query.specs.Fits.{is_sound, leaves_of};
+ghost use Rattle.sk_query.specs.Trees.{query_view, queries_view, form_of};
 ghost use Rattle.sk_model.specs.Documents.{Document};
 ghost use Rattle.sk_model.specs.Bounds.{sum_in, ceil, ceils, ceil_of};
 ghost use Rattle.sk_model.specs.Allowance.{leaf_readings, leaves_readings};
@@ -14,7 +13,7 @@ ghost use Rattle.sk_nodes.specs.Shapes.{odd};
 ghost use Rattle.sk_nodes.specs.Flat.{SplitsTerms};
 ghost use Rattle.sk_nodes.specs.Parts.{Splits, AreSides};
 ghost use Rattle.sk_nodes.specs.OpenedLed.{first_length, last_length, CanLead, SplitsOff, IsOrdered, SplitsLed};
-ghost use Rattle.sk_nodes.specs.Opened.{count_in, score_of, part_scores, is_nest, joint_score_of, others_of, query_size, parts_size, AreParts};
+ghost use Rattle.sk_nodes.specs.Opened.{IsPart, count_in, score_of, part_scores, is_nest, joint_score_of, others_of, query_size, parts_size, AreParts};
 
 use sk_index::Index;
 use sk_query::{Form, Query};
@@ -28,8 +27,8 @@ const MOST_SIDES: usize = 64;
 
 /// The form and the parts of a query of several.
 pub(crate) fn parts_of(query: &Query, _factor: u64) -> Option<(Form, &[Query])>
-    requires sound { is_sound _factor (query_view query.now) ≡ true }
-    requires leaves { leaves_of (query_view query.now) ≤ 1024 }
+    requires { IsPart _factor (query_view query.now) }
+    ensures none { IfNone result (form_of (query_view query.now) ≡ None) }
     ensures parts { IfSome result (λ p. AreParts p.0 _factor (queries_view p.1.now)) }
     ensures is { IfSome result (λ p. query_view query.now ≡ QueryTree.parts p.0 (queries_view p.1.now)) }
     ensures size { IfSome result (λ p. query_size (query_view query.now) ≡ 1 + parts_size (queries_view p.1.now)) }
@@ -47,8 +46,7 @@ pub(crate) fn parts_of(query: &Query, _factor: u64) -> Option<(Form, &[Query])>
 pub(crate) fn only_part(form: Form, parts: &[Query], _factor: u64) -> Option<&Query>
     requires { AreParts form _factor (queries_view parts.now) }
     ensures many { IfNone result (2 ≤ length parts.now) }
-    ensures sound { IfSome result (λ part. is_sound _factor (query_view part.now) ≡ true) }
-    ensures leaves { IfSome result (λ part. leaves_of (query_view part.now) ≤ 1024) }
+    ensures part { IfSome result (λ part. IsPart _factor (query_view part.now)) }
     ensures alone { IfSome result (λ part. queries_view parts.now ≡ QueryTree.tree (query_view part.now) QueryTree.no_trees) }
     ensures size { IfSome result (λ part. query_size (query_view part.now) ≡ parts_size (queries_view parts.now)) }
     ensures scores { IfSome result (λ part. (scheme : Scheme) (o : Option Document) → joint_score_of form (queries_view parts.now) scheme _factor o ≡ score_of (query_view part.now) scheme _factor o) }

@@ -6,7 +6,8 @@ ghost use Rattle.sk_nodes.specs.Skips.{IsLight};
 ghost use Rattle.sk_nodes.specs.Proximity.{stand, positions_at, holds, entries_from, AreThere, IsInAll, CanTest, IsSameTest};
 
 use crate::top::Top;
-use sk_base::DocId;
+use sk_base::{DocId, Weight};
+use sk_decay::Head;
 use sk_index::Index;
 use sk_near::{near, phrase};
 use sk_steps::Steps;
@@ -29,7 +30,7 @@ pub(crate) struct Proximity {
     pub numbers: Vec<usize>,
     pub marks: Vec<u32>,
     pub places: Vec<u32>,
-    pub next: u64,
+    pub next: Head,
 }
 
 impl Proximity {
@@ -39,7 +40,7 @@ impl Proximity {
         &mut self,
         index: &Index,
         below: &Top,
-        need: u64,
+        need: Weight,
         spent: &mut u128,
         steps: &mut Steps<L>,
     ) -> bool
@@ -65,7 +66,7 @@ impl Proximity {
     pub fn holds<L: Ledger>(
         &mut self,
         index: &Index,
-        head: u64,
+        head: Head,
         spent: &mut u128,
         steps: &mut Steps<L>,
     ) -> bool

@@ -1,14 +1,13 @@
 //! How the node of a range is opened.
-ghost use Rattle.std.specs.Prelude.{◌≡◌, ◌≤◌, ◌<◌, ◌+◌, ◌^◌, true, IfOk};
+ghost use Rattle.std.specs.Prelude.{◌≡◌, ℕ, true, IfOk};
 ghost use Rattle.sk_base.specs.Numbers.{slot_length_of};
-ghost use Rattle.sk_sorted.specs.Entries.{AreSorted};
 ghost use Rattle.sk_query.specs.Trees as QueryTree;
 ghost use Rattle.sk_query.specs.Trees.{limit_of};
 ghost use Rattle.sk_model.specs.Ranges.{end_of, is_crossed};
-ghost use Rattle.sk_nodes.specs.Accounts.{Pays};
+ghost use Rattle.sk_nodes.specs.Accounts.{Pays, Counts};
 ghost use Rattle.sk_nodes.specs.Shapes.{shape_of};
 ghost use Rattle.sk_nodes.specs.Left.{unread_of};
-ghost use Rattle.sk_nodes.specs.Opened.{score_of, Opens};
+ghost use Rattle.sk_nodes.specs.Opened.{CanRead, score_of, Opens};
 
 use crate::node::Node;
 use crate::span::Span;
@@ -30,19 +29,14 @@ pub(crate) fn open_range<L: Ledger>(
     lo: &Bound,
     hi: &Bound,
     scheme: Scheme,
-    _factor: u64,
     most: &mut u128,
     spent: &mut u128,
     steps: &mut Steps<L>,
 ) -> Result<(Top, Node), AllocError>
-    requires documents { AreSorted index.now.live.documents }
-    requires room { spent.old ≤ most.old }
-    requires small { most.old < 2 ^ 128 }
-    ensures opens { IfOk result (λ p. Opens index.now p.0 (shape_of p.1) (score_of (QueryTree.range slot (limit_of lo.now) (limit_of hi.now)) scheme _factor) 0) }
+    requires can { CanRead index.now spent.old most.old }
+    ensures opens { IfOk result (λ p. (factor : ℕ) → Opens index.now p.0 (shape_of p.1) (score_of (QueryTree.range slot (limit_of lo.now) (limit_of hi.now)) scheme factor) 0) }
     ensures pays { IfOk result (λ p. Pays spent.old spent.new most.old most.new (unread_of index.now (shape_of p.1)) (slot_length_of slot index.now.live.documents)) }
-    ensures counted { steps.new + spent.old ≡ steps.old + spent.new }
-    ensures later { spent.old ≤ spent.new }
-    ensures small { most.new < 2 ^ 128 }
+    ensures counts { Counts spent.old spent.new steps.old steps.new most.new }
     ensures crossed { is_crossed (end_of (limit_of lo.now)) (end_of (limit_of hi.now)) ≡ true → steps.new ≡ steps.old }
 {
     if is_crossed(lo, hi) {

@@ -9,12 +9,14 @@ ghost use Rattle.sk_nodes.specs.Skips.{IsLight, Skips};
 use crate::leaf::Leaf;
 use crate::node::Node;
 use crate::top::END;
+use sk_base::Weight;
+use sk_decay::Head;
 use sk_index::Index;
 use sk_query::Form;
 
 /// From where on two sides may give what is needed. It looks at two leaves under an and alone, and reads nothing.
 #[inline(always)]
-pub(crate) fn skip(form: Form, a: &Node, b: &Node, index: &Index, from: u64, need: u64) -> u64
+pub(crate) fn skip(form: Form, a: &Node, b: &Node, index: &Index, from: Head, need: Weight) -> Head
     requires first { Sound index.now (shape_of a.now) }
     requires second { Sound index.now (shape_of b.now) }
     requires from { from < 2 ^ 32 }
@@ -30,7 +32,7 @@ pub(crate) fn skip(form: Form, a: &Node, b: &Node, index: &Index, from: u64, nee
 }
 
 #[inline(always)]
-fn skip_nodes(a: &Node, b: &Node, index: &Index, from: u64, need: u64) -> u64
+fn skip_nodes(a: &Node, b: &Node, index: &Index, from: Head, need: Weight) -> Head
     requires first { Sound index.now (shape_of a.now) }
     requires second { Sound index.now (shape_of b.now) }
     requires from { from < 2 ^ 32 }
@@ -47,7 +49,7 @@ fn skip_nodes(a: &Node, b: &Node, index: &Index, from: u64, need: u64) -> u64
 }
 
 /// Block by block, as long as what stands there in both lists is too light.
-fn skip_leaves(a: &Leaf, b: &Leaf, index: &Index, mut from: u64, need: u64) -> u64
+fn skip_leaves(a: &Leaf, b: &Leaf, index: &Index, mut from: Head, need: Weight) -> Head
     requires first { IsLeafOn index.now a.now }
     requires second { IsLeafOn index.now b.now }
     requires from { from < 2 ^ 32 }

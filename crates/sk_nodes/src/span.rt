@@ -14,6 +14,7 @@ ghost use Rattle.sk_nodes.specs.Span.{unweighed, span_entries, span_rest, span_u
 
 use crate::top::{END, Top};
 use sk_base::Bytes;
+use sk_decay::Head;
 use sk_index::Index;
 use sk_steps::Steps;
 use sk_values::RangeCursor;
@@ -60,7 +61,7 @@ impl Span {
         &mut self,
         top: &mut Top,
         index: &Index,
-        target: u64,
+        target: Head,
         spent: &mut u128,
         steps: &mut Steps<L>,
     )
@@ -86,7 +87,7 @@ impl Span {
         ensures ceiling { top.new.greatest ≡ 0 }
     {
         let head = match self.cursor.head() {
-            Some(id) => u64::from(id),
+            Some(id) => Head::from(id),
             None => END,
         };
         *top = Top {

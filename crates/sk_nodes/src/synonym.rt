@@ -1,31 +1,29 @@
 //! How the node of terms that count as one is opened: those of a synonym, and those that begin with a prefix.
-ghost use Rattle.std.specs.Prelude.{◌≡◌, ◌≤◌, ◌<◌, ◌+◌, ◌^◌, true, map, ◌++◌, min, All, IfOk, length, Option};
+ghost use Rattle.std.specs.Prelude.{◌≡◌, ◌≤◌, ◌<◌, ◌+◌, ◌^◌, ℕ, true, map, ◌++◌, min, IfOk, length, Option};
 ghost use Rattle.sk_base.specs.declared.find.Scheme.{Scheme};
-ghost use Rattle.sk_base.specs.Loads.{IsLight};
 ghost use Rattle.sk_base.specs.Numbers.{terms_with};
-ghost use Rattle.sk_sorted.specs.Entries.{AreSorted};
 ghost use Rattle.sk_dict.specs.Terms.{term_at};
 ghost use Rattle.sk_query.specs.declared.form.Form.TheVariants as Form;
 ghost use Rattle.sk_query.specs.Trees as QueryTree;
 ghost use Rattle.sk_query.specs.Trees.{query_view};
-ghost use Rattle.sk_query.specs.Fits.{is_sound, leaves_of, are_different};
+ghost use Rattle.sk_query.specs.Fits.{are_different};
 ghost use Rattle.sk_model.specs.Documents.{Document};
 ghost use Rattle.sk_model.specs.Bounds.{ceil, lengths_of};
 ghost use Rattle.sk_model.specs.Allowance.{leaf_readings};
 ghost use Rattle.sk_decay.specs.Sides.{paired};
-ghost use Rattle.sk_nodes.specs.Accounts.{Pays};
+ghost use Rattle.sk_nodes.specs.Accounts.{Pays, Counts};
 ghost use Rattle.sk_nodes.specs.Shapes.{shape_of};
 ghost use Rattle.sk_nodes.specs.Left.{unread_of};
 ghost use Rattle.sk_nodes.specs.Flat.{OpensNest, OpensFlat};
 ghost use Rattle.sk_nodes.specs.Proximity.{AreThere};
-ghost use Rattle.sk_nodes.specs.Opened.{score_of, joint_form, Opens};
+ghost use Rattle.sk_nodes.specs.Opened.{CanOpen, IsPart, score_of, joint_form, Opens};
 
 use crate::begun::pair_of;
 use crate::node::Node;
 use crate::opening::open_numbered;
 use crate::top::Top;
 use crate::words::numbers_of;
-use sk_base::{Scheme, Text};
+use sk_base::{Scheme, Text, Weight};
 use sk_index::Index;
 use sk_query::{Form, Query};
 use sk_steps::Steps;
@@ -34,7 +32,7 @@ use std::alloc::{AllocError, Global};
 use std::sync::ledger::Ledger;
 
 /// No document weighs more under terms that count as one: its wdfs are below 2^29 together, and a factor is at most 2^16.
-const MOST_WEIGHT: u64 = 1 << 45;
+const MOST_WEIGHT: Weight = 1 << 45;
 
 /// The node of a synonym, which weighs no more than a synonym can.
 pub(crate) fn open_synonym<L: Ledger>(
@@ -49,18 +47,11 @@ pub(crate) fn open_synonym<L: Ledger>(
     steps: &mut Steps<L>,
 ) -> Result<(Top, Node), AllocError>
     requires is { query_view query.now ≡ QueryTree.synonym words.now }
-    requires factor { factor ≤ 65536 }
-    requires sound { is_sound factor (query_view query.now) ≡ true }
-    requires leaves { leaves_of (query_view query.now) ≤ 1024 }
-    requires documents { AreSorted index.now.live.documents }
-    requires light { All IsLight index.now.live.documents }
-    requires room { spent.old ≤ most.old }
-    requires small { most.old < 2 ^ 128 }
+    requires can { CanOpen index.now factor spent.old most.old }
+    requires part { IsPart factor (query_view query.now) }
     ensures opens { IfOk result (λ p. Opens index.now p.0 (shape_of p.1) (score_of (query_view query.now) scheme factor) (ceil (query_view query.now) scheme factor index.now.live.documents)) }
     ensures pays { IfOk result (λ p. Pays spent.old spent.new most.old most.new (unread_of index.now (shape_of p.1)) (lengths_of words.now index.now.live.documents)) }
-    ensures counted { steps.new + spent.old ≡ steps.old + spent.new }
-    ensures later { spent.old ≤ spent.new }
-    ensures small { most.new < 2 ^ 128 }
+    ensures counts { Counts spent.old spent.new steps.old steps.new most.new }
     ensures flat { IfOk result (λ p. OpensFlat index.now (shape_of p.1) words.now spent.old spent.new) }
 {
     let numbers = numbers_of(alloc, index, words)?;
@@ -91,18 +82,11 @@ pub(crate) fn open_wildcard<L: Ledger>(
     steps: &mut Steps<L>,
 ) -> Result<(Top, Node), AllocError>
     requires is { query_view query.now ≡ QueryTree.wildcard prefix.now }
-    requires factor { factor ≤ 65536 }
-    requires sound { is_sound factor (query_view query.now) ≡ true }
-    requires leaves { leaves_of (query_view query.now) ≤ 1024 }
-    requires documents { AreSorted index.now.live.documents }
-    requires light { All IsLight index.now.live.documents }
-    requires room { spent.old ≤ most.old }
-    requires small { most.old < 2 ^ 128 }
+    requires can { CanOpen index.now factor spent.old most.old }
+    requires part { IsPart factor (query_view query.now) }
     ensures opens { IfOk result (λ p. Opens index.now p.0 (shape_of p.1) (score_of (query_view query.now) scheme factor) (ceil (query_view query.now) scheme factor index.now.live.documents)) }
     ensures pays { IfOk result (λ p. Pays spent.old spent.new most.old most.new (unread_of index.now (shape_of p.1)) (leaf_readings (QueryTree.wildcard prefix.now) index.now.live.documents)) }
-    ensures counted { steps.new + spent.old ≡ steps.old + spent.new }
-    ensures later { spent.old ≤ spent.new }
-    ensures small { most.new < 2 ^ 128 }
+    ensures counts { Counts spent.old spent.new steps.old steps.new most.new }
     ensures flat { IfOk result (λ p. OpensFlat index.now (shape_of p.1) (terms_with prefix.now index.now.live.documents) spent.old spent.new) }
 {
     let numbers = index.with_prefix(prefix.as_str().as_bytes())?;
@@ -134,16 +118,10 @@ fn open_joint<L: Ledger>(
 ) -> Result<(Top, Node), AllocError>
     requires there { AreThere index.now numbers.now }
     requires apart { are_different (map (term_at index.now.terms) numbers.now) ≡ true }
-    requires factor { factor ≤ 65536 }
-    requires documents { AreSorted index.now.live.documents }
-    requires light { All IsLight index.now.live.documents }
-    requires room { spent.old ≤ most.old }
-    requires small { most.old < 2 ^ 128 }
+    requires can { CanOpen index.now factor spent.old most.old }
     ensures opens { IfOk result (λ p. Opens index.now p.0 (shape_of p.1) (score_of (QueryTree.synonym (map (term_at index.now.terms) numbers.now)) scheme factor) (2 ^ 45)) }
     ensures pays { IfOk result (λ p. Pays spent.old spent.new most.old most.new (unread_of index.now (shape_of p.1)) (lengths_of (map (term_at index.now.terms) numbers.now) index.now.live.documents)) }
-    ensures counted { steps.new + spent.old ≡ steps.old + spent.new }
-    ensures later { spent.old ≤ spent.new }
-    ensures small { most.new < 2 ^ 128 }
+    ensures counts { Counts spent.old spent.new steps.old steps.new most.new }
     ensures nest { IfOk result (λ p. OpensNest index.now (joint_form scheme) (shape_of p.1) (map (term_at index.now.terms) numbers.now) spent.old spent.new) }
 {
     if numbers.is_empty() {
@@ -152,7 +130,7 @@ fn open_joint<L: Ledger>(
     if numbers.len() == 1 {
         return open_one(index, numbers, scheme, factor, most, spent, steps);
     }
-    let (front, back) = split_numbers(index, numbers, scheme, factor);
+    let (front, back) = split_numbers(index, numbers, scheme);
     let (ta, a) = open_joint(alloc, index, front, scheme, factor, most, spent, steps)?;
     let (tb, b) = open_joint(alloc, index, back, scheme, factor, most, spent, steps)?;
     let (top, node) = pair_of(alloc, index, joint_form(scheme), ta, a, tb, b, spent, steps)?;
@@ -171,16 +149,10 @@ fn open_one<L: Ledger>(
 ) -> Result<(Top, Node), AllocError>
     requires one { length numbers.now ≡ 1 }
     requires there { AreThere index.now numbers.now }
-    requires factor { factor ≤ 65536 }
-    requires documents { AreSorted index.now.live.documents }
-    requires light { All IsLight index.now.live.documents }
-    requires room { spent.old ≤ most.old }
-    requires small { most.old < 2 ^ 128 }
+    requires can { CanOpen index.now factor spent.old most.old }
     ensures opens { IfOk result (λ p. Opens index.now p.0 (shape_of p.1) (score_of (QueryTree.synonym (map (term_at index.now.terms) numbers.now)) scheme factor) (2 ^ 45)) }
     ensures pays { IfOk result (λ p. Pays spent.old spent.new most.old most.new (unread_of index.now (shape_of p.1)) (lengths_of (map (term_at index.now.terms) numbers.now) index.now.live.documents)) }
-    ensures counted { steps.new + spent.old ≡ steps.old + spent.new }
-    ensures later { spent.old ≤ spent.new }
-    ensures small { most.new < 2 ^ 128 }
+    ensures counts { Counts spent.old spent.new steps.old steps.new most.new }
     ensures nest { IfOk result (λ p. (form : Form) → OpensNest index.now form (shape_of p.1) (map (term_at index.now.terms) numbers.now) spent.old spent.new) }
 {
     let number = numbers[0];
@@ -193,7 +165,6 @@ fn split_numbers<'a>(
     index: &Index,
     numbers: &'a [usize],
     scheme: Scheme,
-    _factor: u64,
 ) -> (&'a [usize], &'a [usize])
     requires many { 2 ≤ length numbers.now }
     requires there { AreThere index.now numbers.now }
@@ -204,7 +175,7 @@ fn split_numbers<'a>(
     ensures back_apart { are_different (map (term_at index.now.terms) result.1.now) ≡ true }
     ensures front_shorter { length result.0.now < length numbers.now }
     ensures back_shorter { length result.1.now < length numbers.now }
-    ensures scores { (o : Option Document) → score_of (QueryTree.synonym (map (term_at index.now.terms) numbers.now)) scheme _factor o ≡ paired (joint_form scheme) (score_of (QueryTree.synonym (map (term_at index.now.terms) result.0.now)) scheme _factor o) (score_of (QueryTree.synonym (map (term_at index.now.terms) result.1.now)) scheme _factor o) }
+    ensures scores { (factor : ℕ) (o : Option Document) → score_of (QueryTree.synonym (map (term_at index.now.terms) numbers.now)) scheme factor o ≡ paired (joint_form scheme) (score_of (QueryTree.synonym (map (term_at index.now.terms) result.0.now)) scheme factor o) (score_of (QueryTree.synonym (map (term_at index.now.terms) result.1.now)) scheme factor o) }
     ensures terms { map (term_at index.now.terms) numbers.now ≡ map (term_at index.now.terms) result.0.now ++ map (term_at index.now.terms) result.1.now }
     ensures readings { lengths_of (map (term_at index.now.terms) numbers.now) index.now.live.documents ≡ lengths_of (map (term_at index.now.terms) result.0.now) index.now.live.documents + lengths_of (map (term_at index.now.terms) result.1.now) index.now.live.documents }
 {
@@ -213,7 +184,7 @@ fn split_numbers<'a>(
 }
 
 /// A top that can weigh no more than this.
-fn capped(top: Top, bound: u64) -> Top
+fn capped(top: Top, bound: Weight) -> Top
     ensures head { result.head ≡ top.head }
     ensures weight { result.weight ≡ top.weight }
     ensures greatest { result.greatest ≡ min top.greatest bound }

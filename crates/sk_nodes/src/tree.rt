@@ -23,6 +23,7 @@ use crate::node::Node;
 use crate::opening::open_node;
 use crate::top::{END, Top};
 use sk_base::{DocId, Scheme, Weight};
+use sk_decay::Head;
 use sk_index::Index;
 use sk_query::Query;
 use sk_steps::Steps;
@@ -119,7 +120,7 @@ impl Tree {
             &mut self.top,
             &mut self.node,
             index,
-            u64::from(target),
+            Head::from(target),
             need,
             &mut self.spent,
             steps,

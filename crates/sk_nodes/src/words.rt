@@ -6,7 +6,7 @@ ghost use Rattle.sk_query.specs.Trees.{queries_view};
 ghost use Rattle.sk_nodes.specs.Opened.{term_trees};
 ghost use Rattle.sk_nodes.specs.Proximity.{entries_from, numbered, AreThere, AreInOrder};
 
-use crate::leaf::list_length;
+use crate::leaf::{ListOf, list_length};
 use sk_base::Text;
 use sk_index::Index;
 use sk_query::{Queries, Query};
@@ -60,7 +60,7 @@ pub(crate) fn add_lengths(
 {
     'numbers: for number in numbers {
         let number = *number;
-        let length = list_length(index, Some(number));
+        let length = list_length(index, ListOf::Term(number));
         raise(most, length)?;
     }
     Ok(())

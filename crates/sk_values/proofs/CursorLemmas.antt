@@ -1,6 +1,7 @@
 -- What a cursor's steps from piece to piece are to the whole list.
-use Rattle.std.proofs.Common.{◌≡◌, ℕ, ◌+◌, ◌-◌, ◌<◌, ◌≤◌, List, [], ◌∷◌, ◌++◌, length, drop, get_or, true, false, is_some, Option, Some, None, sym, ap, subst, ◌∙◌, arith, refl, true≢false}
-use Rattle.std.proofs.lemmas.List.{drop_all, length-append, length-drop}
+use Rattle.std.proofs.Common.{◌≡◌, ℕ, ◌+◌, ◌-◌, ◌<◌, ◌≤◌, List, [], ◌∷◌, ◌++◌, length, drop, get_or, true, false, is_some, Option, Some, None, sym, ap, subst, ◌∙◌, arith, refl, true≢false, inl, inr}
+use Rattle.std.proofs.lemmas.Bool.{cases_order}
+use Rattle.std.proofs.lemmas.List.{drop_all, length-append, length-drop, get_or_default}
 use Rattle.std.proofs.lemmas.List.Elements.{filter-append}
 use Rattle.sk_sorted.specs.Entries.{LieBelow, from, top_id}
 use Rattle.sk_sorted.specs.Places.{id_at}
@@ -8,7 +9,7 @@ use Rattle.sk_sorted.proofs.EntryLaws.{LieBelow-drop, from-at, from-append, from
 use Rattle.sk_sorted.specs.Runs.{flat, AreRuns, IsPlace}
 use Rattle.sk_sorted.proofs.RunLaws.{below-top, run_rises, tops_rise}
 use Rattle.sk_sorted.proofs.RunEditLaws.{run_read}
-use Rattle.sk_sorted.proofs.RunPlaceLaws.{place_drop, place_on, place_next, place_within, rises_behind}
+use Rattle.sk_sorted.proofs.RunPlaceLaws.{place_drop, place_end, place_on, place_next, place_within, rises_behind}
 use Rattle.sk_model.specs.Ranges.{is_within}
 use Rattle.sk_values.specs.SlotValues.{SlotValues, SlotRuns, value_at}
 use Rattle.sk_values.specs.RangeCursor.{in_range, ahead, IsStop, IsHeadAt}
@@ -17,10 +18,10 @@ use Rattle.sk_values.proofs.ValueLaws.{drop-entry}
 -- ---- one entry
 
 -- an entry of a piece stands in the whole as well
-record IsSameEntry (es : SlotValues) (j : ℕ) (run : SlotValues) (k : ℕ) : Type 0 where
-  there : j < length es
-  id : id_at es j ≡ id_at run k
-  value : value_at es j ≡ value_at run k
+pub record IsSameEntry (es : SlotValues) (j : ℕ) (run : SlotValues) (k : ℕ) : Type 0 where
+  pub there : j < length es
+  pub id : id_at es j ≡ id_at run k
+  pub value : value_at es j ≡ value_at run k
 
 same_entry : (runs : SlotRuns) (i k before : ℕ) → i < length runs → k < length (get_or runs i []) → IsPlace runs i k before → IsSameEntry (flat runs) before (get_or runs i []) k
 same_entry runs i k before lt less at =
@@ -35,6 +36,22 @@ same_entry runs i k before lt less at =
       id = ap (λ (e : ℕ × List ℕ). e.0) both;
       value = ap (λ (e : ℕ × List ℕ). e.1) both;
     }
+
+-- where an entry stands behind the front of a piece, that piece is there
+pub piece_there : (runs : SlotRuns) (at passed i : ℕ) → IsPlace runs at 0 passed → passed ≤ i → i < length (flat runs) → at < length runs
+piece_there runs at passed i place le lt = elim (cases_order (length runs) at) [
+  | inl end ↦ absurd (omega (arith, le, lt, place_end runs at 0 passed (omega (arith, end)) place))
+  | inr apart ↦ elim apart [ inl end ↦ absurd (omega (arith, le, lt, place_end runs at 0 passed (omega (arith, end)) place)) | inr there ↦ there ]
+]
+
+-- the entry that a place stands before, in its piece
+pub entry_at : (runs now : SlotRuns) (at passed i : ℕ) (run : SlotValues) → runs ≡ now → at < length runs → IsPlace runs at 0 passed → passed ≤ i → i < passed + length (get_or runs at []) → run ≡ get_or runs at run
+    → IsSameEntry (flat now) i run (i - passed)
+entry_at runs now at passed i run view lt place le less is =
+    let here : run ≡ get_or runs at [] = is ∙ get_or_default runs at run [] lt in
+    let whole : passed + ((i - passed) - 0) ≡ i = omega (arith, le) in
+    let on : IsPlace runs at (i - passed) i = subst (λ n. IsPlace runs at (i - passed) n) whole (place_on runs at 0 passed (i - passed) place (omega arith) (omega (arith, less, le))) in
+    subst (λ (s : SlotRuns). IsSameEntry (flat s) i run (i - passed)) view (subst (λ (r : SlotValues). IsSameEntry (flat runs) i r (i - passed)) (sym here) (same_entry runs at (i - passed) i lt (omega (arith, less, le)) on))
 
 -- the place one entry before
 place_before : (runs : SlotRuns) (i read passed : ℕ) → 0 < read → IsPlace runs i read passed → IsPlace runs i (read - 1) (passed - 1)

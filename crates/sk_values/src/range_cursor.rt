@@ -215,7 +215,11 @@ fn stop_in<L: Ledger>(
 }
 
 /// Reads the entry at this place of a piece, counted from 0. All that a cursor reads it reads by this.
-fn entry<'a, L: Ledger>(piece: &'a Piece<Bytes>, i: u32, steps: &mut Steps<L>) -> (DocId, &'a [u8])
+pub(crate) fn entry<'a, L: Ledger>(
+    piece: &'a Piece<Bytes>,
+    i: u32,
+    steps: &mut Steps<L>,
+) -> (DocId, &'a [u8])
     requires { i < length piece.now }
     ensures id { result.0 ≡ id_at piece.now i }
     ensures value { result.1.now ≡ value_at piece.now i }

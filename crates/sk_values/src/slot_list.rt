@@ -1,10 +1,12 @@
 //! The values of one slot, in order of the documents' ids, in pieces.
-ghost use Rattle.std.specs.Prelude.{◌≡◌, ◌+◌, ◌≤◌, [], length, true, IsOk, OnOk, OnErr};
+ghost use Rattle.std.specs.Prelude.{◌≡◌, ◌+◌, ◌≤◌, ◌<◌, [], length, get_or, true, IsOk, OnOk, OnErr};
 ghost use Rattle.std.specs.Option.{option_map};
 ghost use Rattle.sk_sorted.specs.Entries.{put, without, found, has};
-ghost use Rattle.sk_sorted.specs.Runs.{flat, AreRuns};
-ghost use Rattle.sk_values.specs.SlotValues.{AreSlotValues, found_value};
+ghost use Rattle.sk_sorted.specs.Places.{id_at};
+ghost use Rattle.sk_sorted.specs.Runs.{flat, AreRuns, IsPlace};
+ghost use Rattle.sk_values.specs.SlotValues.{AreSlotValues, found_value, value_at};
 
+use crate::range_cursor::entry;
 use sk_base::{Bytes, DocId};
 use sk_pieces::{Piece, Pieces};
 use sk_steps::Steps;
@@ -13,7 +15,8 @@ use std::fmt::{Debug, Error, Formatter, Write};
 use std::marker::Model;
 use std::sync::ledger::Ledger;
 
-/// The documents that have a value in one slot, with their values, in pieces of up to 128. Only `get` shows a value.
+/// The documents that have a value in one slot, with their values, in pieces of up to 128. Only `get` and `entry` show
+/// a value.
 #[derive(Drop)]
 pub struct SlotList {
     entries: Pieces<Bytes>,
@@ -80,6 +83,19 @@ impl SlotList {
         }
     }
 
+    /// The entry at the place, counted from 0, for one reading. The pieces before its own are only asked how many entries
+    /// they have.
+    pub fn entry<L: Ledger>(&self, i: u32, steps: &mut Steps<L>) -> (DocId, &[u8])
+        requires { i < length (flat self.now) }
+        ensures id { result.0 ≡ id_at (flat self.now) i }
+        ensures value { result.1.now ≡ value_at (flat self.now) i }
+        ensures cost { steps.new ≡ steps.old + 1 }
+    {
+        let pieces = self.pieces();
+        let (at, passed) = piece_at(pieces, i);
+        entry(&pieces[at], i - passed, steps)
+    }
+
     /// The pieces.
     pub(crate) fn pieces(&self) -> &[Piece<Bytes>]
         ensures value { result.now ≡ self.now }
@@ -87,6 +103,23 @@ impl SlotList {
     {
         self.entries.pieces()
     }
+}
+
+/// The piece that has the entry at the place, and how many entries stand before that piece.
+fn piece_at(pieces: &[Piece<Bytes>], i: u32) -> (usize, u32)
+    requires { i < length (flat pieces.now) }
+    ensures there { result.0 < length pieces.now }
+    ensures place { IsPlace pieces.now result.0 0 result.1 }
+    ensures before { result.1 ≤ i }
+    ensures within { i < result.1 + length (get_or pieces.now result.0 []) }
+{
+    let mut at = 0usize;
+    let mut passed = 0u32;
+    'pieces: while i - passed >= pieces[at].count() {
+        passed += pieces[at].count();
+        at += 1;
+    }
+    (at, passed)
 }
 
 impl Debug for SlotList {

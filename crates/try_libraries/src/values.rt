@@ -19,6 +19,20 @@ fn read_one<'a, R: Env, L: Ledger>(rt: &R, blank: Blank, list: &'a SlotList, id:
     list.get(id, &mut steps)
 }
 
+/// The value at the place, read once; none behind the last.
+fn value_at<R: Env, L: Ledger>(rt: &R, blank: Blank, list: &SlotList, i: u32) -> &[u8]
+    requires name { blank.name ≡ L.name }
+    requires parts { blank.parts ≡ L.parts }
+    requires one { blank.parts ≡ 1 }
+{
+    let mut steps = Steps::<L>::open(rt, blank);
+    if i < list.length() {
+        list.entry(i, &mut steps).1
+    } else {
+        &[]
+    }
+}
+
 /// The first id whose value is at least `lo`, and the first from the target on; and how many entries were come past.
 fn two_ids<R: Env, L: Ledger>(
     rt: &R,
@@ -73,6 +87,10 @@ fn a_list_of_many_pieces(rt: HostRuntime) -> Result<(), Fail> {
     list.set(100, value)?;
     assert_eq!(rt;
         read_one::<_, Brand>(&rt, Blank::new(1), &list, 100),
+        b"w".as_slice()
+    );
+    assert_eq!(rt;
+        value_at::<_, Brand>(&rt, Blank::new(1), &list, 50),
         b"w".as_slice()
     );
     let ids = two_ids::<_, Brand>(&rt, Blank::new(1), &list, None, 500);

@@ -5,11 +5,11 @@ use Rattle.sk_nodes.proofs.ListLaws.{weighed-all, greatest-all}
 use Rattle.sk_nodes.proofs.opening.open_all.Goals as goal
 
 pub returns-clause-opens : goal.returns-clause-opens
-returns-clause-opens g c =
+returns-clause-opens g c factor =
     let docs = c.args.index.now.live.documents in
     record {
       top = c.in_ok-top.ensures.top;
       sound = c.in_ok-top.ensures.sound;
-      gives = λ id. c.in_ok-top.ensures.gives id ∙ weighed-all c.args._factor c.args.scheme docs id;
+      gives = λ id. c.in_ok-top.ensures.gives id ∙ weighed-all factor c.args.scheme docs id;
       ceiling = subst (λ n. c.in_ok-top.top.greatest ≤ n) (greatest-all c.args.scheme (all_postings docs)) c.in_ok-top.ensures.ceiling;
     }

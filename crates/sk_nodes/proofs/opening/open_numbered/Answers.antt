@@ -16,7 +16,7 @@ returns-clause-opens g c =
     record {
       top = c.in_ok-top.ensures.top;
       sound = c.in_ok-top.ensures.sound;
-      gives = λ id. c.in_ok-top.ensures.gives id ∙ weighed-term c.args.factor c.args.scheme t i.live.documents c.requires.documents id;
+      gives = λ id. c.in_ok-top.ensures.gives id ∙ weighed-term c.args.factor c.args.scheme t i.live.documents c.requires.can.documents id;
       ceiling = subst (λ n. c.in_ok-top.top.greatest ≤ n) (greatest-term c.args.factor c.args.scheme t i.live.documents) c.in_ok-top.ensures.ceiling;
     }
 
@@ -31,13 +31,12 @@ returns-clause-exact g c =
     let i = c.args.index.now in
     omega (arith, length-postings (term_at i.terms c.args.number) i.live.documents, c.in_ok-top.ensures.exact)
 
-pub returns-clause-nest : goal.returns-clause-nest
-returns-clause-nest g c form = term_nest c.args.index.now form (shape_of c.in_ok-top.node) c.args.number _ _ (c.in_ok-top.ensures.alone form) c.in_ok-top.ensures.begins
-
-pub returns-clause-lone : goal.returns-clause-lone
-returns-clause-lone g c =
+pub returns-clause-term : goal.returns-clause-term
+returns-clause-term g c =
     let i = c.args.index.now in
-    named_lone i c.in_ok-top.top (shape_of c.in_ok-top.node) _ _ _ _ (length-postings (term_at i.terms c.args.number) i.live.documents) c.in_ok-top.ensures.lone
-
-pub returns-clause-begun : goal.returns-clause-begun
-returns-clause-begun g c = numbered_alone c.args.index.now c.in_ok-top.top (shape_of c.in_ok-top.node) c.args.number c.args.factor c.args.scheme _ _ c.in_ok-top.ensures.begun c.in_ok-top.ensures.lone
+    let list = c.in_ok-top.ensures.list in
+    record {
+      nest = λ form. term_nest i form (shape_of c.in_ok-top.node) c.args.number _ _ (list.nest form) list.entered;
+      lone = named_lone i c.in_ok-top.top (shape_of c.in_ok-top.node) _ _ _ _ (length-postings (term_at i.terms c.args.number) i.live.documents) list.lone;
+      alone = numbered_alone i c.in_ok-top.top (shape_of c.in_ok-top.node) c.args.number c.args.factor c.args.scheme _ _ list.begins list.lone;
+    }

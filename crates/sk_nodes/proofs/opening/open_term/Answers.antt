@@ -8,10 +8,9 @@ use Rattle.sk_nodes.specs.Shapes.{shape_of}
 use Rattle.sk_nodes.specs.Opened.{score_of, Opens}
 use Rattle.sk_nodes.proofs.NodeLaws.{shape_of-Nothing}
 use Rattle.sk_nodes.proofs.ListLaws.{term-none, nothing_opened}
-use Rattle.sk_nodes.proofs.NestLaws.{named_nest}
 use Rattle.sk_nodes.specs.declared.top.Top.{Top}
-use Rattle.sk_nodes.proofs.LedLaws.{named_lone, none_lone}
-use Rattle.sk_nodes.proofs.OpenedFadingLaws.{named_alone, none_alone}
+use Rattle.sk_nodes.specs.OpenedAccounts.{OpensTerm}
+use Rattle.sk_nodes.proofs.OpenedQueryLaws.{none_term}
 use Rattle.sk_nodes.proofs.opening.open_term.Goals as goal
 
 pub returns-in-None-clause-opens : goal.returns-in-None-clause-opens
@@ -35,22 +34,11 @@ returns-in_ok-top-in-Some-clause-pays g c =
     let pays = c.in_ok-top-in-Some.ensures.pays in
     record { paid = pays.paid; within = omega (arith, ap (λ t. length_of t i.live.documents) named, pays.within); room = pays.room }
 
-pub returns-in_ok-top-in-Some-clause-nest : goal.returns-in_ok-top-in-Some-clause-nest
-returns-in_ok-top-in-Some-clause-nest g c form =
-    named_nest c.args.index.now form (shape_of c.in_ok-top-in-Some.node) _ _ _ _ (c.in-Some.ensures.found.1 ∙ c.as_bytes.ensures.value ∙ c.as_str.ensures) (c.in_ok-top-in-Some.ensures.nest form)
-
-pub returns-in_ok-top-in-Some-clause-lone : goal.returns-in_ok-top-in-Some-clause-lone
-returns-in_ok-top-in-Some-clause-lone g c =
+pub returns-in_ok-top-in-Some-clause-term : goal.returns-in_ok-top-in-Some-clause-term
+returns-in_ok-top-in-Some-clause-term g c =
     let i = c.args.index.now in
-    let named = c.in-Some.ensures.found.1 ∙ c.as_bytes.ensures.value ∙ c.as_str.ensures in
-    named_lone i c.in_ok-top-in-Some.top (shape_of c.in_ok-top-in-Some.node) _ _ _ _ (ap (λ t. length_of t i.live.documents) named) c.in_ok-top-in-Some.ensures.lone
+    let named : term_at i.terms c.in-Some.number ≡ c.args.word.now = c.in-Some.ensures.found.1 ∙ c.as_bytes.ensures.value ∙ c.as_str.ensures in
+    subst (λ (t : List ℕ). OpensTerm i c.in_ok-top-in-Some.top (shape_of c.in_ok-top-in-Some.node) t (term_ceil c.args.scheme c.args.factor t i.live.documents) c.args.spent.now c.open_numbered.new.spent) named c.in_ok-top-in-Some.ensures.term
 
-pub returns-in-None-clause-lone : goal.returns-in-None-clause-lone
-returns-in-None-clause-lone g c = none_lone c.args.index.now c.ended.result _ _ _ (ap (λ (u : Top). u.head) c.ended.ensures) shape_of-Nothing
-
-pub returns-in_ok-top-in-Some-clause-begun : goal.returns-in_ok-top-in-Some-clause-begun
-returns-in_ok-top-in-Some-clause-begun g c =
-    named_alone c.args.index.now c.in_ok-top-in-Some.top (shape_of c.in_ok-top-in-Some.node) _ _ c.args.factor c.args.scheme _ _ (c.in-Some.ensures.found.1 ∙ c.as_bytes.ensures.value ∙ c.as_str.ensures) c.in_ok-top-in-Some.ensures.begun
-
-pub returns-in-None-clause-begun : goal.returns-in-None-clause-begun
-returns-in-None-clause-begun g c = none_alone c.args.index.now c.ended.result _ _ _ _ (ap (λ (u : Top). u.head) c.ended.ensures) shape_of-Nothing
+pub returns-in-None-clause-term : goal.returns-in-None-clause-term
+returns-in-None-clause-term g c = none_term c.args.index.now c.ended.result _ _ _ _ (ap (λ (u : Top). u.head) c.ended.ensures) shape_of-Nothing

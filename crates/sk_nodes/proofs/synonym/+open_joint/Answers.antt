@@ -13,8 +13,8 @@ pub returns-clause-opens : goal.returns-clause-opens
 returns-clause-opens g t c =
     let i = c.args.index.now in
     joint_capped i c.in_ok-top.top c.capped.result (shape_of c.in_ok-top.node) c.args.numbers.now c.args.scheme c.args.factor c.capped.ensures.head c.capped.ensures.weight c.capped.ensures.greatest
-    c.requires.apart c.requires.factor c.requires.light c.in_ok-top.ensures.top c.in_ok-top.ensures.sound
-    (λ id. c.in_ok-top.ensures.gives id ∙ (λ j. paired (c.joint_form.ensures j) (c.in_ok-ta.ensures.opens.gives id j) (c.in_ok-tb.ensures.opens.gives id j)) ∙ sym (c.split_numbers.ensures.scores (document_at id i.live.documents)))
+    c.requires.apart c.requires.can.bounded c.requires.can.light c.in_ok-top.ensures.top c.in_ok-top.ensures.sound
+    (λ id. c.in_ok-top.ensures.gives id ∙ (λ j. paired (c.joint_form.ensures j) (c.in_ok-ta.ensures.opens.gives id j) (c.in_ok-tb.ensures.opens.gives id j)) ∙ sym (c.split_numbers.ensures.scores c.args.factor (document_at id i.live.documents)))
 
 pub returns-clause-nest : goal.returns-clause-nest
 returns-clause-nest g t c =

@@ -6,8 +6,8 @@ use Rattle.sk_nodes.proofs.synonym.open_one.Goals as goal
 
 pub returns-clause-opens : goal.returns-clause-opens
 returns-clause-opens g c =
-    one_opened c.args.index.now c.in_ok-top.top (shape_of c.in_ok-top.node) c.args.numbers.now _ c.args.scheme c.args.factor c.requires.one (read_one c.args.numbers.now 0 c.requires.one) c.requires.factor c.requires.light c.in_ok-top.ensures.opens
+    one_opened c.args.index.now c.in_ok-top.top (shape_of c.in_ok-top.node) c.args.numbers.now _ c.args.scheme c.args.factor c.requires.one (read_one c.args.numbers.now 0 c.requires.one) c.requires.can.bounded c.requires.can.light c.in_ok-top.ensures.opens
 
 pub returns-clause-nest : goal.returns-clause-nest
 returns-clause-nest g c form =
-    one_nest c.args.index.now form (shape_of c.in_ok-top.node) c.args.numbers.now _ _ _ c.requires.one (read_one c.args.numbers.now 0 c.requires.one) (c.in_ok-top.ensures.nest form)
+    one_nest c.args.index.now form (shape_of c.in_ok-top.node) c.args.numbers.now _ _ _ c.requires.one (read_one c.args.numbers.now 0 c.requires.one) (c.in_ok-top.ensures.term.nest form)

@@ -15,7 +15,7 @@ pub open_joint-requires-clause-apart : goal.open_joint-requires-clause-apart
 open_joint-requires-clause-apart g c =
     let i = c.args.index.now in
     ap (λ (ns : List ℕ). are_different (map (term_at i.terms) ns)) c.as_slice.ensures.value ∙ ap are_different c.in_ok-numbers.ensures.terms
-    ∙ numbered_apart i c.args.words.now (synonym_apart c.args.factor (query_view c.args.query.now) c.args.words.now c.requires.is c.requires.sound)
+    ∙ numbered_apart i c.args.words.now (synonym_apart c.args.factor (query_view c.args.query.now) c.args.words.now c.requires.is c.requires.part.sound)
 
 pub returns-clause-opens : goal.returns-clause-opens
 returns-clause-opens g c =
@@ -25,7 +25,7 @@ returns-clause-opens g c =
     c.ceil-bound.ensures c.in_ok-top.ensures.opens
     (λ id. numbered_score i c.in_ok-numbers.ensures.complete c.args.words.now _ c.args.scheme c.args.factor id (ap (λ (ns : List ℕ). map (term_at i.terms) ns) c.as_slice.ensures.value ∙ c.in_ok-numbers.ensures.terms)
     ∙ ap (λ q. score_of q c.args.scheme c.args.factor (document_at id i.live.documents)) (sym c.requires.is))
-    (synonym_at_most i query c.args.words.now c.args.scheme c.args.factor c.requires.is c.requires.sound c.requires.light)
+    (synonym_at_most i query c.args.words.now c.args.scheme c.args.factor c.requires.is c.requires.part.sound c.requires.can.light)
 
 pub returns-clause-pays : goal.returns-clause-pays
 returns-clause-pays g c =

@@ -34,7 +34,7 @@ returns-clause-opens g c =
     c.ceil-bound.ensures c.in_ok-top.ensures.opens
     (λ id. ap (λ (ms : List ℕ). score_of (Query.synonym (map (term_at i.terms) ms)) c.args.scheme c.args.factor (document_at id i.live.documents)) c.as_slice.ensures.value
     ∙ wild_score i c.args.prefix.now ns are c.args.scheme c.args.factor id ∙ ap (λ q. score_of q c.args.scheme c.args.factor (document_at id i.live.documents)) (sym c.requires.is))
-    (wild_at_most i query c.args.prefix.now ns c.args.scheme c.args.factor c.requires.is are c.requires.light)
+    (wild_at_most i query c.args.prefix.now ns c.args.scheme c.args.factor c.requires.is are c.requires.can.light)
 
 pub returns-clause-pays : goal.returns-clause-pays
 returns-clause-pays g c =

@@ -15,7 +15,7 @@ pub returns-clause-back_apart : goal.returns-clause-back_apart
 returns-clause-back_apart c = (halves_apart c.args.index.now c.args.numbers.now _ _ _ c.split_at.ensures.front c.split_at.ensures.back c.requires.apart).1
 
 pub returns-clause-scores : goal.returns-clause-scores
-returns-clause-scores c = halves_scores c.args.index.now c.args.numbers.now _ _ _ c.split_at.ensures.front c.split_at.ensures.back c.args.scheme c.args._factor
+returns-clause-scores c factor = halves_scores c.args.index.now c.args.numbers.now _ _ _ c.split_at.ensures.front c.split_at.ensures.back c.args.scheme factor
 
 pub returns-clause-readings : goal.returns-clause-readings
 returns-clause-readings c = halves_readings c.args.index.now c.args.numbers.now _ _ _ c.split_at.ensures.front c.split_at.ensures.back

@@ -6,3 +6,6 @@ ghosts-read_one g a = record { name = a.blank.name; parts = a.blank.parts }
 
 abbrev pub ghosts-two_ids : goal.ghosts-two_ids
 ghosts-two_ids g a = record { name = a.blank.name; parts = a.blank.parts }
+
+abbrev pub ghosts-value_at : goal.ghosts-value_at
+ghosts-value_at g a = record { name = a.blank.name; parts = a.blank.parts }

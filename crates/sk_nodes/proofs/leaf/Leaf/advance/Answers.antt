@@ -2,7 +2,7 @@ use Rattle.std.proofs.Common.{◌≡◌, ◌≤◌, ℕ, true, false, subst, sym
 use Rattle.sk_lists.specs.Lists.{Runs}
 use Rattle.sk_lists.specs.Seeks.{Passes}
 use Rattle.sk_lists.specs.Cursor.{left, IsOn}
-use Rattle.sk_index.specs.Indexed.{runs_in}
+use Rattle.sk_nodes.specs.Leaves.{runs_of}
 use Rattle.sk_nodes.specs.Leaves.{leaf_rest}
 use Rattle.sk_nodes.proofs.LeafLaws.{sought_covers, head_of-reached, leaf_moved, head_is_below, AtMost-covers}
 use Rattle.std.proofs.Common.{ap, ◌∙◌, arith}
@@ -15,7 +15,7 @@ not_still target ps e f = cc
 
 pub returns-clause-covers : goal.returns-clause-covers
 returns-clause-covers g c =
-    let runs = runs_in c.args.index.now c.args.self.now.number in
+    let runs = runs_of c.args.index.now c.args.self.now.source in
     let old = c.args.self.now in
     sought_covers old.factor old.scheme c.wdf_for-self.result c.args.need c.args.target runs old.cursor c.advance-read.new.self
     c.requires.sound.runs c.requires.sound.on c.wdf_for-self.ensures
@@ -40,7 +40,7 @@ returns-clause-top g c =
 
 pub returns-clause-reached : goal.returns-clause-reached
 returns-clause-reached g c =
-    let runs = runs_in c.args.index.now c.args.self.now.number in
+    let runs = runs_of c.args.index.now c.args.self.now.source in
     let passes = subst (λ (rs : Runs). Passes c.args.target c.wdf_for-self.result (left c.args.self.now.cursor rs) (left c.advance-read.new.self rs)) c.list_of-list.ensures.runs c.advance-read.ensures.passes in
     subst (λ n. c.args.target ≤ n) (sym (c.point.ensures.at c.args.index.now (returns-clause-sound g c)))
     (head_of-reached c.args.target (left c.advance-read.new.self runs) c.requires.target passes.reached)
@@ -50,7 +50,7 @@ returns-clause-at g c = c.point.ensures.at c.args.index.now (returns-clause-soun
 
 pub returns-clause-walks : goal.returns-clause-walks
 returns-clause-walks g c =
-    let runs = runs_in c.args.index.now c.args.self.now.number in
+    let runs = runs_of c.args.index.now c.args.self.now.source in
     let old = c.args.self.now.cursor in
     let new = c.advance-read.new.self in
     let is = c.list_of-list.ensures.runs in

@@ -29,7 +29,7 @@ returns-clause-lone g c =
     let list = ap flat (Rattle.std.proofs.Common.sym is) ∙ c.list_of-list.ensures.entries in
     let entries = subst (λ (rs : Runs). left c.open.result rs ≡ flat rs) is c.open.ensures.left ∙ list in
     let behind = subst (λ (rs : Runs). unread c.open.result rs ≡ drop 1 (flat rs)) is c.open.ensures.unread ∙ ap (drop 1) list in
-    let begun = begun_lone (list_in c.args.index.now c.args.number) _ _ entries behind in
+    let begun = begun_lone (list_in c.args.index.now c.args.source) _ _ entries behind in
     let long = c.length-length.ensures.value ∙ ap length c.list_of-list.ensures.entries in
     record {
       lone = tt;
@@ -44,5 +44,5 @@ pub returns-clause-begun : goal.returns-clause-begun
 returns-clause-begun g c =
     let is = c.list_of-list.ensures.runs in
     let entries = subst (λ (rs : Runs). left c.open.result rs ≡ flat rs) is c.open.ensures.left ∙ ap flat (Rattle.std.proofs.Common.sym is) ∙ c.list_of-list.ensures.entries in
-    leaf_begins c.args.index.now _ _ (list_in c.args.index.now c.args.number) (leaf_greatest c.args.factor c.args.scheme (list_in c.args.index.now c.args.number)) (c.show.ensures.at c.args.index.now (returns-clause-sound g c)) entries
+    leaf_begins c.args.index.now _ _ (list_in c.args.index.now c.args.source) (leaf_greatest c.args.factor c.args.scheme (list_in c.args.index.now c.args.source)) (c.show.ensures.at c.args.index.now (returns-clause-sound g c)) entries
     (c.greatest_of.ensures ∙ ap (leaf_greatest c.args.factor c.args.scheme) c.list_of-list.ensures.entries)

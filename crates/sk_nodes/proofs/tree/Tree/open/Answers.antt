@@ -11,9 +11,16 @@ use Rattle.sk_nodes.proofs.OpenLaws.{fits_ceil}
 use Rattle.sk_nodes.proofs.TreeLaws.{weighed_ids-scored}
 use Rattle.sk_nodes.proofs.tree.Tree.open.Goals as goal
 
-pub open_node-requires-clause-documents : goal.open_node-requires-clause-documents
-open_node-requires-clause-documents g c =
-    AreSorted-all c.args.index.now.live.documents (subst (λ (ps : Postings). AreSorted ps) c.all.ensures.entries c.length-sorted.ensures.sound)
+pub open_node-requires-clause-can : goal.open_node-requires-clause-can
+open_node-requires-clause-can g c = record {
+  read = record {
+    documents = AreSorted-all c.args.index.now.live.documents (subst (λ (ps : Postings). AreSorted ps) c.all.ensures.entries c.length-sorted.ensures.sound);
+    room = omega arith;
+    small = omega arith;
+  };
+  bounded = omega arith;
+  light = c.highest-sound.ensures.light;
+}
 
 pub returns-clause-built : goal.returns-clause-built
 returns-clause-built g c =
@@ -25,7 +32,7 @@ returns-clause-built g c =
         top = opens.top;
         sound = opens.sound;
         fits = omega (arith, opens.ceiling, fits_ceil (query_view c.args.query.now) c.args.scheme i.live.documents c.requires.fits c.highest-sound.ensures.light);
-        room = omega (arith, paid, c.in_ok-top.ensures.small);
+        room = omega (arith, paid, c.in_ok-top.ensures.counts.small);
         documents = AreSorted-all i.live.documents (subst (λ (ps : Postings). AreSorted ps) c.all.ensures.entries c.length-sorted.ensures.sound);
       };
       ceiling = opens.ceiling;
@@ -41,17 +48,17 @@ returns-clause-left g c =
 
 pub returns-clause-stops : goal.returns-clause-stops
 returns-clause-stops g c lists e point =
-    let flat = c.in_ok-top.ensures.flat lists e in
+    let flat = c.in_ok-top.ensures.accounts.flat lists e in
     record { shape = flat.shape; account = omega (arith, flat.account point) }
 
 pub returns-clause-rare : goal.returns-clause-rare
 returns-clause-rare g c lists m e =
-    let rare = c.in_ok-top.ensures.rare lists m e in
+    let rare = c.in_ok-top.ensures.accounts.rare lists m e in
     record { led = rare.led; at = rare.at; account = omega (arith, rare.account) }
 
 pub returns-clause-decays : goal.returns-clause-decays
 returns-clause-decays g c ts a b is terms point =
-    let both = c.in_ok-top.ensures.fading ts a b is terms in
+    let both = c.in_ok-top.ensures.accounts.fading ts a b is terms in
     let one = both.0 point in
     let two = both.1 point in
     (record { first = one.0; fading = one.1.0; account = omega (arith, one.1.1) }, record { first = two.0; fading = two.1.0; account = omega (arith, two.1.1) })
