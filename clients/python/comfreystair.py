@@ -898,8 +898,8 @@ class Index:
 
         Each word that the text wants stands in it once for each prefix of the text fields, also where these are found
         by name alone, times 100 log(1 + (N - n + 0.5) / (n + 0.5)), where n of the N documents have it there. Two such
-        words within six places add `near` times that of how many documents have them so. The index is asked for each
-        n by a find of size 0.
+        words within six places, not both common, weigh `near` times the same of how many documents have them so. The
+        index is asked for each n by a find of size 0.
 
         boosts: by the names of text fields what their words weigh, 1 where it is not said; fields of one prefix weigh
             what the first of them does.
@@ -915,23 +915,17 @@ class Index:
         leaves = list(_wanted(tree))
         if sum(map(_size, leaves)) * len(boosted) > _MOST_LEAVES - _MOST_NEAR * _MOST_NEAR:
             boosted = {"": boosted.get("", 1.0)}
-        words = list(dict.fromkeys(leaf["term"] for leaf in leaves if "term" in leaf and not _is_prefixed(leaf)))
-        places = "" if "" in boosted or not boosted else next(iter(boosted))
-        pairs: List[Tree] = []
-        if near > 0 and len(words) <= _MOST_NEAR:
-            pairs = [
-                {"near": [_WINDOW, places + word, places + other]}
-                for place, word in enumerate(words)
-                for other in words[place + 1 :]
-            ]
         variants = {key: value for leaf in leaves for key, value in _variants(leaf, boosted)}
-        every, *counts = self._counts([{"all": []}, *variants.values(), *pairs])
-        idf = [100 * math.log(1 + (every - count + 0.5) / (count + 0.5)) for count in counts]
-        weights = dict(zip(variants, idf))
+        every, *counts = self._counts([{"all": []}, *variants.values()])
+        counted = dict(zip(variants, counts))
+        pairs = self._pairs(leaves, boosted, counted, every) if near > 0 else []
+
+        def idf(count: int) -> float:
+            return 100 * math.log(1 + (every - count + 0.5) / (count + 0.5))
 
         def weighed(leaf: Tree) -> Tree:
             parts: List[Tree] = [
-                {"scale": [_factor(weights[key] * boosted.get(key[0], 1.0)), variant]}
+                {"scale": [_factor(boosted.get(key[0], 1.0) * idf(counted[key]) / _size(variant)), variant]}
                 for key, variant in _variants(leaf, boosted)
             ]
             return parts[0] if len(parts) == 1 else {"or": parts}
@@ -942,9 +936,29 @@ class Index:
 
         ranked = _rebuilt(tree, weighed, plain)
         if pairs:
-            close = [{"scale": [_factor(near * weight), pair]} for weight, pair in zip(idf[len(variants) :], pairs)]
+            counts = self._counts(pairs)
+            close = [{"scale": [_factor(near * idf(count) / 2), pair]} for pair, count in zip(pairs, counts)]
             ranked = {"and_maybe": [ranked, *close]}
         return ranked
+
+    def _pairs(
+        self,
+        leaves: Sequence[Tree],
+        boosted: Mapping[str, float],
+        counted: Mapping[Tuple[str, str], int],
+        every: int,
+    ) -> List[Tree]:
+        """The pairs of words whose places are looked at: of few words, and of these not two that are common."""
+        prefix = "" if "" in boosted or not boosted else next(iter(boosted))
+        words = {leaf["term"]: counted[prefix, _key(leaf)] for leaf in leaves if "term" in leaf and not _is_prefixed(leaf)}
+        if len(words) > _MOST_NEAR:
+            return []
+        return [
+            {"near": [_WINDOW, prefix + word, prefix + other]}
+            for place, word in enumerate(words)
+            for other in list(words)[place + 1 :]
+            if _COMMON * min(words[word], words[other]) <= every
+        ]
 
     def _counts(self, trees: Sequence[Tree]) -> List[int]:
         """How many documents match each, exactly. No reading is needed for a term: it has as many at the most."""
@@ -961,6 +975,7 @@ class Index:
 _MOST_LEAVES = 1024  # Of a query.
 _MOST_NEAR = 10  # With more words the places of two are not looked at.
 _WINDOW = 6  # The places in which two words stand close together.
+_COMMON = 16  # A word is common where more than one in so many documents have it.
 
 _LEAVES = ("term", "wildcard", "phrase", "near")
 
@@ -990,10 +1005,14 @@ def _wanted(tree: Tree) -> Iterator[Tree]:
             yield from _wanted(part)
 
 
+def _key(leaf: Tree) -> str:
+    return json.dumps(leaf)
+
+
 def _variants(leaf: Tree, prefixes: Iterable[str]) -> List[Tuple[Tuple[str, str], Tree]]:
     """The leaf under each prefix, or as it is where it has one, each with its prefix and a key of the leaf."""
     ((form, value),) = leaf.items()
-    key = json.dumps(leaf)
+    key = _key(leaf)
     if _is_prefixed(leaf):
         return [(("", key), leaf)]
     if isinstance(value, str):
