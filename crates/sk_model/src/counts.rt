@@ -19,8 +19,8 @@ pub fn counts_in_order()
 /// collapse count. So no find is without bounds that it may have.
 pub fn counts_are_there()
     ensures both { (query : Tree) (paging : Paging) (above greatest : ℕ) (docs : Docs) → is_sound above query ≡ true
-        → Counts paging docs (found_by query paging docs) greatest (static_count query docs)
-        (length (kept_by paging docs (found_by query paging docs))) (length (kept_by paging docs (found_by query paging docs))) }
+        → let ranks = found_by query paging docs in let kept = length (kept_by paging docs ranks) in
+        Counts paging docs ranks greatest (static_count query docs) kept kept }
     ensures collapsed { (paging : Paging) (docs : Docs) (ranks : List Rank) (k : List ℕ)
         → CollapseCount paging docs ranks k (dropped_by paging docs k ranks) }
 {}

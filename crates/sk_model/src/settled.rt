@@ -18,10 +18,12 @@ pub fn settled_is_least()
     ensures least { (paging : Paging) (ranks : List Rank) (weight id : ℕ) → AllPairs (λ x y. x.id < y.id) ranks
         → wanted paging ≤ seen_up_to id ranks → paging.options.first + paging.options.size ≤ heavy_up_to (settling_weight paging weight) id ranks
         → settled paging ranks weight ≤ id }
-    ensures enough { (paging : Paging) (ranks : List Rank) (weight : ℕ) → AllPairs (λ x y. x.id < y.id) ranks
+    ensures seen { (paging : Paging) (ranks : List Rank) (weight : ℕ) → AllPairs (λ x y. x.id < y.id) ranks
         → settled paging ranks weight < last_id → paging.options.cutoff ≤ weight
-        → (wanted paging ≤ seen_up_to (settled paging ranks weight) ranks)
-        × (paging.options.first + paging.options.size ≤ heavy_up_to (settling_weight paging weight) (settled paging ranks weight) ranks) }
+        → wanted paging ≤ seen_up_to (settled paging ranks weight) ranks }
+    ensures heavy { (paging : Paging) (ranks : List Rank) (weight : ℕ) → AllPairs (λ x y. x.id < y.id) ranks
+        → settled paging ranks weight < last_id → paging.options.cutoff ≤ weight
+        → paging.options.first + paging.options.size ≤ heavy_up_to (settling_weight paging weight) (settled paging ranks weight) ranks }
     ensures below { (paging : Paging) (ranks : List Rank) (weight : ℕ) → weight < paging.options.cutoff → settled paging ranks weight ≡ 0 }
 {}
 
