@@ -29,7 +29,6 @@ import select
 import signal
 import subprocess
 import threading
-import time
 import unicodedata
 import weakref
 from collections import deque
@@ -62,7 +61,6 @@ __all__ = [
     "RefusedLines",
     "Reply",
 ]
-__version__ = "0.1.0"
 
 Values = Mapping[str, Any]
 Tree = Mapping[str, Any]
@@ -311,9 +309,11 @@ class Reply:
 
     def _wait(self) -> Any:
         index = self._index
-        if not self.is_answered and index is not None:
+        if index is not None and not self.is_answered:
             index._wait_for(self)
         if self._error is not None:
+            if index is not None:
+                index._forget(self._error)
             raise self._error
         return self._value
 
@@ -324,13 +324,12 @@ class Reply:
 class _Pipes:
     """A process whose input and output are moved together, so that neither side ever waits for the other.
 
-    Lines are put into `out`; `pump` moves bytes both ways and gives each whole line of output to `answer`.
+    Lines are put into `out`; `pump` moves bytes both ways, and gives each whole line of the output on.
     """
 
-    def __init__(self, path: str, timeout: Optional[float], answer: Callable[[bytes], None]) -> None:
+    def __init__(self, path: str, timeout: Optional[float]) -> None:
         self.path = path
         self.timeout = timeout
-        self.answer = answer
         self.out = bytearray()
         self.rest = bytearray()  # Of the output: what is no whole line yet.
         self.said = b""  # Of standard error: the last bytes.
@@ -359,7 +358,7 @@ class _Pipes:
         self.is_writing = False
         self.is_saying = True
 
-    def pump(self, is_done: Callable[[], bool]) -> None:
+    def pump(self, is_done: Callable[[], bool], answer: Callable[[bytes], None]) -> None:
         """Moves bytes until this is so. Raises _Stopped where it can never be."""
         while not is_done():
             if self.has_ended:
@@ -373,7 +372,7 @@ class _Pipes:
                 if stream == self.input:
                     self._write()
                 elif stream == self.output:
-                    self._read()
+                    self._read(answer)
                 else:
                     self._listen()
 
@@ -406,7 +405,7 @@ class _Pipes:
         if self.process.stdin is not None:
             self.process.stdin.close()
 
-    def _read(self) -> None:
+    def _read(self, answer: Callable[[bytes], None]) -> None:
         try:
             piece = os.read(self.output, _PIECE)
         except BlockingIOError:
@@ -426,7 +425,7 @@ class _Pipes:
         lines[0] = bytes(self.rest) + lines[0]
         self.rest = bytearray(lines.pop())
         for line in lines:
-            self.answer(line)
+            answer(line)
 
     def _listen(self) -> None:
         try:
@@ -442,11 +441,10 @@ class _Pipes:
 
     def end(self, seconds: float) -> int:
         """The status with which it ends, or is ended once so many seconds have gone."""
-        until = time.monotonic() + seconds
         if self.process.stdin is not None and not self.process.stdin.closed:
             self._close_input()
         try:
-            status = self.process.wait(max(0.0, until - time.monotonic()))
+            status = self.process.wait(seconds)
         except subprocess.TimeoutExpired:
             self.process.kill()
             status = self.process.wait()
@@ -518,7 +516,7 @@ class Index:
         self._page: Optional[Found] = None  # A find's answer whose hits still come.
         self._hits = 0
         self._fault: Optional[Fault] = None
-        self._pipes = _Pipes(self.path, timeout, self._take)
+        self._pipes = _Pipes(self.path, timeout)
         self._end = weakref.finalize(self, _kill, self._pipes.process)
         try:
             self._send(line, Reply(self, "ok schema"))._wait()
@@ -730,7 +728,7 @@ class Index:
 
     def _pump(self, is_done: Callable[[], bool]) -> None:
         try:
-            self._pipes.pump(is_done)
+            self._pipes.pump(is_done, self._take)
         except _Stopped as stopped:
             raise self._fail(str(stopped)) from None
 
@@ -772,6 +770,13 @@ class Index:
                 self._on_refused(refused)
         elif count:
             raise RefusedLines(count, refusals)
+
+    def _forget(self, error: Error) -> None:
+        """A refusal that its reply tells need not be told again."""
+        with self._lock:
+            kept = [refused for refused in self._refusals if refused is not error]
+            self._refused -= len(self._refusals) - len(kept)
+            self._refusals = kept
 
     # Answers.
 
@@ -824,13 +829,14 @@ class Index:
         """The answer of the first line that waits is whole."""
         reply = self._waiting.popleft()
         reply._value, reply._error = value, error
-        reply._index = None
-        self._answered += 1
-        if reply._kept and error is not None:
-            self._refused += 1
-            if self._on_refused is not None or len(self._refusals) < _MOST_KEPT:
-                self._refusals.append(error)
         reply._document = None
+        self._answered += 1
+        if error is None or not reply._kept:
+            reply._index = None
+            return
+        self._refused += 1
+        if self._on_refused is not None or len(self._refusals) < _MOST_KEPT:
+            self._refusals.append(error)
 
     def _refusal(self, text: str, reply: Reply) -> Refused:
         words = text.split(" ")
@@ -860,7 +866,8 @@ class Index:
             if kind == "number":
                 is_whole = isinstance(value, int) and not isinstance(value, bool)
                 if not is_whole or not 0 <= value < 1 << 64:
-                    return f"{name} is a number field and takes a whole number from 0 to 2^64 - 1, not {_short(value, 60)}"
+                    wanted = "a whole number from 0 to 2^64 - 1"
+                    return f"{name} is a number field and takes {wanted}, not {_short(value, 60)}"
         return ""
 
     # Ranking by how rare words are.
@@ -891,12 +898,13 @@ class Index:
 
         Each word that the text wants stands in it once for each prefix of the text fields, also where these are found
         by name alone, times 100 log(1 + (N - n + 0.5) / (n + 0.5)), where n of the N documents have it there. Two such
-        words within six places add `near` times that of how many documents have them so. The index is asked for each
-        n by a find of size 0.
+        words within six places, not both common, weigh `near` times the same of how many documents have them so. The
+        index is asked for each n by a find of size 0.
 
         boosts: by the names of text fields what their words weigh, 1 where it is not said; fields of one prefix weigh
             what the first of them does.
-        near: 0 looks at no places, which is quicker for texts of many common words.
+        near: 0 looks at no places, which is quicker where words are common. Of more than ten words none are looked at,
+            and in a text of hundreds the fields under a prefix are left out.
         """
         tree = self.show(text, op=op)
         boosted: Dict[str, float] = {}
@@ -905,25 +913,19 @@ class Index:
                 boost = 1.0 if boosts is None else float(boosts.get(field["name"], 1.0))
                 boosted.setdefault(field.get("prefix", ""), boost)
         leaves = list(_wanted(tree))
-        if len(leaves) * len(boosted) > _MOST_LEAVES // 2:
+        if sum(map(_size, leaves)) * len(boosted) > _MOST_LEAVES - _MOST_NEAR * _MOST_NEAR:
             boosted = {"": boosted.get("", 1.0)}
-        words = list(dict.fromkeys(leaf["term"] for leaf in leaves if "term" in leaf and not _is_prefixed(leaf)))
-        places = "" if "" in boosted or not boosted else next(iter(boosted))
-        pairs: List[Tree] = []
-        if near > 0 and len(words) <= _MOST_NEAR:
-            pairs = [
-                {"near": [_WINDOW, places + word, places + other]}
-                for place, word in enumerate(words)
-                for other in words[place + 1 :]
-            ]
         variants = {key: value for leaf in leaves for key, value in _variants(leaf, boosted)}
-        every, *counts = self._counts([{"all": []}, *variants.values(), *pairs])
-        idf = [100 * math.log(1 + (every - count + 0.5) / (count + 0.5)) for count in counts]
-        weights = dict(zip(variants, idf))
+        every, *counts = self._counts([{"all": []}, *variants.values()])
+        counted = dict(zip(variants, counts))
+        pairs = self._pairs(leaves, boosted, counted, every) if near > 0 else []
+
+        def idf(count: int) -> float:
+            return 100 * math.log(1 + (every - count + 0.5) / (count + 0.5))
 
         def weighed(leaf: Tree) -> Tree:
             parts: List[Tree] = [
-                {"scale": [_factor(weights[key] * boosted.get(key[0], 1.0)), variant]}
+                {"scale": [_factor(boosted.get(key[0], 1.0) * idf(counted[key]) / _size(variant)), variant]}
                 for key, variant in _variants(leaf, boosted)
             ]
             return parts[0] if len(parts) == 1 else {"or": parts}
@@ -934,9 +936,30 @@ class Index:
 
         ranked = _rebuilt(tree, weighed, plain)
         if pairs:
-            close = [{"scale": [_factor(near * weight), pair]} for weight, pair in zip(idf[len(variants) :], pairs)]
+            counts = self._counts(pairs)
+            close = [{"scale": [_factor(near * idf(count) / 2), pair]} for pair, count in zip(pairs, counts)]
             ranked = {"and_maybe": [ranked, *close]}
         return ranked
+
+    def _pairs(
+        self,
+        leaves: Sequence[Tree],
+        boosted: Mapping[str, float],
+        counted: Mapping[Tuple[str, str], int],
+        every: int,
+    ) -> List[Tree]:
+        """The pairs of words whose places are looked at: of few words, and not of two that are common."""
+        prefix = "" if "" in boosted or not boosted else next(iter(boosted))
+        terms = [leaf for leaf in leaves if "term" in leaf and not _is_prefixed(leaf)]
+        words = {leaf["term"]: counted[prefix, _key(leaf)] for leaf in terms}
+        if len(words) > _MOST_NEAR:
+            return []
+        return [
+            {"near": [_WINDOW, prefix + word, prefix + other]}
+            for place, word in enumerate(words)
+            for other in list(words)[place + 1 :]
+            if _COMMON * min(words[word], words[other]) <= every
+        ]
 
     def _counts(self, trees: Sequence[Tree]) -> List[int]:
         """How many documents match each, exactly. No reading is needed for a term: it has as many at the most."""
@@ -953,6 +976,7 @@ class Index:
 _MOST_LEAVES = 1024  # Of a query.
 _MOST_NEAR = 10  # With more words the places of two are not looked at.
 _WINDOW = 6  # The places in which two words stand close together.
+_COMMON = 16  # A word is common where more than one in so many documents have it.
 
 _LEAVES = ("term", "wildcard", "phrase", "near")
 
@@ -962,6 +986,12 @@ def _is_prefixed(leaf: Tree) -> bool:
     (value,) = leaf.values()
     first: str = value if isinstance(value, str) else value[1]
     return "A" <= first[0] <= "Z"
+
+
+def _size(leaf: Tree) -> int:
+    """How many leaves of a query a leaf counts for: each word of near and phrase is one."""
+    (value,) = leaf.values()
+    return 1 if isinstance(value, str) else len(value) - 1
 
 
 def _wanted(tree: Tree) -> Iterator[Tree]:
@@ -976,10 +1006,14 @@ def _wanted(tree: Tree) -> Iterator[Tree]:
             yield from _wanted(part)
 
 
+def _key(leaf: Tree) -> str:
+    return json.dumps(leaf)
+
+
 def _variants(leaf: Tree, prefixes: Iterable[str]) -> List[Tuple[Tuple[str, str], Tree]]:
     """The leaf under each prefix, or as it is where it has one, each with its prefix and a key of the leaf."""
     ((form, value),) = leaf.items()
-    key = json.dumps(leaf)
+    key = _key(leaf)
     if _is_prefixed(leaf):
         return [(("", key), leaf)]
     if isinstance(value, str):
@@ -988,7 +1022,7 @@ def _variants(leaf: Tree, prefixes: Iterable[str]) -> List[Tuple[Tuple[str, str]
 
 
 def _rebuilt(tree: Tree, wanted: Callable[[Tree], Tree], other: Callable[[Tree], Tree]) -> Dict[str, Any]:
-    """The query of a text with its leaves changed: those that are wanted, and those that take away. What filters stays."""
+    """The query of a text with its leaves changed: those wanted, and those that take away. What filters stays."""
     ((form, value),) = tree.items()
     if form in _LEAVES:
         return dict(wanted(tree))
