@@ -1,10 +1,10 @@
 #!/usr/bin/env python3
-"""Ranks the manual pages of this machine for the questions of known_items.tsv, each of which wants one page, and prints for
-each way of ranking how often that page comes first, in the first three and in the first ten.
+"""Ranks the manual pages of this machine for the questions of known_items.tsv, each of which wants one page, and prints
+for each way of ranking how often that page comes first, in the first three and in the first ten.
 
-Wants the built program (SK_TOOL names it; else crates/sk_tool/out/sk_tool), Debian's man pages, and for Xapian's row
-python3-xapian: run it with /usr/bin/python3, at the top of the repository:
-/usr/bin/python3 bench/known_items.py [MANUAL]. Without that package the row is left out. MANUAL is /usr/share/man."""
+Wants the built program (SK_TOOL names it; else crates/sk_tool/out/sk_tool), Debian's manual pages, and for Xapian's row
+python3-xapian. Run it at the top of the repository: /usr/bin/python3 bench/known_items.py [MANUAL], where MANUAL is
+/usr/share/man if it is not said. Without that package the row is left out."""
 import glob
 import gzip
 import os
@@ -25,22 +25,26 @@ PROGRAM = os.environ.get("SK_TOOL", os.path.join(HERE, "..", "crates", "sk_tool"
 QUESTIONS = os.path.join(HERE, "known_items.tsv")
 LONGEST = 900_000
 
-# The signs of troff.
-NAMED = {"aq": "'", "dq": '"', "lq": '"', "rq": '"', "oq": "'", "cq": "'", "em": "-", "en": "-", "hy": "-", "mi": "-", "bu": " "}
-SIGN = re.compile(r"\\(?:f(?:\[[^]]*\]|\(..|.)|s[-+]?\d+|\((..)|\[([^]]*)\]|\*(?:\[[^]]*\]|\(..|.)|[n](?:\[[^]]*\]|\(..|.)|([-e'`\\ .|&^%:,0tc/~]))")
-QUIET = {".TH", ".Dd", ".Dt", ".Os", ".so", ".de", ".ds", ".nr", ".if", ".ie", ".el", ".ft", ".in", ".ti", ".sp", ".ps", ".ta", ".tr", ".hy", ".ad", ".na", ".nh", ".ne", ".ll", ".rm", ".rr", ".als", ".RS", ".RE", ".PD", ".UC", ".Bl", ".El", ".Bd", ".Ed", ".TS", ".TE"}
+# The signs of troff: fonts, sizes, named characters, strings, registers, and single ones.
+NAMED = {"aq": "'", "dq": '"', "lq": '"', "rq": '"', "oq": "'", "cq": "'", "em": "-", "en": "-", "hy": "-", "mi": "-"}
+SINGLE = {"-": "-", "e": "\\", "'": "'", "`": "`", "\\": "\\", ".": ".", " ": " ", "0": " ", "t": " ", "~": " "}
+LONG_NAME = r"(?:\[[^]]*\]|\(..|.)"
+SIGN = re.compile(rf"\\(?:[fn*]{LONG_NAME}|s[-+]?\d+|\((..)|\[([^]]*)\]|([-e'`\\ .|&^%:,0tc/~]))")
+# Macros whose words are not of the text.
+QUIET = set(
+    ".TH .Dd .Dt .Os .so .de .ds .nr .if .ie .el .ft .in .ti .sp .ps .ta .tr .hy .ad .na .nh .ne .ll .rm .rr .als .RS "
+    ".RE .PD .UC .Bl .El .Bd .Ed .TS .TE".split()
+)
 
 
 def plain(text):
     """A line of troff as plain text."""
 
     def meant(found):
-        if found[1] or found[2]:
-            name = found[1] or found[2]
-            if re.fullmatch(r"u[0-9A-F]{4,5}", name):
-                return chr(int(name[1:], 16))
-            return NAMED.get(name, " ")
-        return {"-": "-", "e": "\\", "'": "'", "`": "`", "\\": "\\", ".": "."}.get(found[3], " " if found[3] in (" ", "0", "t", "~") else "")
+        name = found[1] or found[2]
+        if not name:
+            return SINGLE.get(found[3], "")
+        return chr(int(name[1:], 16)) if re.fullmatch(r"u[0-9A-F]{4,5}", name) else NAMED.get(name, " ")
 
     return SIGN.sub(meant, text)
 
@@ -124,14 +128,14 @@ def by_titles(documents):
     return ours(documents, fields, lambda index, question: index.find(question, op="and"))
 
 
-def by_idf(documents):
+def by_idf(documents, **options):
     """The client's ranking."""
-    return ours(documents, FIELDS, lambda index, question: index.find_by_idf(question))
+    return ours(documents, FIELDS, lambda index, question: index.find_by_idf(question, **options))
 
 
 def by_xapian(documents):
     """Xapian's BM25, over words as its own term generator makes them, a title's counting five times."""
-    database = xapian.inmemory_open() if hasattr(xapian, "inmemory_open") else xapian.WritableDatabase("", xapian.DB_BACKEND_INMEMORY)
+    database = xapian.inmemory_open()
     generator = xapian.TermGenerator()
     for name, title, body in documents:
         document = xapian.Document()
@@ -172,6 +176,7 @@ WAYS = [
     ("`search FILE`: any word, titles of step 5", by_search),
     ("titles of step 256, all words (`and`)", by_titles),
     ("the client's `find_by_idf`", by_idf),
+    ("the same with `near=0`", lambda documents: by_idf(documents, near=0)),
     ("Xapian's BM25, any word", by_xapian if xapian else None),
     ("SQLite FTS5's bm25, any word", lambda documents: by_fts5(documents, " OR ")),
     ("SQLite FTS5's bm25, all words", lambda documents: by_fts5(documents, " AND ")),
@@ -180,7 +185,8 @@ WAYS = [
 
 def ranks(find, asked):
     """For each question the rank of its page, from 1, or 0 where it is not in the first ten."""
-    return [(found.index(page) + 1 if page in found else 0) for found, page in ((find(question), page) for question, page in asked)]
+    pages_found = [(find(question), page) for question, page in asked]
+    return [found.index(page) + 1 if page in found else 0 for found, page in pages_found]
 
 
 def main():

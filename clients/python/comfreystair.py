@@ -948,9 +948,10 @@ class Index:
         counted: Mapping[Tuple[str, str], int],
         every: int,
     ) -> List[Tree]:
-        """The pairs of words whose places are looked at: of few words, and of these not two that are common."""
+        """The pairs of words whose places are looked at: of few words, and not of two that are common."""
         prefix = "" if "" in boosted or not boosted else next(iter(boosted))
-        words = {leaf["term"]: counted[prefix, _key(leaf)] for leaf in leaves if "term" in leaf and not _is_prefixed(leaf)}
+        terms = [leaf for leaf in leaves if "term" in leaf and not _is_prefixed(leaf)]
+        words = {leaf["term"]: counted[prefix, _key(leaf)] for leaf in terms}
         if len(words) > _MOST_NEAR:
             return []
         return [

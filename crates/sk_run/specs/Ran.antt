@@ -1,5 +1,5 @@
 -- The main theorem: what a run does over a store, for all words, every two sources and every sink.
-use Rattle.std.specs.Prelude.{◌≡◌, ℕ, ◌≤◌, ◌<◌, ◌^◌, ◌↔◌, Bool, false, List, length, Some, None, ◌⊎◌}
+use Rattle.std.specs.Prelude.{◌≡◌, ℕ, ◌≤◌, ◌<◌, ◌^◌, ◌↔◌, List, length, Some, None, ◌⊎◌}
 use Rattle.sk_io.specs.Causes.{Rose}
 use Rattle.sk_run.specs.declared.form.Form.{Form}
 use Rattle.sk_run.specs.declared.status.Status.{Status}
