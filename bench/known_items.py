@@ -135,7 +135,7 @@ def by_idf(documents, **options):
 
 def by_xapian(documents):
     """Xapian's BM25, over words as its own term generator makes them, a title's counting five times."""
-    database = xapian.inmemory_open()
+    database = xapian.WritableDatabase("", xapian.DB_BACKEND_INMEMORY)
     generator = xapian.TermGenerator()
     for name, title, body in documents:
         document = xapian.Document()

@@ -66,7 +66,7 @@ def browser(width=1100, height=1000, dark=False, phone=False):
                  f"--window-size={width},{height}"):
         options.add_argument(word)
     if phone:
-        sizes = {"width": 360, "height": 740, "pixelRatio": 1.5, "touch": False}
+        sizes = {"width": 360, "height": 670, "pixelRatio": 1.5, "touch": False}
         options.add_experimental_option("mobileEmulation", {"deviceMetrics": sizes})
     if dark:
         options.add_argument("--blink-settings=preferredColorScheme=0")
@@ -167,14 +167,14 @@ def try_refusals(driver, page):
 
 
 def try_hostile(driver, page):
-    for words in (HOSTILE, f"{HOSTILE} AND", "hostile", "\u202egnirts", "</textarea></title>"):
+    for words in (HOSTILE, f"AND {HOSTILE}", "hostile", "\u202egnirts", "</textarea></title>"):
         for name in ("q", "order", "one", "page", "op"):
             driver.get(page.address(**{"q": "hostile", name: words}))
             assert "letters" in driver.title, driver.title
             assert not driver.find_elements(By.CSS_SELECTOR, "script, img"), words
     driver.get(page.address(q="hostile"))
     assert titles(driver) == [HOSTILE], titles(driver)
-    driver.get(page.address(q=f"{HOSTILE} AND"))
+    driver.get(page.address(q=f"AND {HOSTILE}"))
     assert HOSTILE in text(driver, ".asked"), text(driver, ".asked")
 
 
@@ -245,10 +245,10 @@ def main():
         if words.pictures:
             budget = page.address(q="budget", order="-date", one="thread")
             take(words.pictures, "narrow.png", budget, dark=True, phone=True)
-            take(words.pictures, "refused.png", page.address(q="(owl OR pump) AND -date:2024..x"), height=620)
+            take(words.pictures, "refused.png", page.address(q="(owl OR pump) AND -date:2024..x"), height=628)
     if words.pictures and words.corpus:
         with Served(words.corpus, words.tool) as page:
-            take(words.pictures, "finds.png", page.address(q=words.query), height=900)
+            take(words.pictures, "finds.png", page.address(q=words.query), height=853)
 
 
 if __name__ == "__main__":
