@@ -2,8 +2,8 @@
 """Runs the built sk_tool with one request for memory refused, the first, the second and so on, until a run makes no
 more, and then with that one and all behind it refused. Each run must end with 5, say `no memory`, and have put whole
 answers, to first lines; or put all, and end as if nothing was refused (where a vector that takes an iterator's items is
-refused what the iterator announced, the library asks again, for one; and places for guesses in the dictionary, or for two
-pieces that become one, can be done without). Ends with 1 where one does not.
+refused what the iterator announced, the library asks again, for one; and places for guesses in the dictionary can be done
+without). Ends with 1 where one does not.
 
 Wants cc and the built program: (cd crates/sk_tool && rt run). Run it at the top of the repository:
 python3 bench/refused_memory.py [STEP [FOLDER [STREAMS]]], every STEPth request being refused, FOLDER being where

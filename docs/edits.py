@@ -1,24 +1,28 @@
-"""Says which wrong bodies of crates/*/must-fail/ docs/CLAIMS.md does not name exactly once, and ends with 1 if any.
+"""Says which wrong bodies of crates/*/must-fail/ docs/CLAIMS.md does not name once, and which it names that are gone; ends with 1 if any.
+
+Two crates may have one of the same name: it is named once for each.
 
 Run at the top: python3 docs/edits.py
 """
 
+import collections
 import pathlib
 import re
 import sys
 
 top = pathlib.Path(__file__).resolve().parent.parent
-named = re.findall(r"`(\w+)`", (top / "docs/CLAIMS.md").read_text())
+claims = (top / "docs/CLAIMS.md").read_text()
+named = collections.Counter(re.findall(r"`(\w+)`", claims))
+edits = collections.Counter(edit.stem for edit in top.glob("crates/*/must-fail/*.edit"))
 wrong = 0
-seen = {}
-for edit in sorted(top.glob("crates/*/must-fail/*.edit")):
-    crate = edit.parts[-3]
-    if edit.stem in seen:
-        print(f"{crate}/{edit.stem}: the name is one of {seen[edit.stem]} too")
+for name, count in sorted(edits.items()):
+    if named[name] != count:
+        print(f"{name}: {count} of it, named {named[name]} times")
         wrong += 1
-    elif named.count(edit.stem) != 1:
-        print(f"{crate}/{edit.stem}: named {named.count(edit.stem)} times")
-        wrong += 1
-    seen[edit.stem] = crate
-print(f"{len(seen)} edits, {wrong} of them not named once")
+rows = [line.split("|") for line in claims.split("\n") if line.startswith("| ")]
+crates = {it.name for it in top.glob("crates/*")}
+for name in sorted({it for row in rows for it in re.findall(r"`(\w+)`", row[3])} - edits.keys() - crates):
+    print(f"{name}: no such edit")
+    wrong += 1
+print(f"{edits.total()} edits, {wrong} of them not named once")
 sys.exit(1 if wrong else 0)

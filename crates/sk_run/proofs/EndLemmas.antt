@@ -9,12 +9,12 @@ use Rattle.sk_io.specs.Reading.{Reader, outcome}
 use Rattle.sk_io.specs.Answers.{Ends, Stops, ReadsOn}
 use Rattle.sk_run.specs.declared.response.Response.{Response}
 use Rattle.sk_run.specs.declared.response.Printing.{Printing}
-use Rattle.sk_run.specs.Responses.{text_under, is_refusal, steps_of}
+use Rattle.sk_run.specs.Responses.{text_under, steps_of}
 use Rattle.sk_run.specs.declared.status.Status.{Status}
 use Rattle.sk_run.specs.Lines.{AnsweredLine, stop}
 use Rattle.sk_io.specs.Seen.{Seen}
-use Rattle.sk_run.specs.Outsides.{Output, WhereTold}
-use Rattle.sk_run.specs.Ends.{AnswersTaken, AnswersFirst, AnswersThrough, Stopped}
+use Rattle.sk_run.specs.Outsides.{Output}
+use Rattle.sk_run.specs.Ends.{Stopped}
 use Rattle.sk_run.specs.Sources.{FirstOf, TakenOf, ThroughOf}
 use Rattle.sk_run.specs.Ended.{CutsShort, BreaksOff, RunsOut, Continues, Ended, NotWhole}
 use Rattle.sk_run.specs.Waiting.{Moves, Joins, LacksMemory, FailsBefore, FailsWithin, FailsToPut, JoinsNot}

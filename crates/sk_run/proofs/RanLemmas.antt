@@ -1,5 +1,5 @@
 -- The main theorem, from the end of a run by its form.
-use Rattle.std.proofs.Common.{◌≡◌, ◌≤◌, ◌^◌, ℕ, Bool, false, List, Some, None, ◌⊎◌, inl, inr, refl, sym, ◌∙◌, subst, arith}
+use Rattle.std.proofs.Common.{◌≡◌, ◌≤◌, ◌^◌, ℕ, List, Some, None, ◌⊎◌, inl, inr, refl, sym, ◌∙◌, subst, arith}
 use Rattle.sk_io.specs.Causes.{Rose}
 use Rattle.sk_run.specs.declared.form.Form.{Form}
 use Rattle.sk_run.specs.declared.response.Response.{Response}

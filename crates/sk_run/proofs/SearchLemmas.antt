@@ -2,7 +2,6 @@
 use Rattle.std.proofs.Common.{◌≡◌, ℕ, Bool, ◌⊎◌, inl, inr, List, ◌++◌, Option, refl}
 use Rattle.sk_run.specs.declared.response.Response.{Response}
 use Rattle.sk_run.specs.declared.response.Printing.{Printing}
-use Rattle.sk_run.specs.Responses.{text_under, is_refusal, steps_of}
 use Rattle.sk_run.specs.declared.status.Status.{Status}
 use Rattle.sk_io.specs.Seen.{Seen}
 use Rattle.sk_run.specs.Outsides.{Output, WhereTold}

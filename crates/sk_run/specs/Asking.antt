@@ -8,7 +8,6 @@ use Rattle.sk_parser.specs.declared.asked.AskError.{AskError}
 use Rattle.sk_parser.specs.declared.asked.AskError.TheVariants.{BadQuery, BadTree, NoMemory}
 use Rattle.sk_run.specs.declared.refusal.Refusal.TheVariants as Refusal
 use Rattle.sk_run.specs.declared.response.Response.{Response}
-use Rattle.sk_run.specs.declared.response.Response.TheVariants as Response
 
 -- What a store tells of a find: of what is asked for, a report that its query allows, or the cause that there is no query. Want of memory tells nothing.
 abbrev pub Tells : (Tree → Report → Type 0) → Result Tree AskError → Result Report AskError → Type 0

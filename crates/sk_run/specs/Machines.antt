@@ -1,5 +1,5 @@
 -- When a machine over some store stands for the state of a run. What the store tells is given as functions.
-use Rattle.std.specs.Prelude.{◌≡◌, List, Option, Some, None, option_map}
+use Rattle.std.specs.Prelude.{◌≡◌, Option, Some, None, option_map}
 use Rattle.serde_json.specs.Data.{Data}
 use Rattle.sk_base.specs.declared.command.Command.{Command}
 use Rattle.sk_base.specs.declared.schema.Schema.{Schema}

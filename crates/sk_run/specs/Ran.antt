@@ -1,5 +1,5 @@
 -- The main theorem: what a run does over a store, for all words, every two sources and every sink.
-use Rattle.std.specs.Prelude.{◌≡◌, ℕ, ◌≤◌, ◌<◌, ◌^◌, ◌↔◌, Bool, false, List, length, Some, None, ◌⊎◌}
+use Rattle.std.specs.Prelude.{◌≡◌, ℕ, ◌≤◌, ◌<◌, ◌^◌, ◌↔◌, List, length, Some, None, ◌⊎◌}
 use Rattle.sk_io.specs.Causes.{Rose}
 use Rattle.sk_run.specs.declared.form.Form.{Form}
 use Rattle.sk_run.specs.declared.status.Status.{Status}
@@ -10,7 +10,7 @@ use Rattle.sk_run.specs.Outsides.{Outside}
 use Rattle.sk_run.specs.Conducts.{Conduct}
 use Rattle.sk_run.specs.ByForm.{EndedBy, Keeps}
 
--- The source tells its bytes, which are fewer than a run takes of one source, and it did not fail.
+-- The source tells its bytes, which are fewer than a run takes of one source, and its count of faults did not rise. (One that stands at its greatest number is taken to have risen.)
 pub record IsCalm (before after : Seen) : Type 0 where
   pub bytes : List ℕ
   pub told : before.left ≡ Some bytes
@@ -26,7 +26,7 @@ pub record Ran {S : Type 0} (conduct : Conduct S) (words : List (List ℕ)) (sta
   pub ended : (form : Form) → form_of words ≡ Some form → EndedBy conduct form status before after
   -- What the form does not touch is as before.
   pub kept : (form : Form) → form_of words ≡ Some form → Keeps form before after
-  -- Where memory is enough, both sources tell their bytes, which are not too many, and nothing fails, the run comes to its end.
+  -- Where both sources tell their bytes, which are not too many, and nothing fails, the run comes to its end, or memory ran out.
   pub complete : (form : Form) → form_of words ≡ Some form → IsCalm before.input after.input → IsCalm before.records after.records → (Rose before.output.sink.faults after.output.sink.faults → ⊥)
       → IsFinished status ⊎ (status ≡ Status.Memory)
   -- The counter never falls.

@@ -1,5 +1,5 @@
 -- What a line asks for, and how that is answered.
-use Rattle.std.specs.Prelude.{◌≡◌, ℕ, ◌<◌, Bool, true, false, List, length, Option}
+use Rattle.std.specs.Prelude.{◌≡◌, ℕ, ◌<◌, Bool, false, List, length, Option}
 use Rattle.sk_base.specs.declared.command.Command.{Command}
 use Rattle.sk_base.specs.declared.schema.Schema.{Schema}
 use Rattle.sk_io.specs.declared.line.Line.{Line}

@@ -20,7 +20,7 @@ fn read_one<'a, R: Env, L: Ledger>(rt: &R, blank: Blank, list: &'a SlotList, id:
 }
 
 /// The value at the place, read once; none behind the last.
-fn value_at<R: Env, L: Ledger>(rt: &R, blank: Blank, list: &SlotList, i: u32) -> &[u8]
+fn value_at<'a, R: Env, L: Ledger>(rt: &R, blank: Blank, list: &'a SlotList, i: u32) -> &'a [u8]
     requires name { blank.name ≡ L.name }
     requires parts { blank.parts ≡ L.parts }
     requires one { blank.parts ≡ 1 }

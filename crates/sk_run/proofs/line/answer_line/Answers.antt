@@ -1,4 +1,4 @@
-use Rattle.std.proofs.Common.{refl, subst, Option, List}
+use Rattle.std.proofs.Common.{refl, subst, Option}
 use Rattle.sk_base.specs.declared.schema.Schema.{Schema}
 use Rattle.sk_run.specs.declared.machine.Machine.{Machine}
 use Rattle.sk_run.specs.Lines.{AnsweredLine}

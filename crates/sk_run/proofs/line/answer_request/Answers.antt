@@ -1,7 +1,6 @@
 use Rattle.std.proofs.Common.{not, refl, sym, ap, ◌∙◌}
 use Rattle.sk_run.specs.Outsides.{output_at}
 use Rattle.sk_run.specs.declared.machine.Machine.{Machine}
-use Rattle.sk_run.specs.Responses.{text_under, is_refusal, steps_of}
 use Rattle.sk_run.specs.Requests.{AnsweredRequest}
 use Rattle.sk_run.proofs.AnsweringLemmas.{fails_first, lacks_answer, lacks_text, fails_joined, joined}
 use Rattle.sk_run.proofs.line.answer_request.Goals as goal

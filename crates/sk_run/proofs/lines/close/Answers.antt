@@ -1,6 +1,5 @@
 use Rattle.std.proofs.Common.{◌||◌, if◌then◌else◌, inl, inr, refl, sym, ap, ◌∙◌}
 use Rattle.sk_run.specs.declared.status.Status.TheVariants as Status
-use Rattle.sk_run.specs.Responses.{text_under, is_refusal, steps_of}
 use Rattle.sk_run.specs.Machines.{IsAt}
 use Rattle.sk_run.specs.Conducts.{Closes}
 use Rattle.sk_run.proofs.GoOnLemmas.{kept_prefix, closes_whole, closes_in_part}
