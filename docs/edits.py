@@ -19,9 +19,9 @@ for name, count in sorted(edits.items()):
     if named[name] != count:
         print(f"{name}: {count} of it, named {named[name]} times")
         wrong += 1
-rows = [line.split("|") for line in claims.split("\n") if line.startswith("| ")]
+items = re.findall(r"^- wrong bodies: (.*\n(?:  .*\n)*)", claims, re.MULTILINE)
 crates = {it.name for it in top.glob("crates/*")}
-for name in sorted({it for row in rows for it in re.findall(r"`(\w+)`", row[3])} - edits.keys() - crates):
+for name in sorted({it for item in items for it in re.findall(r"`(\w+)`", item)} - edits.keys() - crates):
     print(f"{name}: no such edit")
     wrong += 1
 print(f"{edits.total()} edits, {wrong} of them not named once")
