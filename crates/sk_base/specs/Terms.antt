@@ -14,3 +14,7 @@ needs_colon prefix text = nat_lt 1 (length prefix) && begins_like_prefix text
 -- The term of a text under a prefix.
 abbrev pub prefixed : List ℕ → List ℕ → List ℕ
 prefixed prefix text = if needs_colon prefix text then prefix ++ (58 ∷ text) else prefix ++ text
+
+-- A text with a byte in it.
+abbrev pub is_given : List ℕ → Bool
+is_given text = nat_lt 0 (length text)

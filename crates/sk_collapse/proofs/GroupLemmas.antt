@@ -22,7 +22,7 @@ use Rattle.sk_base.specs.declared.rank.Rank.{Rank}
 use Rattle.sk_base.specs.declared.rank.Order.{Order}
 use Rattle.sk_model.specs.Page.{place}
 use Rattle.sk_heap.specs.declared.hit.Hit.{Hit}
-use Rattle.sk_heap.specs.Held.{Held, placed, ranks_of}
+use Rattle.sk_heap.specs.Held.{Held, placed_hit, ranks_of}
 use Rattle.sk_heap.proofs.HeapLaws.{ranks_placed}
 use Rattle.sk_collapse.specs.declared.group.KeyGroup.{KeyGroup}
 use Rattle.sk_collapse.specs.Collapsed.{Group, group_of}
@@ -59,12 +59,12 @@ one_out (Some h) e = refl
 one_out None e = absurd (true≢false (sym e))
 
 -- what a heap holds then
-pub ranks_held : (order : Order) (most : ℕ) (hit : Hit) (hits : List Hit) → ranks_of (take most (placed order hit hits)) ≡ take most (place order hit.rank (ranks_of hits))
-ranks_held order most hit hits = sym (take-map (λ (h : Hit). h.rank) most (placed order hit hits)) ∙ ap (take most) (ranks_placed order hit hits)
+pub ranks_held : (order : Order) (most : ℕ) (hit : Hit) (hits : List Hit) → ranks_of (take most (placed_hit order hit hits)) ≡ take most (place order hit.rank (ranks_of hits))
+ranks_held order most hit hits = sym (take-map (λ (h : Hit). h.rank) most (placed_hit order hit hits)) ∙ ap (take most) (ranks_placed order hit hits)
 
 -- and what falls out of it
-pub ranks_gone : (order : Order) (most : ℕ) (hit : Hit) (hits : List Hit) → ranks_of (drop most (placed order hit hits)) ≡ fallen order most hit.rank (ranks_of hits)
-ranks_gone order most hit hits = ranks_drop most (placed order hit hits) ∙ ap (drop most) (ranks_placed order hit hits)
+pub ranks_gone : (order : Order) (most : ℕ) (hit : Hit) (hits : List Hit) → ranks_of (drop most (placed_hit order hit hits)) ≡ fallen order most hit.rank (ranks_of hits)
+ranks_gone order most hit hits = ranks_drop most (placed_hit order hit hits) ∙ ap (drop most) (ranks_placed order hit hits)
 
 pub hits_differ : (id : ℕ) (hits : List Hit) → All (λ r. r.id ≢ id) (ranks_of hits) → All (λ h. h.rank.id ≢ id) hits
 hits_differ id hits all = All-from_recursion (λ (h : Hit). h.rank.id ≢ id) hits (each hits (recursion_from_All (λ (r : Rank). r.id ≢ id) (ranks_of hits) all))
@@ -83,28 +83,28 @@ none_gone None e = refl
 
 -- a group before, with room, and after a hit was offered
 module _ (before grown after : Held) (hit : Hit) (same : (grown.order ≡ before.order) × (grown.most ≡ before.most) × (grown.hits ≡ before.hits)) where
-  pub heap_gone : (out : Option Hit) → option_to_list out ≡ drop grown.most (placed grown.order hit grown.hits)
+  pub heap_gone : (out : Option Hit) → option_to_list out ≡ drop grown.most (placed_hit grown.order hit grown.hits)
       → ranks_of (option_to_list out) ≡ fallen before.order before.most hit.rank (ranks_of before.hits)
   heap_gone out e =
-      ap ranks_of (e ∙ (λ i. drop (same.1 i) (placed (same.0 i) hit (same.2 i)))) ∙ ranks_gone before.order before.most hit before.hits
+      ap ranks_of (e ∙ (λ i. drop (same.1 i) (placed_hit (same.0 i) hit (same.2 i)))) ∙ ranks_gone before.order before.most hit before.hits
 
-  pub heap_group : (out : Option Hit) (dropped more : ℕ) → option_to_list out ≡ drop grown.most (placed grown.order hit grown.hits)
-      → after ≡ record grown { hits = take grown.most (placed grown.order hit grown.hits) } → more ≡ dropped + length (option_to_list out)
+  pub heap_group : (out : Option Hit) (dropped more : ℕ) → option_to_list out ≡ drop grown.most (placed_hit grown.order hit grown.hits)
+      → after ≡ record grown { hits = take grown.most (placed_hit grown.order hit grown.hits) } → more ≡ dropped + length (option_to_list out)
       → group_in (record { best = after; dropped = more }) ≡ group_with before.order before.most hit.rank (group_in (record { best = before; dropped = dropped }))
   heap_group out dropped more e held count =
       let kept : ranks_of after.hits ≡ take before.most (place before.order hit.rank (ranks_of before.hits)) =
-      ap (λ (h : Held). ranks_of h.hits) held ∙ (λ i. ranks_of (take (same.1 i) (placed (same.0 i) hit (same.2 i)))) ∙ ranks_held before.order before.most hit before.hits in
+      ap (λ (h : Held). ranks_of h.hits) held ∙ (λ i. ranks_of (take (same.1 i) (placed_hit (same.0 i) hit (same.2 i)))) ∙ ranks_held before.order before.most hit before.hits in
       let count_is : more ≡ dropped + length (fallen before.order before.most hit.rank (ranks_of before.hits)) =
       count ∙ ap (λ n. dropped + n) (sym (length-ranks (option_to_list out)) ∙ ap (λ (ys : List Rank). length ys) (heap_gone out e)) in
       λ i. record { kept = kept i; dropped = count_is i }
 
-  pub heap_one : (out : Option Hit) (dropped : ℕ) → option_to_list out ≡ drop grown.most (placed grown.order hit grown.hits)
-      → after ≡ record grown { hits = take grown.most (placed grown.order hit grown.hits) } → is_some out ≡ true
+  pub heap_one : (out : Option Hit) (dropped : ℕ) → option_to_list out ≡ drop grown.most (placed_hit grown.order hit grown.hits)
+      → after ≡ record grown { hits = take grown.most (placed_hit grown.order hit grown.hits) } → is_some out ≡ true
       → group_in (record { best = after; dropped = dropped + 1 }) ≡ group_with before.order before.most hit.rank (group_in (record { best = before; dropped = dropped }))
   heap_one out dropped e held is = heap_group out dropped (dropped + 1) e held (ap (λ n. dropped + n) (sym (one_gone out is)))
 
-  pub heap_none : (out : Option Hit) (dropped : ℕ) → option_to_list out ≡ drop grown.most (placed grown.order hit grown.hits)
-      → after ≡ record grown { hits = take grown.most (placed grown.order hit grown.hits) } → is_some out ≡ false
+  pub heap_none : (out : Option Hit) (dropped : ℕ) → option_to_list out ≡ drop grown.most (placed_hit grown.order hit grown.hits)
+      → after ≡ record grown { hits = take grown.most (placed_hit grown.order hit grown.hits) } → is_some out ≡ false
       → group_in (record { best = after; dropped = dropped }) ≡ group_with before.order before.most hit.rank (group_in (record { best = before; dropped = dropped }))
   heap_none out dropped e held is = heap_group out dropped dropped e held (let none : length (option_to_list out) ≡ 0 = none_gone out is in omega (arith, none))
 

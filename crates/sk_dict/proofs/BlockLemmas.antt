@@ -6,7 +6,7 @@ use Rattle.std.proofs.lemmas.List.Folds.{concat-append}
 use Rattle.std.proofs.lemmas.List.Edits.{get_or-insert_below, get_or-insert_at, length-insert}
 use Rattle.sk_dict.specs.Searches.{passes}
 use Rattle.sk_dict.specs.Order.{Each, IsRising, IsSplit}
-use Rattle.sk_dict.specs.Blocks.{in_block, front_of, rest_from, IsCut, HasRoom}
+use Rattle.sk_dict.specs.Blocks.{in_block, front_of, rest_from, IsCutInTwo, HasRoom}
 use Rattle.sk_dict.proofs.EachLemmas.{Each-append, Each-front, Each-rest}
 use Rattle.sk_dict.proofs.RisingLemmas.{IsRising-front, IsRising-rest, front_passes, rest_is_left}
 
@@ -167,7 +167,7 @@ block_put blocks b offset number block new lt is e =
 
 -- a block was cut, by what was read and written on the way
 pub block_cut : (blocks made : List (List ℕ)) (b half : ℕ) (block read upper lower : List ℕ) → b < length blocks → block ≡ get_or blocks b block
-    → made ≡ insert blocks (b + 1) upper → read ≡ get_or made b read → upper ≡ drop half block → lower ≡ take half read → IsCut blocks (set made b lower) b half
+    → made ≡ insert blocks (b + 1) upper → read ≡ get_or made b read → upper ≡ drop half block → lower ≡ take half read → IsCutInTwo blocks (set made b lower) b half
 block_cut blocks made b half block read upper lower lt is grown seen high low =
     let le : b + 1 ≤ length blocks = omega arith in
     let front : List (List ℕ) = take (b + 1) blocks in
@@ -190,7 +190,7 @@ block_cut blocks made b half block read upper lower lt is grown seen high low =
 pub room_there : (blocks : List (List ℕ)) (b offset : ℕ) → b < length blocks → offset ≤ length (in_block blocks b) → length (in_block blocks b) < 512 → HasRoom blocks blocks b offset b offset
 room_there blocks b offset lt le room = record { there = lt; within = le; room = room; front = refl; rest = refl }
 
-module _ (old new : List (List ℕ)) (b offset half : ℕ) (lt : b < length old) (h : IsCut old new b half) where
+module _ (old new : List (List ℕ)) (b offset half : ℕ) (lt : b < length old) (h : IsCutInTwo old new b half) where
   -- a offset of the lower half stands where it stood
   pub room_below : offset ≤ half → half ≤ length (in_block old b) → half < 512 → HasRoom old new b offset b offset
   room_below le fits small =

@@ -10,7 +10,7 @@ use Rattle.std.proofs.lemmas.Grind.{pow_more}
 use Rattle.std.proofs.Math.Nat.{pow-le-pow_right}
 use Rattle.sk_dict.specs.Terms.{term_cmp}
 use Rattle.sk_dict.specs.Searches.{passed, stands_before}
-use Rattle.sk_dict.specs.Heads.{AreBytes, followed_by, head_of}
+use Rattle.sk_dict.specs.Heads.{AreBytes, with_bytes, head_of}
 use Rattle.sk_dict.proofs.OrderLemmas.{turned}
 
 -- what follows the first byte
@@ -19,7 +19,7 @@ bytes_rest [] h = h
 bytes_rest (b ∷ bs) h = λ i. h (suc i)
 
 -- the higher number stays higher, whatever follows
-higher : (n a b : ℕ) (us vs : List ℕ) → AreBytes us → AreBytes vs → a < b → followed_by a n us < followed_by b n vs
+higher : (n a b : ℕ) (us vs : List ℕ) → AreBytes us → AreBytes vs → a < b → with_bytes a n us < with_bytes b n vs
 higher zero a b us vs hu hv lt = lt
 higher (suc n) a b us vs hu hv lt =
     let low : slice_index us 0 < 256 = hu 0 in
@@ -39,7 +39,7 @@ empty_first [] e = cc
 empty_first (x ∷ xs) e = cc
 
 -- the lower of two numbers with the same start stands first
-lower_first : (n high : ℕ) (us vs : List ℕ) → AreBytes us → AreBytes vs → followed_by high n us < followed_by high n vs → term_cmp us vs ≡ Less
+lower_first : (n high : ℕ) (us vs : List ℕ) → AreBytes us → AreBytes vs → with_bytes high n us < with_bytes high n vs → term_cmp us vs ≡ Less
 lower_first zero high us vs ha hb lt = absurd (omega arith)
 lower_first (suc n) high [] [] ha hb lt = absurd (omega arith)
 lower_first (suc n) high [] (y ∷ ys) ha hb lt = refl
@@ -47,7 +47,7 @@ lower_first (suc n) high (x ∷ xs) [] ha hb lt = elim (cases_lt 0 x) [
   | inl some ↦ absurd (omega (arith, lt, higher n (high * 256 + 0) (high * 256 + x) [] xs hb (bytes_rest (x ∷ xs) ha) (omega arith)))
   | inr none ↦
       let same : high * 256 + x ≡ high * 256 + 0 = omega arith in
-      absurd (empty_first xs (lower_first n (high * 256 + 0) xs [] (bytes_rest (x ∷ xs) ha) hb (subst (λ k. followed_by k n xs < followed_by (high * 256 + 0) n []) same lt)))
+      absurd (empty_first xs (lower_first n (high * 256 + 0) xs [] (bytes_rest (x ∷ xs) ha) hb (subst (λ k. with_bytes k n xs < with_bytes (high * 256 + 0) n []) same lt)))
 ]
 lower_first (suc n) high (x ∷ xs) (y ∷ ys) ha hb lt = elim (cases_lt x y) [
   | inl less ↦ first_less x y (term_cmp xs ys) less
@@ -57,7 +57,7 @@ lower_first (suc n) high (x ∷ xs) (y ∷ ys) ha hb lt = elim (cases_lt x y) [
         let same : high * 256 + x ≡ high * 256 + y = omega arith in
         let equal : x ≡ y = omega arith in
         first_same x y (term_cmp xs ys) equal
-        ∙ lower_first n (high * 256 + y) xs ys (bytes_rest (x ∷ xs) ha) (bytes_rest (y ∷ ys) hb) (subst (λ k. followed_by k n xs < followed_by (high * 256 + y) n ys) same lt)
+        ∙ lower_first n (high * 256 + y) xs ys (bytes_rest (x ∷ xs) ha) (bytes_rest (y ∷ ys) hb) (subst (λ k. with_bytes k n xs < with_bytes (high * 256 + y) n ys) same lt)
   ]
 ]
 
@@ -85,20 +85,20 @@ head_more high i byte lt small b =
     (omega arith, omega arith)
 
 -- one byte more of what is left
-pub followed_more : (high i byte : ℕ) (bs : List ℕ) → i < 8 → byte ≡ slice_index bs i → followed_by (high * 256 + byte) (8 - (i + 1)) (drop (i + 1) bs) ≡ followed_by high (8 - i) (drop i bs)
+pub followed_more : (high i byte : ℕ) (bs : List ℕ) → i < 8 → byte ≡ slice_index bs i → with_bytes (high * 256 + byte) (8 - (i + 1)) (drop (i + 1) bs) ≡ with_bytes high (8 - i) (drop i bs)
 followed_more high i byte bs lt read =
     let left : 8 - i ≡ suc (8 - (i + 1)) = omega arith in
     let first : slice_index (drop i bs) 0 ≡ byte = get_or-drop i bs 0 0 ∙ ap (λ k. slice_index bs k) (omega arith) ∙ sym read in
     let rest : drop 1 (drop i bs) ≡ drop (i + 1) bs = drop-drop 1 i bs in
-    sym (ap (λ k. followed_by high k (drop i bs)) left ∙ ap (λ w. followed_by (high * 256 + w) (8 - (i + 1)) (drop 1 (drop i bs))) first ∙ ap (λ w. followed_by (high * 256 + byte) (8 - (i + 1)) w) rest)
+    sym (ap (λ k. with_bytes high k (drop i bs)) left ∙ ap (λ w. with_bytes (high * 256 + w) (8 - (i + 1)) (drop 1 (drop i bs))) first ∙ ap (λ w. with_bytes (high * 256 + byte) (8 - (i + 1)) w) rest)
 
 -- no byte is written at first
-pub head_of-start : (bs : List ℕ) → followed_by 0 8 bs ≡ head_of bs
+pub head_of-start : (bs : List ℕ) → with_bytes 0 8 bs ≡ head_of bs
 unfolding head_of
 head_of-start bs = refl
 
 -- all bytes are written
-pub head_of-end : (high i : ℕ) (bs : List ℕ) → 8 ≤ i → followed_by high (8 - i) (drop i bs) ≡ head_of bs → high ≡ head_of bs
+pub head_of-end : (high i : ℕ) (bs : List ℕ) → 8 ≤ i → with_bytes high (8 - i) (drop i bs) ≡ head_of bs → high ≡ head_of bs
 head_of-end high i bs le e =
     let none : 8 - i ≡ 0 = omega arith in
-    sym (ap (λ k. followed_by high k (drop i bs)) none) ∙ e
+    sym (ap (λ k. with_bytes high k (drop i bs)) none) ∙ e

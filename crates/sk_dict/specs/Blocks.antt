@@ -25,7 +25,7 @@ pub record IsStep (blocks : List (List ℕ)) (b offset n a c : ℕ) : Type 0 whe
   pub rest : rest_from blocks b offset ≡ n ∷ rest_from blocks a c
 
 -- The block became two, and the others stayed.
-pub record IsCut (old new : List (List ℕ)) (b half : ℕ) : Type 0 where
+pub record IsCutInTwo (old new : List (List ℕ)) (b half : ℕ) : Type 0 where
   pub longer : length new ≡ length old + 1
   pub before : take b new ≡ take b old
   pub lower : in_block new b ≡ take half (in_block old b)

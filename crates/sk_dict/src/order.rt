@@ -5,7 +5,7 @@ ghost use Rattle.sk_dict.specs.Terms.{term_at, begins_with};
 ghost use Rattle.sk_dict.specs.Searches.{passes};
 ghost use Rattle.sk_dict.specs.Heads.{AreBytes, head_of};
 ghost use Rattle.sk_dict.specs.Order.{Each, IsKnown, IsRising, IsSplit, IsPutIn};
-ghost use Rattle.sk_dict.specs.Blocks.{in_block, front_of, rest_from, IsStep, IsCut, HasRoom};
+ghost use Rattle.sk_dict.specs.Blocks.{in_block, front_of, rest_from, IsStep, IsCutInTwo, HasRoom};
 
 use crate::block::{Block, FULL};
 use crate::terms::{Terms, head_of};
@@ -150,7 +150,7 @@ fn cut(blocks: &mut Vec<Block>, block: usize, half: usize) -> Result<(), AllocEr
     requires there { block < length blocks.old.items }
     requires some { 0 < half }
     requires within { half < length (in_block blocks.old.items block) }
-    ensures ok { OnOk result (IsCut blocks.old.items blocks.new.items block half) }
+    ensures ok { OnOk result (IsCutInTwo blocks.old.items blocks.new.items block half) }
     ensures err { OnErr result (blocks.new.items ≡ blocks.old.items) }
 {
     let upper = blocks[block].upper(half)?;

@@ -18,7 +18,8 @@ use Rattle.sk_base.specs.declared.schema.FieldKind.{FieldKind}
 use Rattle.sk_base.specs.Fields.{is_kind, is_field}
 use Rattle.sk_base.specs.Names.{is_prefix, is_name}
 use Rattle.sk_base.specs.Records.{bytes_of_value, bytes_of_values, most_bytes}
-use Rattle.sk_model.specs.Documents.{Occurrence, occurrence, is_indexed, placed_at, placed_from, value_at, occurrences_of, occurrences_from, text_fields, filter_term, is_given, filter_terms_of, filter_terms_from}
+use Rattle.sk_model.specs.Documents.{Occurrence, occurrence, is_indexed, placed_at, placed_from, value_at, occurrences_of, occurrences_from, text_fields, filter_term, filter_terms_of, filter_terms_from}
+use Rattle.sk_base.specs.Terms.{is_given}
 use Rattle.sk_docs.specs.Gathered.{Gathered, after, LieBelow, CanGather, occurrences_among, bytes_of_given, bytes_from}
 use Rattle.sk_docs.specs.Joined.{LieBefore, AreMentions}
 use Rattle.sk_docs.proofs.TermLemmas.{load-append}

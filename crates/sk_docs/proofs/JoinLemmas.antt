@@ -18,7 +18,7 @@ use Rattle.sk_base.specs.declared.doc_entry.DocTerm.{DocTerm}
 use Rattle.sk_base.specs.Order.{Precedes}
 use Rattle.sk_base.specs.Documents.{AreTerms}
 use Rattle.sk_base.specs.Loads.{load_of}
-use Rattle.sk_model.specs.Documents.{joined, noted, terms_of, mentions_of}
+use Rattle.sk_model.specs.Documents.{merged, noted, terms_of, mentions_of}
 use Rattle.sk_model.proofs.TermLaws.{terms_rise, turned}
 use Rattle.sk_docs.specs.Joined.{LieBefore, Follows, CanJoin}
 use Rattle.sk_docs.proofs.PairLemmas.{pairs_head, pairs_tail, pairs_before, pairs_that_tie}
@@ -81,21 +81,21 @@ greater a b h = nat_list_cmp_total.antisymm b a ∙ ap ordering_reverse h
 
 -- it is one of a term that is there
 noted_at : (terms : List DocTerm) (m : DocTerm) (k : ℕ) (d : DocTerm) → k < length terms → AreTerms terms → (get_or terms k d).term ≡ m.term
-    → set terms k (joined (get_or terms k d) m) ≡ noted terms m
+    → set terms k (merged (get_or terms k d) m) ≡ noted terms m
 noted_at [] m k d lt rising same = absurd (omega arith)
 noted_at (one ∷ more) m zero d lt rising same =
-    sym (ap (λ r. match_ordering r (m ∷ one ∷ more) (joined one m ∷ more) (one ∷ noted more m)) (equal_cmp one.term m.term same))
+    sym (ap (λ r. match_ordering r (m ∷ one ∷ more) (merged one m ∷ more) (one ∷ noted more m)) (equal_cmp one.term m.term same))
 noted_at (one ∷ more) m (suc k) d lt rising same =
     let first : Precedes one.term m.term =
     subst (Precedes one.term) same (pairs_head (λ (a b : DocTerm). Precedes a.term b.term) one more rising k d (omega arith)) in
     ap (λ ts. one ∷ ts) (noted_at more m k d (omega arith) (pairs_tail (λ (a b : DocTerm). Precedes a.term b.term) one more rising) same)
-    ∙ sym (ap (λ r. match_ordering r (m ∷ one ∷ more) (joined one m ∷ more) (one ∷ noted more m)) (greater one.term m.term first))
+    ∙ sym (ap (λ r. match_ordering r (m ∷ one ∷ more) (merged one m ∷ more) (one ∷ noted more m)) (greater one.term m.term first))
 
 -- the same as the code asks for it, of the last
 pub join_last : (terms : List DocTerm) (m last new : DocTerm) (n : ℕ) → 0 < n → n ≡ length terms → AreTerms terms → last ≡ get_or terms (n - 1) last → bytes_eq m.term last.term ≡ true
-    → new ≡ joined last m → set terms (n - 1) new ≡ noted terms m
+    → new ≡ merged last m → set terms (n - 1) new ≡ noted terms m
 join_last terms m last new n some all rising is own put =
-    ap (set terms (n - 1)) (put ∙ ap (λ one. joined one m) is)
+    ap (set terms (n - 1)) (put ∙ ap (λ one. merged one m) is)
     ∙ noted_at terms m (n - 1) last (omega (arith, some, all)) rising (ap (λ (one : DocTerm). one.term) (sym is) ∙ sym ((bytes_decides m.term last.term).0 own))
 
 -- its term stands behind all that are there
@@ -103,7 +103,7 @@ noted_behind : (terms : List DocTerm) (m : DocTerm) → All (λ (l : DocTerm). P
 noted_behind [] m behind = refl
 noted_behind (one ∷ more) m behind =
     ap (λ ts. one ∷ ts) (noted_behind more m (All-tail (λ (l : DocTerm). Precedes l.term m.term) one more behind))
-    ∙ sym (ap (λ r. match_ordering r (m ∷ one ∷ more) (joined one m ∷ more) (one ∷ noted more m)) (greater one.term m.term (All-head (λ (l : DocTerm). Precedes l.term m.term) one more behind)))
+    ∙ sym (ap (λ r. match_ordering r (m ∷ one ∷ more) (merged one m ∷ more) (one ∷ noted more m)) (greater one.term m.term (All-head (λ (l : DocTerm). Precedes l.term m.term) one more behind)))
 
 precede_step : (l m : DocTerm) (r : Ordering) → slice_cmp nat_cmp l.term m.term ≡ r → Follows l m → (l.term ≡ m.term → ⊥) → Precedes l.term m.term
 precede_step l m Less h follows other = h
@@ -142,17 +142,17 @@ load_at (one ∷ more) (suc k) d lt = omega (arith, load_at more k d (omega arit
 
 -- ---- all mentions, one after the other
 
-joined_follows : (one m z : DocTerm) → one.term ≡ m.term → Follows one z → Follows m z → Follows (joined one m) z
+joined_follows : (one m z : DocTerm) → one.term ≡ m.term → Follows one z → Follows m z → Follows (merged one m) z
 joined_follows one m z same first second = record {
   order = first.order;
   places = λ its k d lt. All-append (λ p. p < get_or z.positions k d) one.positions m.positions (first.places its k d lt) (second.places (sym same ∙ its) k d lt);
 }
 
 follows_step : (one m z : DocTerm) (more put : List DocTerm) (r : Ordering) → slice_cmp nat_cmp m.term one.term ≡ r → Follows m z → All (λ l. Follows l z) (one ∷ more) → All (λ l. Follows l z) put
-    → All (λ l. Follows l z) (match_ordering r (m ∷ one ∷ more) (joined one m ∷ more) (one ∷ put))
+    → All (λ l. Follows l z) (match_ordering r (m ∷ one ∷ more) (merged one m ∷ more) (one ∷ put))
 follows_step one m z more put Less h own all rest = All-cons (λ l. Follows l z) m (one ∷ more) own all
 follows_step one m z more put Equal h own all rest =
-    All-cons (λ l. Follows l z) (joined one m) more (joined_follows one m z (sym (exact_bytes m.term one.term h)) (All-head (λ l. Follows l z) one more all) own)
+    All-cons (λ l. Follows l z) (merged one m) more (joined_follows one m z (sym (exact_bytes m.term one.term h)) (All-head (λ l. Follows l z) one more all) own)
     (All-tail (λ l. Follows l z) one more all)
 follows_step one m z more put Greater h own all rest = All-cons (λ l. Follows l z) one put (All-head (λ l. Follows l z) one more all) rest
 

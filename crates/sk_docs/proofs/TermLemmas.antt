@@ -13,7 +13,7 @@ use Rattle.sk_base.specs.declared.doc_entry.DocTerm.{DocTerm}
 use Rattle.sk_base.specs.Order.{Precedes}
 use Rattle.sk_base.specs.Documents.{AreTerms, has_term, wdf_of, positions_of}
 use Rattle.sk_base.specs.Loads.{load_of}
-use Rattle.sk_model.specs.Documents.{joined, noted, terms_of, mentions_of}
+use Rattle.sk_model.specs.Documents.{merged, noted, terms_of, mentions_of}
 use Rattle.sk_model.proofs.TermLaws.{less_differs, terms_rise, has_mentioned, wdf_of_mentions, positions_of_mentions, turned}
 use Rattle.sk_docs.proofs.PairLemmas.{pairs_head, pairs_tail}
 
@@ -108,7 +108,7 @@ same_terms ms ns same =
 -- ---- their wdfs
 
 load_step : (one m : DocTerm) (more put : List DocTerm) (r : Ordering) → load_of put ≡ load_of more + m.wdf
-    → load_of (match_ordering r (m ∷ one ∷ more) (joined one m ∷ more) (one ∷ put)) ≡ load_of (one ∷ more) + m.wdf
+    → load_of (match_ordering r (m ∷ one ∷ more) (merged one m ∷ more) (one ∷ put)) ≡ load_of (one ∷ more) + m.wdf
 load_step one m more put Less h = omega (arith)
 load_step one m more put Equal h = omega (arith)
 load_step one m more put Greater h = omega (arith, h)

@@ -3,7 +3,7 @@ ghost use Rattle.std.specs.Prelude.{◌≡◌, ◌<◌, ◌+◌, ◌^◌, [], �
 ghost use Rattle.std.specs.Option.{option_to_list};
 ghost use Rattle.std.specs.Ordering.{nat_cmp};
 ghost use Rattle.std.specs.Cmp.Lexicographic.{slice_cmp};
-ghost use Rattle.sk_model.specs.Documents.{joined};
+ghost use Rattle.sk_model.specs.Documents.{merged};
 ghost use Rattle.sk_docs.specs.Joined.{LieBefore};
 
 use sk_base::{DocTerm, Positions, Term};
@@ -83,7 +83,7 @@ impl Mention {
     pub fn join(self, term: &mut DocTerm) -> Result<(), AllocError>
         requires behind { LieBefore term.old self }
         requires light { term.old.wdf + self.wdf < 2 ^ 29 }
-        ensures { OnOk result (term.new ≡ joined term.old self) }
+        ensures { OnOk result (term.new ≡ merged term.old self) }
     {
         put(&mut term.positions, self.place)?;
         term.wdf += self.wdf;

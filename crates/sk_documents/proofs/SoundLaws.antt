@@ -10,11 +10,11 @@ use Rattle.sk_base.specs.Loads.{IsLight}
 use Rattle.sk_base.specs.Numbers.{Docs}
 use Rattle.sk_model.specs.Documents.{Document}
 use Rattle.sk_model.specs.Edits.{Live, IsLive, last_id, document_at, put_document, without_id}
-use Rattle.sk_documents.specs.Documented.{HasTerms, AreSound}
+use Rattle.sk_documents.specs.Documented.{HasTerms, IsSoundLive}
 
 -- with a document more
 pub AreSound-put : (docs : Docs) (highest id : ℕ) (d : Document) → 1 ≤ id → id ≤ last_id → AreTerms d.terms → IsLight (id, d)
-    → AreSound (record { documents = docs; highest = highest }) → AreSound (record { documents = put_document id d docs; highest = max highest id })
+    → IsSoundLive (record { documents = docs; highest = highest }) → IsSoundLive (record { documents = put_document id d docs; highest = max highest id })
 AreSound-put docs highest id d first last terms light sound = record {
   rise = RiseAbove-put 0 id d docs (omega arith) sound.rise;
   used = LieBelow-put (max highest id + 1) id d docs (omega arith) (LieBelow-higher (highest + 1) (max highest id + 1) docs (omega arith) sound.used);
@@ -24,7 +24,7 @@ AreSound-put docs highest id d first last terms light sound = record {
 }
 
 -- without a document
-pub AreSound-without : (docs : Docs) (highest id : ℕ) → AreSound (record { documents = docs; highest = highest }) → AreSound (record { documents = without_id id docs; highest = highest })
+pub AreSound-without : (docs : Docs) (highest id : ℕ) → IsSoundLive (record { documents = docs; highest = highest }) → IsSoundLive (record { documents = without_id id docs; highest = highest })
 AreSound-without docs highest id sound = record {
   rise = RiseAbove-without 0 id docs sound.rise;
   used = LieBelow-without (highest + 1) id docs sound.used;
@@ -34,11 +34,11 @@ AreSound-without docs highest id sound = record {
 }
 
 -- sound documents are sorted entries
-pub sound-sorted : (live : Live) → AreSound live → AreSorted live.documents
+pub sound-sorted : (live : Live) → IsSoundLive live → AreSorted live.documents
 sound-sorted live sound = record { rise = sound.rise; small = let le = sound.within in LieBelow-higher (live.highest + 1) (2 ^ 32) live.documents (omega (arith, le)) sound.used }
 
 -- there are fewer documents than ids
-pub sound-few : (live : Live) → AreSound live → length live.documents < 2 ^ 32
+pub sound-few : (live : Live) → IsSoundLive live → length live.documents < 2 ^ 32
 sound-few live sound = length_fits live.documents (sound-sorted live sound)
 
 -- each id is above the bound
@@ -62,7 +62,7 @@ ids_rise low (one ∷ more) up =
     AllPairs-cons (λ (a b : ℕ × Document). a.0 < b.0) one more (All-from_recursion (λ (b : ℕ × Document). one.0 < b.0) more (ids_above one.0 more up.1)) (ids_rise one.0 more up.1)
 
 -- so they are live documents
-pub sound-IsLive : (live : Live) → AreSound live → IsLive live
+pub sound-IsLive : (live : Live) → IsSoundLive live → IsLive live
 sound-IsLive live sound = record {
   rising = ids_rise 0 live.documents sound.rise;
   begun = λ k d lt. let first = All-from_recursion (λ (one : ℕ × Document). 0 < one.0) live.documents (ids_above 0 live.documents sound.rise) k d lt in omega (arith, first);
@@ -71,10 +71,10 @@ sound-IsLive live sound = record {
 }
 
 -- and light
-pub sound-light : (live : Live) → AreSound live → All IsLight live.documents
+pub sound-light : (live : Live) → IsSoundLive live → All IsLight live.documents
 sound-light live sound = All-from_recursion IsLight live.documents sound.light
 
 -- no document has the next id
-pub next-free : (live : Live) → AreSound live → document_at (live.highest + 1) live.documents ≡ None
+pub next-free : (live : Live) → IsSoundLive live → document_at (live.highest + 1) live.documents ≡ None
 next-free live sound =
     ap (document_at (live.highest + 1)) (sym (append-nil live.documents)) ∙ found-append (live.highest + 1) live.documents [] sound.used

@@ -19,7 +19,7 @@ abbrev pub HasTerms : ℕ × Document → Type 0
 HasTerms one = AreTerms one.1.terms
 
 -- The ids rise from 1, none is above the highest used, and that is no greater than an id may be; each document is in order and light.
-pub record AreSound (live : Live) : Type 0 where
+pub record IsSoundLive (live : Live) : Type 0 where
   pub rise : RiseAbove 0 live.documents
   pub used : LieBelow (live.highest + 1) live.documents
   pub within : live.highest ≤ last_id

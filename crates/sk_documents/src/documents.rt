@@ -2,7 +2,7 @@
 ghost use Rattle.std.specs.Prelude.{◌≡◌, ◌<◌, ◌^◌, [], length, All};
 ghost use Rattle.sk_base.specs.Loads.{IsLight};
 ghost use Rattle.sk_model.specs.Edits.{nothing_live, IsLive};
-ghost use Rattle.sk_documents.specs.Documented.{Documented, AreSound};
+ghost use Rattle.sk_documents.specs.Documented.{Documented, IsSoundLive};
 
 use crate::Keeper;
 use sk_base::{DocId, Schema};
@@ -21,13 +21,13 @@ pub struct Documents<K: Keeper> {
 }
 
 impl<K: Keeper> Model for Documents<K> {
-    ghost use Rattle.sk_documents.specs.Documented.{Documented, AreSound};
+    ghost use Rattle.sk_documents.specs.Documented.{Documented, IsSoundLive};
 
     ghost Value = { Documented K };
 
     ghost view = { λ d. record { schema = d.schema; live = record { documents = K.documents d.keeper; highest = d.highest }; keeper = d.keeper } };
 
-    ghost invariant = { λ d. AreSound (record { documents = K.documents d.keeper; highest = d.highest }) };
+    ghost invariant = { λ d. IsSoundLive (record { documents = K.documents d.keeper; highest = d.highest }) };
 }
 
 impl<K: Keeper> Documents<K> {
@@ -68,7 +68,7 @@ impl<K: Keeper> Documents<K> {
     pub fn keeper(&self) -> &K
         ensures value { result.now ≡ self.now.keeper }
         ensures documents { K.documents result.now ≡ self.now.live.documents }
-        ensures sound { AreSound self.now.live }
+        ensures sound { IsSoundLive self.now.live }
         ensures light { All IsLight self.now.live.documents }
         ensures few { length self.now.live.documents < 2 ^ 32 }
     {

@@ -5,7 +5,7 @@ ghost use Rattle.sk_base.specs.Finds.{FitsFind, ask_over};
 ghost use Rattle.sk_base.specs.Records.{FitsEdit};
 ghost use Rattle.sk_parser.specs.Asked.{asked};
 ghost use Rattle.sk_model.specs.Edits.{Live, nothing_live, edited, reply_to};
-ghost use Rattle.sk_run.specs.Asking.{Tells, Counts};
+ghost use Rattle.sk_run.specs.Asking.{TellsOfFind, CountsSteps};
 ghost use Rattle.sk_engine.specs.Sessions.{SessionHolds, schema_of, MayFind};
 
 use serde_json::Value;
@@ -57,8 +57,8 @@ impl Session {
         steps: &mut Steps<L>,
     ) -> Result<Report, AskError>
         requires { FitsFind find.now }
-        ensures tells { (live : Live) → SessionHolds self.now live → Tells (MayFind live find.now.paging) (asked (schema_of self.now) (ask_over view find.now.ask)) result }
-        ensures counts { Counts result steps.old steps.new }
+        ensures tells { (live : Live) → SessionHolds self.now live → TellsOfFind (MayFind live find.now.paging) (asked (schema_of self.now) (ask_over view find.now.ask)) result }
+        ensures counts { CountsSteps result steps.old steps.new }
     {
         let query = query_of(self.index.allocator(), self.schema(), &find.ask)?;
         match search(

@@ -2,7 +2,7 @@
 use Rattle.std.proofs.Common.{◌≡◌, ◌≤◌, ℕ, zero, suc, pred, ◌+◌, Bool, true, false, ◌&&◌, ◌||◌, ◌==◌, not, if◌then◌else◌, nat_lt, List, [], ◌∷◌, Option, Some, None, refl, sym, ap, ◌∙◌, arith}
 use Rattle.std.proofs.lemmas.Bool.Decides.{nat_tests}
 use Rattle.sk_grammar.specs.declared.token.Kind.{Kind}
-use Rattle.sk_grammar.specs.Faults.{is_open, depth_of, comes_to, is_unclosed}
+use Rattle.sk_grammar.specs.Faults.{is_open, brackets_at, comes_to, is_unclosed}
 use Rattle.sk_faults.specs.Before.{closers, unclosed_from, is_at}
 
 -- A token that leaves the depth as it is.
@@ -39,9 +39,9 @@ back d n (k ∷ ks) = same_depth d n (closers ks) (comes_to d (d + suc n) ks) (b
 -- A bracket is never closed where none of what follows closes what was opened before.
 pub unclosed_same : (before : List Kind) (k : Kind) (ks : List Kind) → is_unclosed before k ks ≡ (is_open k && closers ks == 0)
 unclosed_same before k ks =
-    let up : suc (depth_of before) ≡ depth_of before + suc 0 = omega arith in
+    let up : suc (brackets_at before) ≡ brackets_at before + suc 0 = omega arith in
     let none : not (nat_lt 0 (closers ks)) ≡ (closers ks == 0) = grind (arith, nat_tests) in
-    ap (λ m. is_open k && not (comes_to (depth_of before) m ks)) up ∙ ap (λ b. is_open k && not b) (back (depth_of before) 0 ks) ∙ ap (λ b. is_open k && b) none
+    ap (λ m. is_open k && not (comes_to (brackets_at before) m ks)) up ∙ ap (λ b. is_open k && not b) (back (brackets_at before) 0 ks) ∙ ap (λ b. is_open k && b) none
 
 -- The first that is never closed stands at this place or behind it.
 ahead : (i j : ℕ) (ks : List Kind) → unclosed_from i ks ≡ Some j → i ≤ j

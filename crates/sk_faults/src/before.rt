@@ -1,7 +1,7 @@
 //! What stands before a token.
 ghost use Rattle.std.specs.Prelude.{◌≡◌, ◌<◌, ◌+◌, ◌^◌, [], ◌∷◌, List};
 ghost use Rattle.sk_grammar.specs.declared.token.Kind.{Kind};
-ghost use Rattle.sk_grammar.specs.Faults.{depth_behind, leaves_of};
+ghost use Rattle.sk_grammar.specs.Faults.{depth_behind, leaves_by};
 ghost use Rattle.sk_faults.specs.Before.{Is};
 
 use crate::kinds::{ends_unit, is_adj, is_near, is_word, leaves_of};
@@ -43,10 +43,10 @@ impl Before {
     /// One token more.
     pub(crate) fn with(self, kind: &Kind) -> Before
         requires depth { self.depth + 1 < 2 ^ 64 }
-        requires leaves { self.leaves + leaves_of kind.now < 2 ^ 64 }
+        requires leaves { self.leaves + leaves_by kind.now < 2 ^ 64 }
         ensures kept { (before : List Kind) → Is self before → Is result (kind.now ∷ before) }
         ensures depth { result.depth ≡ depth_behind self.depth kind.now }
-        ensures leaves { result.leaves ≡ leaves_of kind.now + self.leaves }
+        ensures leaves { result.leaves ≡ leaves_by kind.now + self.leaves }
     {
         Before {
             depth: depth_behind(self.depth, kind),

@@ -1,14 +1,14 @@
 //! Finds the first fault of a list of tokens.
 ghost use Rattle.std.specs.Prelude.{◌≡◌, ◌≤◌, ◌<◌, ◌+◌, ◌^◌, ◌&&◌, not, nat_le, ℕ, List, drop, length, None, Some, false, map};
 ghost use Rattle.sk_grammar.specs.declared.token.Kind.{Kind};
-ghost use Rattle.sk_grammar.specs.Faults.{is_stray, is_unclosed, lacks_operand, is_bad_near, is_distance, is_bad_range, is_too_deep, is_too_many, fault_at, fault_in, kinds_of, leaves_of, leaves_in, is_open, begins_unit, is_mark, is_not, first_is, lacks_side, lacks_excluded, lacks_marked};
+ghost use Rattle.sk_grammar.specs.Faults.{is_stray, is_unclosed, lacks_operand, is_bad_near, is_distance, is_bad_range, is_too_deep, is_too_many, fault_at, fault_in, kinds_of, leaves_by, leaves_among, is_open, begins_unit, is_mark, is_not, first_is, lacks_side, lacks_excluded, lacks_marked};
 ghost use Rattle.sk_faults.specs.Before.{Is, closers_with, unclosed_from, is_at};
 
 use crate::before::Before;
 use crate::bounds::{are_numbers, takes_numbers};
 use crate::kinds::{
     is_close, is_item, is_joining, is_mark, is_mark_first, is_not, is_not_first, is_open,
-    is_unit_first, is_word_first, leaves_of,
+    is_unit_first, is_word_first, leaves_by,
 };
 use sk_base::{MOST_LEAVES, Schema};
 use sk_grammar::{FaultKind, Kind, Token};
@@ -90,7 +90,7 @@ fn is_too_deep(before: Before, kind: &Kind) -> bool
 }
 
 fn is_too_many(before: Before, kind: &Kind) -> bool
-    ensures few { result ≡ false → before.leaves ≤ 1024 → before.leaves + leaves_of kind.now ≤ 1024 }
+    ensures few { result ≡ false → before.leaves ≤ 1024 → before.leaves + leaves_by kind.now ≤ 1024 }
     ensures value { (ks : List Kind) → Is before ks → result ≡ is_too_many ks kind.now }
 {
     is_item(kind) && before.leaves <= MOST_LEAVES && leaves_of(kind) > MOST_LEAVES - before.leaves
@@ -106,7 +106,7 @@ fn fault_at(
 ) -> Option<FaultKind>
     ensures value { (ks : List Kind) → Is before ks → unclosed ≡ is_unclosed ks kind.now (kinds_of behind.now)
         → result ≡ fault_at schema.now ks kind.now (kinds_of behind.now) }
-    ensures few { result ≡ None → before.leaves ≤ 1024 → before.leaves + leaves_of kind.now ≤ 1024 }
+    ensures few { result ≡ None → before.leaves ≤ 1024 → before.leaves + leaves_by kind.now ≤ 1024 }
     ensures closed { result ≡ None → unclosed ≡ false }
 {
     if is_stray(before, kind) {

@@ -1,6 +1,6 @@
 //! What a token is, for its neighbours.
 ghost use Rattle.std.specs.Prelude.{◌≡◌, ◌≤◌, ◌+◌, ◌^◌, ◌<◌, length};
-ghost use Rattle.sk_grammar.specs.Faults.{is_item, is_word, is_open, is_close, is_mark, is_not, is_joining, is_near, is_adj, begins_unit, ends_unit, leaves_of, first_is, kinds_of};
+ghost use Rattle.sk_grammar.specs.Faults.{is_item, is_word, is_open, is_close, is_mark, is_not, is_joining, is_near_sign, is_adj_sign, begins_unit, ends_unit, leaves_by, first_is, kinds_of};
 
 use sk_grammar::{Kind, Token};
 
@@ -55,13 +55,13 @@ pub(crate) fn is_joining(kind: &Kind) -> bool
 }
 
 pub(crate) fn is_near(kind: &Kind) -> bool
-    ensures { result ≡ is_near kind.now }
+    ensures { result ≡ is_near_sign kind.now }
 {
     matches!(kind, Kind::Near(_))
 }
 
 pub(crate) fn is_adj(kind: &Kind) -> bool
-    ensures { result ≡ is_adj kind.now }
+    ensures { result ≡ is_adj_sign kind.now }
 {
     matches!(kind, Kind::Adj(_))
 }
@@ -82,7 +82,7 @@ pub(crate) fn ends_unit(kind: &Kind) -> bool
 
 /// How many leaves the token counts for.
 pub(crate) fn leaves_of(kind: &Kind) -> usize
-    ensures { result ≡ leaves_of kind.now }
+    ensures { result ≡ leaves_by kind.now }
 {
     match kind {
         Kind::Joined(_, texts) => texts.as_slice().len(),

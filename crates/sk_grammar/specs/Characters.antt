@@ -53,5 +53,5 @@ abbrev pub word_term : Word → List ℕ
 word_term w = w.term
 
 -- The terms of the words of a run, where no word character stands right before it or right behind it.
-abbrev pub terms_in : List ℕ → List (List ℕ)
-terms_in cs = map word_term (words_from 1 false 0 0 [] cs)
+abbrev pub run_terms : List ℕ → List (List ℕ)
+run_terms cs = map word_term (words_from 1 false 0 0 [] cs)

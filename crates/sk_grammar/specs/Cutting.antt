@@ -34,9 +34,9 @@ abbrev pub pieces_of : Schema → List ℕ → List Piece
 pieces_of schema cs = pieces_behind schema None 0 cs
 
 -- The token of a piece that begins and ends at these bytes, or none of a piece that separates.
-abbrev pub placed : Option Kind → ℕ → ℕ → List Token
-placed None from to = []
-placed (Some kind) from to = record { kind = kind; from = from; to = to } ∷ []
+abbrev pub token_at : Option Kind → ℕ → ℕ → List Token
+token_at None from to = []
+token_at (Some kind) from to = record { kind = kind; from = from; to = to } ∷ []
 
 -- How many bytes these characters take.
 abbrev pub byte_len : List ℕ → ℕ
@@ -46,7 +46,7 @@ byte_len cs = sum_by len_utf8 cs
 abbrev pub tokens_from : ℕ → List ℕ → List Piece → List Token
 tokens_from at left [] = []
 tokens_from at left (p ∷ ps) =
-    placed p.kind at (at + byte_len (take p.size left)) ++ tokens_from (at + byte_len (take p.size left)) (drop p.size left) ps
+    token_at p.kind at (at + byte_len (take p.size left)) ++ tokens_from (at + byte_len (take p.size left)) (drop p.size left) ps
 
 -- The tokens of the text with these characters.
 abbrev pub tokens_in : Schema → List ℕ → List Token

@@ -53,14 +53,14 @@ is_joining Kind.Xor = true
 is_joining _ = false
 
 -- NEAR.
-abbrev pub is_near : Kind → Bool
-is_near (Kind.Near n) = true
-is_near _ = false
+abbrev pub is_near_sign : Kind → Bool
+is_near_sign (Kind.Near n) = true
+is_near_sign _ = false
 
 -- ADJ.
-abbrev pub is_adj : Kind → Bool
-is_adj (Kind.Adj n) = true
-is_adj _ = false
+abbrev pub is_adj_sign : Kind → Bool
+is_adj_sign (Kind.Adj n) = true
+is_adj_sign _ = false
 
 -- An item, or a bracket that opens.
 abbrev pub begins_unit : Kind → Bool
@@ -87,24 +87,24 @@ depth_behind depth Kind.Close = pred depth
 depth_behind depth _ = depth
 
 -- How many brackets are open behind these tokens, the last of which stands first.
-abbrev pub depth_of : List Kind → ℕ
-depth_of [] = 0
-depth_of (k ∷ before) = depth_behind (depth_of before) k
+abbrev pub brackets_at : List Kind → ℕ
+brackets_at [] = 0
+brackets_at (k ∷ before) = depth_behind (brackets_at before) k
 
 -- How many leaves a token counts for: each word of an item with several, and every other item one.
-abbrev pub leaves_of : Kind → ℕ
-leaves_of (Kind.Joined field texts) = length texts
-leaves_of (Kind.Quote field texts) = length texts
-leaves_of k = if is_item k then 1 else 0
+abbrev pub leaves_by : Kind → ℕ
+leaves_by (Kind.Joined field texts) = length texts
+leaves_by (Kind.Quote field texts) = length texts
+leaves_by k = if is_item k then 1 else 0
 
 -- The leaves of these tokens.
-abbrev pub leaves_in : List Kind → ℕ
-leaves_in [] = 0
-leaves_in (k ∷ ks) = leaves_of k + leaves_in ks
+abbrev pub leaves_among : List Kind → ℕ
+leaves_among [] = 0
+leaves_among (k ∷ ks) = leaves_by k + leaves_among ks
 
 -- A bracket that closes, where none is open before it.
 abbrev pub is_stray : List Kind → Kind → Bool
-is_stray before k = is_close k && depth_of before == 0
+is_stray before k = is_close k && brackets_at before == 0
 
 -- Whether the depth, being `now` before these tokens, is `wanted` behind some of them.
 abbrev pub comes_to : ℕ → ℕ → List Kind → Bool
@@ -113,7 +113,7 @@ comes_to wanted now (k ∷ ks) = depth_behind now k == wanted || comes_to wanted
 
 -- A bracket that opens, behind which the depth never comes back to the depth before it.
 abbrev pub is_unclosed : List Kind → Kind → List Kind → Bool
-is_unclosed before k behind = is_open k && not (comes_to (depth_of before) (suc (depth_of before)) behind)
+is_unclosed before k behind = is_open k && not (comes_to (brackets_at before) (suc (brackets_at before)) behind)
 
 -- AND, OR or XOR stands behind a unit, and before one, a mark or NOT.
 abbrev pub lacks_side : List Kind → Kind → List Kind → Bool
@@ -142,8 +142,8 @@ is_between before behind = first_is is_word before && first_is is_word behind
 
 -- NEAR and ADJ stand between two words, with a distance, and a chain has one of them alone.
 abbrev pub is_bad_near : List Kind → Kind → List Kind → Bool
-is_bad_near before (Kind.Near n) behind = not (is_between before behind) || not (is_distance n) || second_is is_adj before
-is_bad_near before (Kind.Adj n) behind = not (is_between before behind) || not (is_distance n) || second_is is_near before
+is_bad_near before (Kind.Near n) behind = not (is_between before behind) || not (is_distance n) || second_is is_adj_sign before
+is_bad_near before (Kind.Adj n) behind = not (is_between before behind) || not (is_distance n) || second_is is_near_sign before
 is_bad_near before _ behind = false
 
 -- A field of numbers.
@@ -158,11 +158,11 @@ is_bad_range schema _ = false
 
 -- A bracket opens, and 100 are open already.
 abbrev pub is_too_deep : List Kind → Kind → Bool
-is_too_deep before k = is_open k && nat_le 100 (depth_of before)
+is_too_deep before k = is_open k && nat_le 100 (brackets_at before)
 
 -- An item with which there are more than 1,024 leaves, and without which there are not.
 abbrev pub is_too_many : List Kind → Kind → Bool
-is_too_many before k = is_item k && nat_le (leaves_in before) 1024 && nat_lt 1024 (leaves_in before + leaves_of k)
+is_too_many before k = is_item k && nat_le (leaves_among before) 1024 && nat_lt 1024 (leaves_among before + leaves_by k)
 
 -- The fault of a token: the first of these that it has.
 abbrev pub fault_at : Schema → List Kind → Kind → List Kind → Option FaultKind

@@ -11,7 +11,7 @@ use Rattle.sk_grammar.specs.Cutting.{tokens_of}
 use Rattle.sk_grammar.specs.Faults.{is_not, kinds_of, fault_in}
 use Rattle.sk_grammar.specs.Brackets.{Nest, single, bracket, Nests, no_nests, nest, Levels, levels_of}
 use Rattle.sk_grammar.specs.Parts.{Part, unit, empty, operator, prefix_in, part_of, chained}
-use Rattle.sk_grammar.specs.Runs.{joined, without, all_of, run_tree}
+use Rattle.sk_grammar.specs.Runs.{joined, excluding, all_of, run_tree}
 
 -- AND, OR, XOR.
 abbrev pub is_and : Kind → Bool
@@ -61,8 +61,8 @@ runs fresh negative (p ∷ ps) =
     else in_run p (runs false negative ps))
 
 -- The runs of a part of XOR.
-abbrev pub runs_in : List Part → List Run
-runs_in ps = runs true false ps
+abbrev pub xor_runs : List Part → List Run
+xor_runs ps = runs true false ps
 
 abbrev pub is_positive : Run → Bool
 is_positive run = not run.negative
@@ -73,11 +73,11 @@ run_trees join test rs = map (λ (run : Run). run_tree join run.inside) (filter 
 
 -- The query of runs: all that are positive, without the negative ones.
 abbrev pub runs_tree : Join → List Run → Tree
-runs_tree join rs = without (all_of (run_trees join is_positive rs)) (run_trees join Run.negative rs)
+runs_tree join rs = excluding (all_of (run_trees join is_positive rs)) (run_trees join Run.negative rs)
 
 -- The query of what stands between two XOR.
 abbrev pub and_tree : Join → List Part → Tree
-and_tree join ps = runs_tree join (runs_in ps)
+and_tree join ps = runs_tree join (xor_runs ps)
 
 -- The query of what stands between two OR.
 abbrev pub xor_tree : Join → List Part → Tree

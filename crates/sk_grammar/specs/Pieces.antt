@@ -11,7 +11,7 @@ use Rattle.sk_base.specs.Fields.{place_of}
 use Rattle.sk_base.specs.Names.{is_name_byte}
 use Rattle.sk_text.specs.Characters.{is_word_char, begins_word}
 use Rattle.sk_grammar.specs.declared.token.Kind.{Kind}
-use Rattle.sk_grammar.specs.Characters.{group_len, inner, quote_len, is_good, runs_on, run_len, terms_in}
+use Rattle.sk_grammar.specs.Characters.{group_len, inner, quote_len, is_good, runs_on, run_len, run_terms}
 
 -- A piece of a text: a token, or none where it separates, and how many characters it has.
 pub record Piece : Type 0 where
@@ -32,7 +32,7 @@ longer n p = record { kind = p.kind; size = n + p.size }
 
 -- A quote, by what stands behind its first `"`.
 abbrev pub quote_piece : Option ℕ → List ℕ → Piece
-quote_piece field cs = token_piece (Kind.Quote field (terms_in (inner cs))) (quote_len cs)
+quote_piece field cs = token_piece (Kind.Quote field (run_terms (inner cs))) (quote_len cs)
 
 -- A star (42) that no word character follows directly.
 abbrev pub is_starred : List ℕ → Bool
@@ -84,8 +84,8 @@ group_kind (Some f) text terms = words_kind (Some f) terms
 -- The piece of a group of so many characters.
 abbrev pub group_of_len : Option ℕ → ℕ → List ℕ → Piece
 group_of_len field n cs =
-    if is_one (terms_in (take n cs)) && is_starred (drop n cs) then token_piece (Kind.Wild field (first_term (terms_in (take n cs)))) (n + 1)
-    else token_piece (group_kind field (encode_utf8_all (take n cs)) (terms_in (take n cs))) n
+    if is_one (run_terms (take n cs)) && is_starred (drop n cs) then token_piece (Kind.Wild field (first_term (run_terms (take n cs)))) (n + 1)
+    else token_piece (group_kind field (encode_utf8_all (take n cs)) (run_terms (take n cs))) n
 
 -- The piece of the group at this place.
 abbrev pub group_piece : Option ℕ → List ℕ → Piece

@@ -61,8 +61,8 @@ is_wanted u = not (hates u.mark) && is_none u.field
 abbrev pub is_loved : Unit → Bool
 is_loved u = is_wanted u && loves u.mark
 
-abbrev pub is_plain : Unit → Bool
-is_plain u = is_wanted u && not (loves u.mark)
+abbrev pub is_optional : Unit → Bool
+is_optional u = is_wanted u && not (loves u.mark)
 
 -- The queries of the units that pass.
 abbrev pub queries_of : (Unit → Bool) → List Unit → List Tree
@@ -74,9 +74,9 @@ joined form (t ∷ []) = t
 joined form ts = parts form (trees_from ts)
 
 -- A query with others taken away, if there are any.
-abbrev pub without : Tree → List Tree → Tree
-without base [] = base
-without base (t ∷ ts) = parts Form.AndNot (tree base (trees_from (t ∷ ts)))
+abbrev pub excluding : Tree → List Tree → Tree
+excluding base [] = base
+excluding base (t ∷ ts) = parts Form.AndNot (tree base (trees_from (t ∷ ts)))
 
 -- All of these, or all documents where there are none.
 abbrev pub all_of : List Tree → Tree
@@ -96,34 +96,34 @@ loved_and_plain (t ∷ ts) plain = with_plain (joined Form.And (t ∷ ts)) plain
 
 -- The units that are no filters and not hated, by how a run is joined.
 abbrev pub base_of : Join → List Unit → Tree
-base_of Join.Or us = loved_and_plain (queries_of is_loved us) (queries_of is_plain us)
+base_of Join.Or us = loved_and_plain (queries_of is_loved us) (queries_of is_optional us)
 base_of Join.And us = all_of (queries_of is_wanted us)
 
 -- The filters of one field, in order.
-pub record Group : Type 0 where
+pub record FilterGroup : Type 0 where
   pub field : ℕ
   pub queries : List Tree
 
 -- A filter put to those of its field, or last where it is the first of that.
-abbrev pub added : ℕ → Tree → List Group → List Group
+abbrev pub added : ℕ → Tree → List FilterGroup → List FilterGroup
 added f t [] = record { field = f; queries = t ∷ [] } ∷ []
 added f t (g ∷ gs) = if g.field == f then record { field = g.field; queries = g.queries ++ t ∷ [] } ∷ gs else g ∷ added f t gs
 
-abbrev pub added_filter : Option ℕ → Tree → List Group → List Group
+abbrev pub added_filter : Option ℕ → Tree → List FilterGroup → List FilterGroup
 added_filter None t gs = gs
 added_filter (Some f) t gs = added f t gs
 
 -- The groups of filters, with those of these units put to them in order.
-abbrev pub groups_after : List Group → List Unit → List Group
+abbrev pub groups_after : List FilterGroup → List Unit → List FilterGroup
 groups_after gs [] = gs
 groups_after gs (u ∷ us) = groups_after (if is_filter u then added_filter u.field u.query gs else gs) us
 
 -- What the filters of one field let through.
-abbrev pub group_tree : Group → Tree
+abbrev pub group_tree : FilterGroup → Tree
 group_tree g = joined Form.Or g.queries
 
 -- A query under filters, if there are any.
-abbrev pub filtered : Tree → List Group → Tree
+abbrev pub filtered : Tree → List FilterGroup → Tree
 filtered base [] = base
 filtered base (g ∷ gs) = parts Form.Filter (tree base (trees_from (map group_tree (g ∷ gs))))
 
@@ -131,7 +131,7 @@ filtered base (g ∷ gs) = parts Form.Filter (tree base (trees_from (map group_t
 abbrev pub units_tree : Join → List Unit → Tree
 units_tree join [] = nothing
 units_tree join (u ∷ us) =
-    without (filtered (base_of join (u ∷ us)) (groups_after [] (u ∷ us))) (queries_of is_hated (u ∷ us))
+    excluding (filtered (base_of join (u ∷ us)) (groups_after [] (u ∷ us))) (queries_of is_hated (u ∷ us))
 
 -- The query of a run.
 abbrev pub run_tree : Join → List Part → Tree

@@ -3,7 +3,7 @@ use Rattle.std.proofs.Common.{◌≡◌, ℕ, Bool, true, false, ◌∷◌, [], 
 use Rattle.sk_base.specs.declared.rank.OrderBy.{OrderBy}
 use Rattle.sk_base.specs.declared.rank.SortKey.{SortKey}
 use Rattle.sk_heap.specs.declared.hit.Hit.{Hit}
-use Rattle.sk_heap.specs.Held.{Held, best_hits, need_of, offered, without}
+use Rattle.sk_heap.specs.Held.{Held, best_hits, need_of, offered, without_hit}
 
 -- a hit of this weight, value and id
 abbrev hit : ℕ → List ℕ → ℕ → Hit
@@ -74,5 +74,5 @@ enters = refl
 stays_out : map (λ (h : Hit). h.rank.id) (offered (hit 5 [] 4) (heap 3 OrderBy.Relevance false)).hits ≡ 2 ∷ 1 ∷ 3 ∷ []
 stays_out = refl
 
-taken_out : map (λ (h : Hit). h.rank.id) (without 1 (heap 3 OrderBy.Relevance false)).hits ≡ 2 ∷ 3 ∷ []
+taken_out : map (λ (h : Hit). h.rank.id) (without_hit 1 (heap 3 OrderBy.Relevance false)).hits ≡ 2 ∷ 3 ∷ []
 taken_out = refl

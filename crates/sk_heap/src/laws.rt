@@ -5,12 +5,12 @@ ghost use Rattle.sk_base.specs.declared.rank.Rank.{Rank};
 ghost use Rattle.sk_base.specs.Before.{is_before};
 ghost use Rattle.sk_model.specs.Page.{place, best_first};
 ghost use Rattle.sk_heap.specs.declared.hit.Hit.{Hit};
-ghost use Rattle.sk_heap.specs.Held.{Held, placed, best_hits, ranks_of, need_of, holds_for_any_id, offered, without, NeverFalls, IsInOrder};
+ghost use Rattle.sk_heap.specs.Held.{Held, placed_hit, best_hits, ranks_of, need_of, holds_for_any_id, offered, without_hit, NeverFalls, IsInOrder};
 
 /// Laws: the ranks of hits in order are those ranks in order.
 pub fn ranks_in_order()
     ensures best { (order : Order) (hits : List Hit) → ranks_of (best_hits order hits) ≡ best_first order (ranks_of hits) }
-    ensures placed { (order : Order) (x : Hit) (hits : List Hit) → ranks_of (placed order x hits) ≡ place order x.rank (ranks_of hits) }
+    ensures placed_hit { (order : Order) (x : Hit) (hits : List Hit) → ranks_of (placed_hit order x hits) ≡ place order x.rank (ranks_of hits) }
 {}
 
 /// A law: a heap that holds the best of some hits holds the best of these and one more once that was offered.
@@ -22,7 +22,7 @@ pub fn best_of_all()
 /// Laws: what a heap holds is in order after an offer, and after a removal.
 pub fn order_is_kept()
     ensures offered { (held : Held) (x : Hit) → IsInOrder held → All (λ h. h.rank.id ≢ x.rank.id) held.hits → IsInOrder (offered x held) }
-    ensures removed { (held : Held) (id : ℕ) → IsInOrder held → IsInOrder (without id held) }
+    ensures removed { (held : Held) (id : ℕ) → IsInOrder held → IsInOrder (without_hit id held) }
 {}
 
 /// Laws: the need never falls while hits are offered, nor while a hit takes the place of one that it comes before.
@@ -31,7 +31,7 @@ pub fn need_never_falls()
         → NeverFalls (need_of held) (need_of (offered x held)) }
     ensures exchanged { (held : Held) (x : Hit) (id : ℕ) → IsInOrder held
         → IfSome (find (λ h. h.rank.id == id) held.hits) (λ y. is_before held.order x.rank y.rank ≡ true)
-        → NeverFalls (need_of held) (need_of (offered x (without id held))) }
+        → NeverFalls (need_of held) (need_of (offered x (without_hit id held))) }
 {}
 
 /// Laws: what weighs less than the need comes after all that are held, if its id is greater than theirs; in some orders

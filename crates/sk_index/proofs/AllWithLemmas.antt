@@ -18,7 +18,7 @@ use Rattle.sk_model.specs.Scores.{wild_wdf}
 use Rattle.sk_documents.specs.Documented.{HasTerms}
 use Rattle.sk_index.specs.Indexed.{postings, AreAllWith}
 use Rattle.sk_index.specs.Listed.{Listed, list_of, IsListed}
-use Rattle.sk_index.specs.Wild.{over, counted, sum_behind}
+use Rattle.sk_index.specs.Wild.{over, share_behind, sum_behind}
 use Rattle.sk_index.proofs.ListedLemmas.{AreTerms-tail, once_at}
 use Rattle.sk_index.proofs.NumberLemmas.{wdf_of-none}
 use Rattle.sk_index.proofs.WildLemmas.{Holds, only, over-same, over-none, over-sum, over-only, sum_behind-next, sum_behind-none, sum_behind-terms_with, holds_all, length_of-none, greatest_of-none}
@@ -61,7 +61,7 @@ module _ (prefix : List ℕ) (terms : List (List ℕ)) (different : AllPairs (λ
       → wild_wdf prefix xs ≡ sum_by (λ n. wdf_of (term_at terms n) xs) ns
   wild_wdf-walk xs ns rising holds w =
       wild_over xs rising holds
-      ∙ over-same (λ t. if begins_with t prefix then wdf_of t xs else 0) (counted (λ t. wdf_of t xs) terms prefix None) terms (λ m lt. by (begins_with (term_at terms m) prefix) (wdf_of (term_at terms m) xs))
+      ∙ over-same (λ t. if begins_with t prefix then wdf_of t xs else 0) (share_behind (λ t. wdf_of t xs) terms prefix None) terms (λ m lt. by (begins_with (term_at terms m) prefix) (wdf_of (term_at terms m) xs))
       ∙ sym (walk-sum (λ t. wdf_of t xs) terms prefix None ns different w)
     where
       by : (b : Bool) (k : ℕ) → (if b then k else 0) ≡ (if b && true then k else 0)

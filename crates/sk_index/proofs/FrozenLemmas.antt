@@ -6,16 +6,16 @@ use Rattle.std.proofs.lemmas.List.Elements.{All-from_recursion}
 use Rattle.sk_base.proofs.Tests.{first_so, second_so}
 use Rattle.sk_base.specs.Order.{ArePositions}
 use Rattle.sk_index.specs.declared.packed_terms.PackedTerm.{PackedTerm}
-use Rattle.sk_index.specs.Packed.{NumberedTerm, no_term, numbered_at, cut, RiseTo, ArePlaced, IsPacked, heads_of, wdfs_of, are_plain, kept_wdfs, words_of, count_in, terms_in, end_of, begin_in, behind, end_in, frozen_terms, frozen, IsFrozen}
+use Rattle.sk_index.specs.Packed.{NumberedTerm, no_term, numbered_at, cut_positions, RiseTo, ArePlaced, IsPacked, heads_of, wdfs_of, are_plain, kept_wdfs, words_of, term_count, terms_by_heads, end_of_positions, begin_in, words_behind, end_in, frozen_terms, frozen, IsFrozen}
 use Rattle.sk_index.proofs.PackedLemmas.{rise_le, length-cut, cut-append}
 
 -- there are as many terms as the words say
-length-terms_in : (n from : ℕ) (heads wdfs : List ℕ) → length (terms_in n from heads wdfs) ≡ n
+length-terms_in : (n from : ℕ) (heads wdfs : List ℕ) → length (terms_by_heads n from heads wdfs) ≡ n
 length-terms_in zero from heads wdfs = refl
 length-terms_in (suc n) from heads wdfs = ap suc (length-terms_in n (get_or heads 1 0) (drop 2 heads) (drop 1 wdfs))
 
-pub length-frozen : (words : List ℕ) → length (frozen words) ≡ count_in words
-length-frozen words = length-cut 0 (frozen_terms words) (behind words) ∙ length-terms_in (count_in words) 0 (drop 1 words) (drop (end_in words) (behind words))
+pub length-frozen : (words : List ℕ) → length (frozen words) ≡ term_count words
+length-frozen words = length-cut 0 (frozen_terms words) (words_behind words) ∙ length-terms_in (term_count words) 0 (drop 1 words) (drop (end_in words) (words_behind words))
 
 -- a number read behind the first head
 read_next : (heads : List ℕ) (i k : ℕ) → k ≡ 2 + i → get_or (drop 2 heads) i 0 ≡ get_or heads k 0
@@ -26,7 +26,7 @@ read_head : (words : List ℕ) (i k : ℕ) → k ≡ 1 + i → get_or (drop 1 wo
 read_head words i k e = get_or-drop 1 words i 0 ∙ ap (λ m. get_or words m 0) (sym e)
 
 -- the number of the i-th
-number-in : (n from : ℕ) (heads wdfs positions : List ℕ) (i : ℕ) → i < n → (numbered_at (cut from (terms_in n from heads wdfs) positions) i).number ≡ get_or heads (2 * i) 0
+number-in : (n from : ℕ) (heads wdfs positions : List ℕ) (i : ℕ) → i < n → (numbered_at (cut_positions from (terms_by_heads n from heads wdfs) positions) i).number ≡ get_or heads (2 * i) 0
 number-in zero from heads wdfs positions i lt = absurd (omega arith)
 number-in (suc n) from heads wdfs positions zero lt = refl
 number-in (suc n) from heads wdfs positions (suc i) lt =
@@ -43,7 +43,7 @@ begin-words words (suc i) lt = read_head words (2 * i + 1) (2 * suc i) (omega ar
 
 -- its positions
 positions-in : (n from : ℕ) (heads wdfs positions : List ℕ) (i : ℕ) → i < n
-    → (numbered_at (cut from (terms_in n from heads wdfs) positions) i).positions ≡ slice_range positions (begin_in from heads i) (get_or heads (2 * i + 1) 0)
+    → (numbered_at (cut_positions from (terms_by_heads n from heads wdfs) positions) i).positions ≡ slice_range positions (begin_in from heads i) (get_or heads (2 * i + 1) 0)
 positions-in zero from heads wdfs positions i lt = absurd (omega arith)
 positions-in (suc n) from heads wdfs positions zero lt = refl
 positions-in (suc n) from heads wdfs positions (suc i) lt =
@@ -55,10 +55,10 @@ pub record IsPart (from to total : ℕ) : Type 0 where
   pub rises : from ≤ to
   pub inside : to ≤ total
 
-part-in : (n from : ℕ) (heads wdfs : List ℕ) (to i : ℕ) → RiseTo from (terms_in n from heads wdfs) to → i < n → IsPart (begin_in from heads i) (get_or heads (2 * i + 1) 0) to
+part-in : (n from : ℕ) (heads wdfs : List ℕ) (to i : ℕ) → RiseTo from (terms_by_heads n from heads wdfs) to → i < n → IsPart (begin_in from heads i) (get_or heads (2 * i + 1) 0) to
 part-in zero from heads wdfs to i r lt = absurd (omega arith)
 part-in (suc n) from heads wdfs to zero r lt =
-    record { rises = r.0; inside = rise_le (get_or heads 1 0) (terms_in n (get_or heads 1 0) (drop 2 heads) (drop 1 wdfs)) to r.1 }
+    record { rises = r.0; inside = rise_le (get_or heads 1 0) (terms_by_heads n (get_or heads 1 0) (drop 2 heads) (drop 1 wdfs)) to r.1 }
 part-in (suc n) from heads wdfs to (suc i) r lt =
     let part : IsPart (begin_in (get_or heads 1 0) (drop 2 heads) i) (get_or (drop 2 heads) (2 * i + 1) 0) to =
     part-in n (get_or heads 1 0) (drop 2 heads) (drop 1 wdfs) to i r.1 (omega arith) in
@@ -73,7 +73,7 @@ module _ (items words : List ℕ) (same : words ≡ items) (now : List NumberedT
   same_view = ap frozen same ∙ view
 
   -- the term is there
-  there : i < count_in words
+  there : i < term_count words
   there = omega (arith, ap length same_view, length-frozen words)
 
   -- its head stands in the words
@@ -81,16 +81,16 @@ module _ (items words : List ℕ) (same : words ≡ items) (now : List NumberedT
   head_inside = omega (arith, there, sound.inside)
 
   -- so do all heads
-  pub heads_inside : 2 * count_in words < length words
+  pub heads_inside : 2 * term_count words < length words
   heads_inside = omega (arith, there, sound.inside)
 
   -- its number
   pub number_is : get_or words (2 * i + 1) 0 ≡ (numbered_at now i).number
   number_is =
       sym (ap (λ (w : List NumberedTerm). (numbered_at w i).number) (sym same_view)
-      ∙ number-in (count_in words) 0 (drop 1 words) (drop (end_in words) (behind words)) (behind words) i there ∙ read_head words (2 * i) (2 * i + 1) (omega arith))
+      ∙ number-in (term_count words) 0 (drop 1 words) (drop (end_in words) (words_behind words)) (words_behind words) i there ∙ read_head words (2 * i) (2 * i + 1) (omega arith))
 
-  module _ (seen : List ℕ) (start end : ℕ) (all : seen ≡ behind words) (begins : start ≡ begin_in 0 (drop 1 words) i) (ends : end ≡ get_or words (2 * i + 2) 0) where
+  module _ (seen : List ℕ) (start end : ℕ) (all : seen ≡ words_behind words) (begins : start ≡ begin_in 0 (drop 1 words) i) (ends : end ≡ get_or words (2 * i + 2) 0) where
     -- where its positions end
     end_is : end ≡ get_or (drop 1 words) (2 * i + 1) 0
     end_is = ends ∙ sym (read_head words (2 * i + 1) (2 * i + 2) (omega arith))
@@ -99,15 +99,15 @@ module _ (items words : List ℕ) (same : words ≡ items) (now : List NumberedT
     pub part_inside : IsPart start end (length seen)
     part_inside =
         let part : IsPart (begin_in 0 (drop 1 words) i) (get_or (drop 1 words) (2 * i + 1) 0) (end_in words) =
-        part-in (count_in words) 0 (drop 1 words) (drop (end_in words) (behind words)) (end_in words) i sound.fill there in
-        let size : length seen ≡ length words - (2 * count_in words + 1) = ap length all ∙ length-drop (2 * count_in words + 1) words in
+        part-in (term_count words) 0 (drop 1 words) (drop (end_in words) (words_behind words)) (end_in words) i sound.fill there in
+        let size : length seen ≡ length words - (2 * term_count words + 1) = ap length all ∙ length-drop (2 * term_count words + 1) words in
         record { rises = omega (arith, part.rises, begins, end_is); inside = omega (arith, part.inside, sound.inside, end_is, size, heads_inside) }
 
     -- and are the term's
     pub part_is : slice_range seen start end ≡ (numbered_at now i).positions
     part_is =
         (λ j. slice_range (all j) (begins j) (end_is j))
-        ∙ sym (positions-in (count_in words) 0 (drop 1 words) (drop (end_in words) (behind words)) (behind words) i there)
+        ∙ sym (positions-in (term_count words) 0 (drop 1 words) (drop (end_in words) (words_behind words)) (words_behind words) i there)
         ∙ ap (λ (w : List NumberedTerm). (numbered_at w i).positions) same_view
 
     -- and rise
@@ -122,25 +122,25 @@ length-heads [] = refl
 length-heads (one ∷ more) = omega (arith, length-heads more)
 
 -- the positions end where they rise to
-end-heads : (from : ℕ) (terms : List PackedTerm) (to : ℕ) (rest : List ℕ) → RiseTo from terms to → end_of (length terms) from (heads_of terms ++ rest) ≡ to
+end-heads : (from : ℕ) (terms : List PackedTerm) (to : ℕ) (rest : List ℕ) → RiseTo from terms to → end_of_positions (length terms) from (heads_of terms ++ rest) ≡ to
 end-heads from [] to rest r = r
 end-heads from (one ∷ more) to rest r = end-heads one.end more to rest r.1
 
 -- the terms by their heads alone
-terms-plain : (from : ℕ) (terms : List PackedTerm) (rest : List ℕ) → are_plain from terms ≡ true → terms_in (length terms) from (heads_of terms ++ rest) [] ≡ terms
+terms-plain : (from : ℕ) (terms : List PackedTerm) (rest : List ℕ) → are_plain from terms ≡ true → terms_by_heads (length terms) from (heads_of terms ++ rest) [] ≡ terms
 terms-plain from [] rest plain = refl
 terms-plain from (one ∷ more) rest plain =
     let here : one.wdf ≡ one.end - from = eqb-true one.wdf (one.end - from) (first_so (one.wdf == (one.end - from)) (are_plain one.end more) plain) in
     let next : are_plain one.end more ≡ true = second_so (one.wdf == (one.end - from)) (are_plain one.end more) plain in
-    ap (λ (k : ℕ). let x : PackedTerm = record { number = one.number; wdf = k; end = one.end } in x ∷ terms_in (length more) one.end (heads_of more ++ rest) []) (sym here)
+    ap (λ (k : ℕ). let x : PackedTerm = record { number = one.number; wdf = k; end = one.end } in x ∷ terms_by_heads (length more) one.end (heads_of more ++ rest) []) (sym here)
     ∙ ap (λ (ts : List PackedTerm). one ∷ ts) (terms-plain one.end more rest next)
 
 -- and with their wdfs
-terms-told : (from : ℕ) (terms : List PackedTerm) (rest : List ℕ) → terms_in (length terms) from (heads_of terms ++ rest) (wdfs_of terms) ≡ terms
+terms-told : (from : ℕ) (terms : List PackedTerm) (rest : List ℕ) → terms_by_heads (length terms) from (heads_of terms ++ rest) (wdfs_of terms) ≡ terms
 terms-told from [] rest = refl
 terms-told from (one ∷ more) rest = ap (λ (ts : List PackedTerm). one ∷ ts) (terms-told one.end more rest)
 
-terms-kept : (terms : List PackedTerm) (rest : List ℕ) (b : Bool) → are_plain 0 terms ≡ b → terms_in (length terms) 0 (heads_of terms ++ rest) (if b then [] else wdfs_of terms) ≡ terms
+terms-kept : (terms : List PackedTerm) (rest : List ℕ) (b : Bool) → are_plain 0 terms ≡ b → terms_by_heads (length terms) 0 (heads_of terms ++ rest) (if b then [] else wdfs_of terms) ≡ terms
 terms-kept terms rest true plain = terms-plain 0 terms rest plain
 terms-kept terms rest false plain = terms-told 0 terms rest
 
@@ -152,21 +152,21 @@ module _ (terms : List PackedTerm) (positions : List ℕ) (packed : IsPacked ter
   end-joined : end_in joined ≡ length positions
   end-joined = end-heads 0 terms (length positions) (positions ++ kept_wdfs terms) packed.fill
 
-  behind-joined : behind joined ≡ positions ++ kept_wdfs terms
+  behind-joined : words_behind joined ≡ positions ++ kept_wdfs terms
   behind-joined =
       let one_more : 2 * length terms + 1 ≡ suc (2 * length terms) = omega arith in
       ap (λ (k : ℕ). drop k joined) one_more ∙ drop_at (heads_of terms) (positions ++ kept_wdfs terms) (2 * length terms) (length-heads terms)
 
-  wdfs-joined : drop (end_in joined) (behind joined) ≡ kept_wdfs terms
+  wdfs-joined : drop (end_in joined) (words_behind joined) ≡ kept_wdfs terms
   wdfs-joined = (λ j. drop (end-joined j) (behind-joined j)) ∙ drop_at positions (kept_wdfs terms) (length positions) refl
 
   terms-joined : frozen_terms joined ≡ terms
   terms-joined =
-      ap (terms_in (length terms) 0 (heads_of terms ++ (positions ++ kept_wdfs terms))) wdfs-joined
+      ap (terms_by_heads (length terms) 0 (heads_of terms ++ (positions ++ kept_wdfs terms))) wdfs-joined
       ∙ terms-kept terms (positions ++ kept_wdfs terms) (are_plain 0 terms) refl
 
-  frozen-joined : frozen joined ≡ cut 0 terms positions
-  frozen-joined = (λ j. cut 0 (terms-joined j) (behind-joined j)) ∙ cut-append 0 terms (length positions) positions (kept_wdfs terms) packed.fill (omega arith)
+  frozen-joined : frozen joined ≡ cut_positions 0 terms positions
+  frozen-joined = (λ j. cut_positions 0 (terms-joined j) (behind-joined j)) ∙ cut-append 0 terms (length positions) positions (kept_wdfs terms) packed.fill (omega arith)
 
   IsFrozen-joined : IsFrozen joined
   IsFrozen-joined = record {
@@ -179,7 +179,7 @@ module _ (terms : List PackedTerm) (positions : List ℕ) (packed : IsPacked ter
 pub IsFrozen-none : IsFrozen []
 IsFrozen-none = record { inside = omega arith; fill = refl; placed = tt }
 
-frozen-words : (terms : List PackedTerm) (positions : List ℕ) → IsPacked terms positions → frozen (words_of terms positions) ≡ cut 0 terms positions
+frozen-words : (terms : List PackedTerm) (positions : List ℕ) → IsPacked terms positions → frozen (words_of terms positions) ≡ cut_positions 0 terms positions
 frozen-words [] positions p = refl
 frozen-words (one ∷ more) positions p = frozen-joined (one ∷ more) positions p
 
@@ -193,7 +193,7 @@ module _ (terms terms' : List PackedTerm) (positions positions' words : List ℕ
   made_of = made ∙ (λ j. words_of (same_terms j) (same_positions j))
 
   -- words that were made of the terms are these
-  pub frozen_is : (now : List NumberedTerm) → cut 0 terms positions ≡ now → frozen words ≡ now
+  pub frozen_is : (now : List NumberedTerm) → cut_positions 0 terms positions ≡ now → frozen words ≡ now
   frozen_is now view = ap frozen made_of ∙ frozen-words terms positions packed ∙ view
 
   pub frozen_sound : IsFrozen words

@@ -12,9 +12,9 @@ use Rattle.sk_base.specs.declared.doc_entry.DocTerm.{DocTerm}
 use Rattle.sk_base.specs.Order.{Precedes}
 use Rattle.sk_base.specs.Documents.{AreTerms, positions_of}
 use Rattle.sk_dict.specs.Terms.{term_at, term_cmp}
-use Rattle.sk_index.specs.Packed.{NumberedTerm, no_term, numbered_at, positions_at, AreKnown}
+use Rattle.sk_index.specs.Packed.{NumberedTerm, no_term, numbered_at, positions_at_place, AreKnown}
 use Rattle.sk_index.specs.Placed.{IsBetween}
-use Rattle.sk_index.specs.Unpacked.{named, named_all}
+use Rattle.sk_index.specs.Unpacked.{with_its_text, named_all}
 use Rattle.sk_index.proofs.ListedLemmas.{Precedes-irrefl}
 use Rattle.sk_index.proofs.UnpackedLemmas.{known_at, named_at}
 use Rattle.sk_index.proofs.WildLemmas.{less_is}
@@ -111,7 +111,7 @@ positions_there t terms n e is rising lt same =
     here d = ap (λ (one : DocTerm). one.term) (sym (is ∙ get_or_default terms n e d lt)) ∙ same
 
 -- nothing stands behind all terms
-pub positions-past : (packed : List NumberedTerm) (place : ℕ) → length packed ≤ place → positions_at packed place ≡ []
+pub positions-past : (packed : List NumberedTerm) (place : ℕ) → length packed ≤ place → positions_at_place packed place ≡ []
 positions-past packed place le = ap (λ (one : NumberedTerm). one.positions) (get_or_past packed place no_term le)
 
 -- different numbers have different terms
@@ -127,17 +127,17 @@ number-same dict m n different low high same = elim (cases_order m n) as (λ _. 
 -- the place that the number has, or one behind all terms
 pub positions_numbered : (dict : List (List ℕ)) (packed : List NumberedTerm) (n place : ℕ) → AllPairs (λ s t. s ≢ t) dict → AreKnown (length dict) packed → AreTerms (named_all dict packed) → n < length dict
     → ((k : ℕ) → k < place → (numbered_at packed k).number ≢ n) → (place < length packed → (numbered_at packed place).number ≡ n)
-    → positions_at packed place ≡ positions_of (term_at dict n) (named_all dict packed)
+    → positions_at_place packed place ≡ positions_of (term_at dict n) (named_all dict packed)
 positions_numbered dict packed n place different known rising there before found =
-    elim (cases_lt place (length packed)) as (λ _. positions_at packed place ≡ positions_of (term_at dict n) (named_all dict packed)) [
+    elim (cases_lt place (length packed)) as (λ _. positions_at_place packed place ≡ positions_of (term_at dict n) (named_all dict packed)) [
       | inl lt ↦
-          let e : DocTerm = named dict (numbered_at packed place) in
+          let e : DocTerm = with_its_text dict (numbered_at packed place) in
           sym (positions_there (term_at dict n) (named_all dict packed) place e (named_at dict packed place e lt) rising (omega (arith, lt, size)) (ap (term_at dict) (found lt)))
       | inr le ↦ positions-past packed place le ∙ sym (positions-none (term_at dict n) (named_all dict packed) (λ k d lt. other k d (omega (arith, lt, size)) (omega (arith, lt, size, le))))
     ]
   where
     size : length (named_all dict packed) ≡ length packed
-    size = length-map packed (named dict)
+    size = length-map packed (with_its_text dict)
 
     other : (k : ℕ) (d : DocTerm) → k < length packed → k < place → (get_or (named_all dict packed) k d).term ≡ term_at dict n → ⊥
     other k d lt below same =

@@ -20,7 +20,7 @@ use Rattle.sk_index.specs.declared.slot_lists.SlotEntry.{SlotEntry}
 use Rattle.sk_index.specs.Indexed.{posting_in, postings, all_postings, valued_in, slot_values, slot_value}
 use Rattle.sk_index.specs.Listed.{Listed, PutsAll, TakesOutAll}
 use Rattle.sk_index.specs.Slotted.{SetsAll, ClearsAll, IsNowhere}
-use Rattle.sk_index.specs.Stands.{AreSlotsOf, Stands}
+use Rattle.sk_index.specs.Stands.{AreSlotsOf, ListsStand}
 
 -- an entry has the id of its document
 posting_named : (t : List ℕ) (one : ℕ × Document) (p : ℕ × ℕ) → posting_in t one ≡ Some p → p.0 ≡ one.0
@@ -112,7 +112,7 @@ all_postings-without id d docs some = all_made (without_id id docs) ∙ picked-w
 -- all lists with one document more
 pub Stands-put : (docs : Docs) (all all2 : Runs) (listed listed2 : Listed) (slots slots2 : List SlotEntry) (id : ℕ) (d : Document)
     → flat all2 ≡ put id 0 (flat all) → PutsAll id d.terms listed listed2 → SetsAll id d.values slots slots2
-    → RiseAbove 0 docs → document_at id docs ≡ None → Stands all listed slots docs → Stands all2 listed2 slots2 (put_document id d docs)
+    → RiseAbove 0 docs → document_at id docs ≡ None → ListsStand all listed slots docs → ListsStand all2 listed2 slots2 (put_document id d docs)
 Stands-put docs all all2 listed listed2 slots slots2 id d a l v up none old = record {
   all_is = a ∙ ap (put id 0) old.all_is ∙ sym (all_postings-put id d docs up none);
   lists = λ t. l t ∙ ap (λ (ps : Postings). if has_term t d.terms then put id (wdf_of t d.terms) ps else ps) (old.lists t) ∙ sym (postings-put t id d docs up none);
@@ -122,7 +122,7 @@ Stands-put docs all all2 listed listed2 slots slots2 id d a l v up none old = re
 -- all lists without a document
 pub Stands-without : (docs : Docs) (all all2 : Runs) (listed listed2 : Listed) (slots slots2 : List SlotEntry) (id : ℕ) (d : Document)
     → flat all2 ≡ without id (flat all) → TakesOutAll id d.terms listed listed2 → ClearsAll id slots slots2
-    → RiseAbove 0 docs → document_at id docs ≡ Some d → Stands all listed slots docs → Stands all2 listed2 slots2 (without_id id docs)
+    → RiseAbove 0 docs → document_at id docs ≡ Some d → ListsStand all listed slots docs → ListsStand all2 listed2 slots2 (without_id id docs)
 Stands-without docs all all2 listed listed2 slots slots2 id d a l v up some old = record {
   all_is = a ∙ ap (without id) old.all_is ∙ sym (all_postings-without id d docs some);
   lists = λ t. l t ∙ ap (λ (ps : Postings). if has_term t d.terms then without id ps else ps) (old.lists t) ∙ sym (postings-without t id d docs some);

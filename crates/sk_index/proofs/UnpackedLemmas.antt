@@ -18,11 +18,11 @@ use Rattle.sk_sorted.specs.Runs.{flat}
 use Rattle.sk_lists.specs.Lists.{Runs}
 use Rattle.sk_index.specs.declared.slot_lists.SlotEntry.{SlotEntry}
 use Rattle.sk_index.specs.Packed.{NumberedTerm, no_term, numbered_at, AreKnown}
-use Rattle.sk_index.specs.Unpacked.{named, named_all, unpacked, unpacked_all, HasKnown, Grows, AreWhole}
+use Rattle.sk_index.specs.Unpacked.{with_its_text, named_all, unpacked, unpacked_all, HasKnown, Grows, AreWhole}
 use Rattle.sk_index.specs.Listed.{Listed, PutsAll, TakesOut, TakesOutAll}
 use Rattle.sk_index.specs.Slotted.{SetsAll, ClearsAll, KeepsOthers}
 use Rattle.sk_index.specs.Payloads.{Payloads, KeepsPayloads}
-use Rattle.sk_index.specs.Stands.{Stands}
+use Rattle.sk_index.specs.Stands.{ListsStand}
 use Rattle.sk_index.proofs.PackedLemmas.{AllByRecursion-push}
 use Rattle.sk_index.proofs.ListedLemmas.{takes_on}
 use Rattle.sk_index.proofs.StandsLemmas.{Stands-put, Stands-without}
@@ -59,8 +59,8 @@ pub names_on : (old new : List (List ℕ)) (terms : List DocTerm) (i n : ℕ) (x
     → named_all new (made ++ record { number = n; wdf = x.wdf; positions = x.positions } ∷ []) ≡ take (i + 1) terms
 names_on old new terms i n x made g known before lt is text =
     let one : NumberedTerm = record { number = n; wdf = x.wdf; positions = x.positions } in
-    let here : named new one ≡ x = λ k. record { term = text k; wdf = x.wdf; positions = x.positions } in
-    map-append (named new) made (one ∷ []) ∙ (λ k. (named-grown old new made g known ∙ before) k ++ (here ∙ is) k ∷ []) ∙ sym (take_more terms i x lt)
+    let here : with_its_text new one ≡ x = λ k. record { term = text k; wdf = x.wdf; positions = x.positions } in
+    map-append (with_its_text new) made (one ∷ []) ∙ (λ k. (named-grown old new made g known ∙ before) k ++ (here ∙ is) k ∷ []) ∙ sym (take_more terms i x lt)
 
 pub knows_on : (old new : List (List ℕ)) (made : List NumberedTerm) (one : NumberedTerm) → Grows old new → AreKnown (length old) made → one.number < length new → AreKnown (length new) (made ++ one ∷ [])
 knows_on old new made one g known lt = AllByRecursion-push (λ (t : NumberedTerm). t.number < length new) made one (known-higher (length old) (length new) made g.longer known) lt
@@ -157,8 +157,8 @@ pub known_at : (bound : ℕ) (terms : List NumberedTerm) (i : ℕ) → AreKnown 
 known_at bound terms i known lt = All-from_recursion (λ (one : NumberedTerm). one.number < bound) terms known i no_term lt
 
 -- a named term by its place
-pub named_at : (dict : List (List ℕ)) (packed : List NumberedTerm) (i : ℕ) (d : DocTerm) → i < length packed → named dict (numbered_at packed i) ≡ get_or (named_all dict packed) i d
-named_at dict packed i d lt = sym (get_or-map (named dict) packed i no_term d lt)
+pub named_at : (dict : List (List ℕ)) (packed : List NumberedTerm) (i : ℕ) (d : DocTerm) → i < length packed → with_its_text dict (numbered_at packed i) ≡ get_or (named_all dict packed) i d
+named_at dict packed i d lt = sym (get_or-map (with_its_text dict) packed i no_term d lt)
 
 -- the loop: one term is taken out
 pub takes_next : (id i n : ℕ) (packed : List NumberedTerm) (start mid next : Listed) → AreTerms (named_all start.terms packed) → i < length packed → n ≡ (numbered_at packed i).number → mid.terms ≡ start.terms
@@ -166,8 +166,8 @@ pub takes_next : (id i n : ℕ) (packed : List NumberedTerm) (start mid next : L
     → TakesOut id (term_at mid.terms n) mid next
     → (new : Listed) → TakesOutAll id (drop (i + 1) (named_all start.terms packed)) next new → TakesOutAll id (named_all start.terms packed) start new
 takes_next id i n packed start mid next rising lt is same before one =
-    let x : DocTerm = named start.terms (numbered_at packed i) in
-    takes_on id i (named_all start.terms packed) x start mid next rising (omega (arith, lt, length-map packed (named start.terms))) (named_at start.terms packed i x lt) before
+    let x : DocTerm = with_its_text start.terms (numbered_at packed i) in
+    takes_on id i (named_all start.terms packed) x start mid next rising (omega (arith, lt, length-map packed (with_its_text start.terms))) (named_at start.terms packed i x lt) before
     (subst (λ (w : List ℕ). TakesOut id w mid next) (λ k. term_at (same k) (is k)) one)
 
 -- none is left
@@ -175,7 +175,7 @@ pub takes_end : (id i : ℕ) (packed : List NumberedTerm) (start last : Listed) 
     → ((new : Listed) → TakesOutAll id (drop i (named_all start.terms packed)) last new → TakesOutAll id (named_all start.terms packed) start new)
     → TakesOutAll id (named_all start.terms packed) start last
 takes_end id i packed start last le rest =
-    let none : drop i (named_all start.terms packed) ≡ [] = drop_all i (named_all start.terms packed) (omega (arith, le, length-map packed (named start.terms))) in
+    let none : drop i (named_all start.terms packed) ≡ [] = drop_all i (named_all start.terms packed) (omega (arith, le, length-map packed (with_its_text start.terms))) in
     rest last (subst (λ w. TakesOutAll id w last last) (sym none) (λ t. refl))
 
 -- all with one document more
@@ -194,7 +194,7 @@ module _ (all all2 : Runs) (listed listed2 : Listed) (slots slots2 : List SlotEn
         known = subst (AllByRecursion (HasKnown listed2.terms)) (sym is) (AllByRecursion-put (HasKnown listed2.terms) id p entries known (known-grown listed.terms listed2.terms entries grows whole.known));
         rise = subst (RiseAbove 0) (sym documents-put) (RiseAbove-put 0 id d docs (omega (arith, first)) whole.rise);
         ordered = subst (AllByRecursion HasTerms) (sym documents-put) (AllByRecursion-put HasTerms id d docs ordered whole.ordered);
-        stand = subst (Stands all2 listed2 slots2) (sym documents-put) (Stands-put docs all all2 listed listed2 slots slots2 id d a l v whole.rise none whole.stand);
+        stand = subst (ListsStand all2 listed2 slots2) (sym documents-put) (Stands-put docs all all2 listed listed2 slots slots2 id d a l v whole.rise none whole.stand);
       }
 
 -- all without a document
@@ -215,6 +215,6 @@ module _ (all all2 : Runs) (listed listed2 : Listed) (slots slots2 : List SlotEn
         known = subst (AllByRecursion (HasKnown listed2.terms)) (sym is) (subst (λ w. AllByRecursion (HasKnown w) (without id entries)) (sym same) (AllByRecursion-without (HasKnown listed.terms) id entries whole.known));
         rise = subst (RiseAbove 0) (sym documents-without) (RiseAbove-without 0 id docs whole.rise);
         ordered = subst (AllByRecursion HasTerms) (sym documents-without) (AllByRecursion-without HasTerms id docs whole.ordered);
-        stand = subst (Stands all2 listed2 slots2) (sym documents-without)
+        stand = subst (ListsStand all2 listed2 slots2) (sym documents-without)
             (Stands-without docs all all2 listed listed2 slots slots2 id (unpacked listed.terms slots payloads id p) a l v whole.rise (unpacked-found listed.terms slots payloads id entries ∙ ap (option_map (unpacked listed.terms slots payloads id)) some) whole.stand);
       }

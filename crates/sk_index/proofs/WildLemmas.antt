@@ -19,7 +19,7 @@ use Rattle.sk_model.specs.Documents.{Document}
 use Rattle.sk_index.specs.Indexed.{postings}
 use Rattle.sk_documents.specs.Documented.{HasTerms}
 use Rattle.sk_index.specs.Listed.{Listed, list_of, IsListed}
-use Rattle.sk_index.specs.Wild.{over, is_behind, counted, sum_behind}
+use Rattle.sk_index.specs.Wild.{over, is_term_behind, share_behind, sum_behind}
 use Rattle.sk_index.proofs.ListedLemmas.{list_of-none, AreTerms-tail, once_at}
 use Rattle.sk_index.proofs.NumberLemmas.{none_has, wdf_of-none}
 
@@ -66,14 +66,14 @@ less_is Less e = refl
 less_is Equal e = absurd (true≢false (sym e))
 less_is Greater e = absurd (true≢false (sym e))
 
-behind_itself : (terms : List (List ℕ)) (n : ℕ) → is_behind terms (Some n) (term_at terms n) ≡ false
+behind_itself : (terms : List (List ℕ)) (n : ℕ) → is_term_behind terms (Some n) (term_at terms n) ≡ false
 behind_itself terms n = ap is_lt (tied_itself nat_list_cmp_total (term_at terms n))
 
-behind_from : (terms : List (List ℕ)) (after : Option ℕ) (t : List ℕ) → IfSome after (λ a. Precedes (term_at terms a) t) → is_behind terms after t ≡ true
+behind_from : (terms : List (List ℕ)) (after : Option ℕ) (t : List ℕ) → IfSome after (λ a. Precedes (term_at terms a) t) → is_term_behind terms after t ≡ true
 behind_from terms None t h = refl
 behind_from terms (Some a) t h = ap is_lt h
 
-behind_is : (terms : List (List ℕ)) (after : Option ℕ) (t : List ℕ) → is_behind terms after t ≡ true → IfSome after (λ a. Precedes (term_at terms a) t)
+behind_is : (terms : List (List ℕ)) (after : Option ℕ) (t : List ℕ) → is_term_behind terms after t ≡ true → IfSome after (λ a. Precedes (term_at terms a) t)
 behind_is terms None t h = tt
 behind_is terms (Some a) t h = less_is (term_cmp (term_at terms a) t) h
 
@@ -83,7 +83,7 @@ behind_through terms (Some a) s t h p = nat_list_cmp_total.trans (term_at terms 
 
 -- the next term, and what stands behind it
 counted-next : (f : List ℕ → ℕ) (terms : List (List ℕ)) (prefix : List ℕ) (after : Option ℕ) (n : ℕ) → IsNext terms prefix after n → (m : ℕ) → m < length terms
-    → counted f terms prefix after (term_at terms m) ≡ only (term_at terms n) f (term_at terms m) + counted f terms prefix (Some n) (term_at terms m)
+    → share_behind f terms prefix after (term_at terms m) ≡ only (term_at terms n) f (term_at terms m) + share_behind f terms prefix (Some n) (term_at terms m)
 counted-next f terms prefix after n next m lt = by (bytes_eq (term_at terms n) (term_at terms m)) refl
   where
     t : List ℕ
@@ -96,35 +96,35 @@ counted-next f terms prefix after n next m lt = by (bytes_eq (term_at terms n) (
     unchosen true c k e = ap (λ d. if d then k else 0) e
     unchosen false c k e = refl
 
-    here : term_at terms n ≡ t → counted f terms prefix after t ≡ f t + counted f terms prefix (Some n) t
+    here : term_at terms n ≡ t → share_behind f terms prefix after t ≡ f t + share_behind f terms prefix (Some n) t
     here same =
-        let first : counted f terms prefix after t ≡ f t =
-        chosen (begins_with t prefix) (is_behind terms after t) (f t) (ap (λ w. begins_with w prefix) (sym same) ∙ next.follows.begins)
-        (ap (is_behind terms after) (sym same) ∙ behind_from terms after (term_at terms n) next.follows.behind) in
-        let rest : counted f terms prefix (Some n) t ≡ 0 = unchosen (begins_with t prefix) (is_behind terms (Some n) t) (f t) (ap (is_behind terms (Some n)) (sym same) ∙ behind_itself terms n) in
+        let first : share_behind f terms prefix after t ≡ f t =
+        chosen (begins_with t prefix) (is_term_behind terms after t) (f t) (ap (λ w. begins_with w prefix) (sym same) ∙ next.follows.begins)
+        (ap (is_term_behind terms after) (sym same) ∙ behind_from terms after (term_at terms n) next.follows.behind) in
+        let rest : share_behind f terms prefix (Some n) t ≡ 0 = unchosen (begins_with t prefix) (is_term_behind terms (Some n) t) (f t) (ap (is_term_behind terms (Some n)) (sym same) ∙ behind_itself terms n) in
         omega (arith, first, rest)
 
-    there : (bytes_eq (term_at terms n) t ≡ false) → (b : Bool) → begins_with t prefix ≡ b → (if b && is_behind terms after t then f t else 0) ≡ (if b && is_behind terms (Some n) t then f t else 0)
+    there : (bytes_eq (term_at terms n) t ≡ false) → (b : Bool) → begins_with t prefix ≡ b → (if b && is_term_behind terms after t then f t else 0) ≡ (if b && is_term_behind terms (Some n) t then f t else 0)
     there apart false e = refl
-    there apart true e = ap (λ c. if c then f t else 0) (same_tests (is_behind terms after t) (is_behind terms (Some n) t)
+    there apart true e = ap (λ c. if c then f t else 0) (same_tests (is_term_behind terms after t) (is_term_behind terms (Some n) t)
         (λ h. ap is_lt (next.first m (record { there = lt; begins = e; behind = behind_is terms after t h }) (λ same. true≢false (sym ((bytes_eq-Decides (term_at terms n) t).1 (ap (term_at terms) (sym same))) ∙ apart))))
         (λ h. behind_from terms after t (behind_through terms after (term_at terms n) t next.follows.behind (behind_is terms (Some n) t h))))
 
-    by : (b : Bool) → bytes_eq (term_at terms n) t ≡ b → counted f terms prefix after t ≡ (if b then f t else 0) + counted f terms prefix (Some n) t
+    by : (b : Bool) → bytes_eq (term_at terms n) t ≡ b → share_behind f terms prefix after t ≡ (if b then f t else 0) + share_behind f terms prefix (Some n) t
     by true e = here ((bytes_eq-Decides (term_at terms n) t).0 e)
     by false e = let same = there e (begins_with t prefix) refl in omega (arith, same)
 
 pub sum_behind-next : (f : List ℕ → ℕ) (terms : List (List ℕ)) (prefix : List ℕ) (after : Option ℕ) (n : ℕ) → AllPairs (λ s t. s ≢ t) terms → IsNext terms prefix after n
     → sum_behind f terms prefix after ≡ f (term_at terms n) + sum_behind f terms prefix (Some n)
 sum_behind-next f terms prefix after n different next =
-    over-same (counted f terms prefix after) (λ t. only (term_at terms n) f t + counted f terms prefix (Some n) t) terms (counted-next f terms prefix after n next)
-    ∙ over-sum (only (term_at terms n) f) (counted f terms prefix (Some n)) terms
+    over-same (share_behind f terms prefix after) (λ t. only (term_at terms n) f t + share_behind f terms prefix (Some n) t) terms (counted-next f terms prefix after n next)
+    ∙ over-sum (only (term_at terms n) f) (share_behind f terms prefix (Some n)) terms
     ∙ ap (λ k. k + sum_behind f terms prefix (Some n)) (over-only (term_at terms n) f terms n different next.follows.there refl)
 
 pub sum_behind-none : (f : List ℕ → ℕ) (terms : List (List ℕ)) (prefix : List ℕ) (after : Option ℕ) → HasNoNext terms prefix after → sum_behind f terms prefix after ≡ 0
-sum_behind-none f terms prefix after none = over-none (counted f terms prefix after) terms (λ m lt. by m lt (begins_with (term_at terms m) prefix) (is_behind terms after (term_at terms m)) refl refl)
+sum_behind-none f terms prefix after none = over-none (share_behind f terms prefix after) terms (λ m lt. by m lt (begins_with (term_at terms m) prefix) (is_term_behind terms after (term_at terms m)) refl refl)
   where
-    by : (m : ℕ) → m < length terms → (b c : Bool) → begins_with (term_at terms m) prefix ≡ b → is_behind terms after (term_at terms m) ≡ c → (if b && c then f (term_at terms m) else 0) ≡ 0
+    by : (m : ℕ) → m < length terms → (b c : Bool) → begins_with (term_at terms m) prefix ≡ b → is_term_behind terms after (term_at terms m) ≡ c → (if b && c then f (term_at terms m) else 0) ≡ 0
     by m lt true true e g = absurd (none m (record { there = lt; begins = e; behind = behind_is terms after (term_at terms m) g }))
     by m lt true false e g = refl
     by m lt false c e g = refl
@@ -254,7 +254,7 @@ pub sum_behind-terms_with : (f g : List ℕ → ℕ) (prefix : List ℕ) (listed
     → ((t : List ℕ) → list_of t listed ≡ postings t docs) → ((t : List ℕ) → f t ≡ g t) → ((t : List ℕ) → some_has t docs ≡ false → g t ≡ 0)
     → sum_behind f listed.terms prefix None ≡ sum_by g (terms_with prefix docs)
 sum_behind-terms_with f g prefix listed docs sound up lists same none =
-    over-same (counted f listed.terms prefix None) (λ t. if begins_with t prefix && some_has t docs then g t else 0) listed.terms
+    over-same (share_behind f listed.terms prefix None) (λ t. if begins_with t prefix && some_has t docs then g t else 0) listed.terms
     (λ m lt. by (begins_with (term_at listed.terms m) prefix) (term_at listed.terms m) (some_has (term_at listed.terms m) docs) refl)
     ∙ sym (sum-terms_with g prefix listed.terms docs sound.different up (holds_all listed docs lists))
   where

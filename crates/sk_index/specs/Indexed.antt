@@ -26,9 +26,9 @@ pub record Indexed : Type 0 where
   pub slots : List SlotEntry
 
 -- The chunks of the list of a term, by its number, and of all documents.
-abbrev pub runs_in : Indexed → Option ℕ → Runs
-runs_in i None = i.all
-runs_in i (Some n) = slice_index_or i.lists n []
+abbrev pub list_runs : Indexed → Option ℕ → Runs
+list_runs i None = i.all
+list_runs i (Some n) = slice_index_or i.lists n []
 
 -- The pieces of the list of a slot.
 abbrev pub pieces_in : Indexed → ℕ → SlotRuns

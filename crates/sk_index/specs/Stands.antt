@@ -17,7 +17,7 @@ abbrev pub AreSlotsOf : Docs → List SlotEntry → Type 0
 AreSlotsOf docs slots = (slot : ℕ) → slot_list slot slots ≡ slot_values slot docs
 
 -- Each list is what the documents give.
-pub record Stands (all : Runs) (listed : Listed) (slots : List SlotEntry) (docs : Docs) : Type 0 where
+pub record ListsStand (all : Runs) (listed : Listed) (slots : List SlotEntry) (docs : Docs) : Type 0 where
   pub all_is : flat all ≡ all_postings docs
   pub lists : AreListsOf docs listed
   pub values : AreSlotsOf docs slots

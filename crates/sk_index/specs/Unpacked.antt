@@ -13,15 +13,15 @@ use Rattle.sk_index.specs.Packed.{NumberedTerm, AreKnown}
 use Rattle.sk_index.specs.Listed.{Listed}
 use Rattle.sk_index.specs.Payloads.{Payloads, payload_of}
 use Rattle.sk_index.specs.Slotted.{values_at}
-use Rattle.sk_index.specs.Stands.{Stands}
+use Rattle.sk_index.specs.Stands.{ListsStand}
 
 -- A term with the text that the dictionary has for its number.
-abbrev pub named : List (List ℕ) → NumberedTerm → DocTerm
-named dict one = record { term = term_at dict one.number; wdf = one.wdf; positions = one.positions }
+abbrev pub with_its_text : List (List ℕ) → NumberedTerm → DocTerm
+with_its_text dict one = record { term = term_at dict one.number; wdf = one.wdf; positions = one.positions }
 
 -- The same of several.
 abbrev pub named_all : List (List ℕ) → List NumberedTerm → List DocTerm
-named_all dict terms = map (named dict) terms
+named_all dict terms = map (with_its_text dict) terms
 
 -- The document whose terms are packed, under its id: its values stand in the lists of the slots, its payload among the payloads.
 abbrev pub unpacked : List (List ℕ) → List SlotEntry → Payloads → ℕ → List NumberedTerm → Document
@@ -53,4 +53,4 @@ pub record AreWhole (all : Runs) (listed : Listed) (slots : List SlotEntry) (pay
   pub known : AllByRecursion (HasKnown listed.terms) entries
   pub rise : RiseAbove 0 (unpacked_all listed.terms slots payloads entries)
   pub ordered : AllByRecursion HasTerms (unpacked_all listed.terms slots payloads entries)
-  pub stand : Stands all listed slots (unpacked_all listed.terms slots payloads entries)
+  pub stand : ListsStand all listed slots (unpacked_all listed.terms slots payloads entries)

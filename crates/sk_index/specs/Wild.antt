@@ -16,14 +16,14 @@ over f [] = 0
 over f (t ∷ ts) = f t + over f ts
 
 -- The term stands behind the one with the number `after`, if one is given.
-abbrev pub is_behind : List (List ℕ) → Option ℕ → List ℕ → Bool
-is_behind terms None t = true
-is_behind terms (Some a) t = is_lt (term_cmp (term_at terms a) t)
+abbrev pub is_term_behind : List (List ℕ) → Option ℕ → List ℕ → Bool
+is_term_behind terms None t = true
+is_term_behind terms (Some a) t = is_lt (term_cmp (term_at terms a) t)
 
 -- The number of a term that begins with the prefix and stands behind, and 0 of another.
-abbrev pub counted : (List ℕ → ℕ) → List (List ℕ) → List ℕ → Option ℕ → List ℕ → ℕ
-counted f terms prefix after t = if begins_with t prefix && is_behind terms after t then f t else 0
+abbrev pub share_behind : (List ℕ → ℕ) → List (List ℕ) → List ℕ → Option ℕ → List ℕ → ℕ
+share_behind f terms prefix after t = if begins_with t prefix && is_term_behind terms after t then f t else 0
 
 -- The sum over the terms that begin with the prefix and stand behind.
 abbrev pub sum_behind : (List ℕ → ℕ) → List (List ℕ) → List ℕ → Option ℕ → ℕ
-sum_behind f terms prefix after = over (counted f terms prefix after) terms
+sum_behind f terms prefix after = over (share_behind f terms prefix after) terms

@@ -4,7 +4,7 @@ ghost use Rattle.std.specs.List.{AllPairs};
 ghost use Rattle.sk_base.specs.Order.{ArePositions};
 ghost use Rattle.sk_base.specs.Documents.{AreTerms, positions_of};
 ghost use Rattle.sk_dict.specs.Terms.{term_at};
-ghost use Rattle.sk_index.specs.Packed.{AreKnown, positions_at};
+ghost use Rattle.sk_index.specs.Packed.{AreKnown, positions_at_place};
 ghost use Rattle.sk_index.specs.Unpacked.{named_all};
 
 use crate::packed_terms::PackedTerms;
@@ -26,11 +26,11 @@ pub struct AllPlaces<'a> {
 
 impl<'a> Model for AllPlaces<'a> {
     ghost use Rattle.std.specs.Prelude.{ℕ, List, map};
-    ghost use Rattle.sk_index.specs.Packed.{positions_at};
+    ghost use Rattle.sk_index.specs.Packed.{positions_at_place};
 
     ghost Value = { List (List ℕ) };
 
-    ghost view = { λ p. map (positions_at p.packed.now) p.places.now };
+    ghost view = { λ p. map (positions_at_place p.packed.now) p.places.now };
 }
 
 impl<'a> AllPlaces<'a> {
@@ -81,7 +81,7 @@ fn look_up<L: Ledger>(
     requires known { AreKnown (length lists.now.terms) packed.now }
     requires rising { AreTerms (named_all lists.now.terms packed.now) }
     requires room { length numbers.now ≤ length places.old }
-    ensures value { map (positions_at packed.now) (take (length numbers.now) places.new)
+    ensures value { map (positions_at_place packed.now) (take (length numbers.now) places.new)
         ≡ map (λ n. positions_of (term_at lists.now.terms n) (named_all lists.now.terms packed.now)) numbers.now }
     ensures cost { steps.new ≡ steps.old + length numbers.now }
 {

@@ -13,7 +13,7 @@ ghost use Rattle.sk_sorted.specs.Runs.{flat};
 ghost use Rattle.sk_model.specs.Documents.{keeps_slot, has_slot};
 ghost use Rattle.sk_model.specs.Edits.{nothing_live, edited, reply_to, document_at, IsLive};
 ghost use Rattle.sk_documents.specs.Documented.{HasTerms};
-ghost use Rattle.sk_index.specs.Indexed.{Indexed, runs_in, pieces_in, postings, all_postings, slot_values, slot_value, term_positions, HavePositions, AreNumbered, AreAllWith};
+ghost use Rattle.sk_index.specs.Indexed.{Indexed, list_runs, pieces_in, postings, all_postings, slot_values, slot_value, term_positions, HavePositions, AreNumbered, AreAllWith};
 ghost use Rattle.sk_index.specs.Packed.{AreKnown};
 ghost use Rattle.sk_index.specs.Stands.{AreListsOf, AreSlotsOf};
 ghost use Rattle.sk_index.specs.Unpacked.{named_all};
@@ -114,7 +114,7 @@ impl Index {
     /// The live documents that have the term with this number, with its wdf in each.
     pub fn list(&self, number: usize) -> &List
         requires there { number < length self.now.terms }
-        ensures runs { result.now ≡ runs_in self.now (Some number) }
+        ensures runs { result.now ≡ list_runs self.now (Some number) }
         ensures entries { flat result.now ≡ postings (term_at self.now.terms number) self.now.live.documents }
     {
         self.term_lists().list(number)
@@ -122,7 +122,7 @@ impl Index {
 
     /// All live documents.
     pub fn all(&self) -> &List
-        ensures runs { result.now ≡ runs_in self.now None }
+        ensures runs { result.now ≡ list_runs self.now None }
         ensures entries { flat result.now ≡ all_postings self.now.live.documents }
     {
         self.documents.keeper().all()

@@ -1,7 +1,7 @@
 //! The terms of a document as numbers.
 ghost use Rattle.std.specs.Prelude.{◌≡◌, ◌<◌, ◌≤◌, ◌+◌, ◌*◌, ◌^◌, [], ◌∷◌, ◌++◌, length, drop, slice_index, IfOk, OnOk, OnErr};
 ghost use Rattle.sk_base.specs.Order.{ArePositions};
-ghost use Rattle.sk_index.specs.Packed.{numbered_at, positions_at, words_of, heads_of, wdfs_of, are_plain, count_in, begin_in, behind};
+ghost use Rattle.sk_index.specs.Packed.{numbered_at, positions_at_place, words_of, heads_of, wdfs_of, are_plain, term_count, begin_in, words_behind};
 
 use std::alloc::{AllocError, Global};
 use std::marker::Model;
@@ -25,11 +25,11 @@ pub(crate) struct Packing {
 
 impl Model for Packing {
     ghost use Rattle.std.specs.Prelude.{List};
-    ghost use Rattle.sk_index.specs.Packed.{NumberedTerm, cut, IsPacked};
+    ghost use Rattle.sk_index.specs.Packed.{NumberedTerm, cut_positions, IsPacked};
 
     ghost Value = { List NumberedTerm };
 
-    ghost view = { λ p. cut 0 p.terms.items p.positions.items };
+    ghost view = { λ p. cut_positions 0 p.terms.items p.positions.items };
 
     ghost invariant = { λ p. IsPacked p.terms.items p.positions.items };
 }
@@ -130,7 +130,7 @@ impl PackedTerms {
 
     /// The positions of the term at this place, none behind the last.
     pub fn positions_at(&self, place: usize) -> &[u32]
-        ensures value { result.now ≡ positions_at self.now place }
+        ensures value { result.now ≡ positions_at_place self.now place }
         ensures rising { ArePositions result.now }
     {
         if place < self.len() {
@@ -143,7 +143,7 @@ impl PackedTerms {
 
 /// How many terms the words have.
 fn count(words: &[u32]) -> usize
-    ensures value { result ≡ count_in words.now }
+    ensures value { result ≡ term_count words.now }
     ensures small { result < 2 ^ 32 }
 {
     if words.is_empty() {
@@ -180,8 +180,8 @@ fn end(words: &[u32], i: usize) -> usize
 
 /// What stands behind the heads.
 fn behind(words: &[u32]) -> &[u32]
-    requires { 2 * count_in words.now < length words.now }
-    ensures { result.now ≡ behind words.now }
+    requires { 2 * term_count words.now < length words.now }
+    ensures { result.now ≡ words_behind words.now }
 {
     let first = 2 * count(words) + 1;
     &words[first..]

@@ -4,7 +4,7 @@ ghost use Rattle.std.specs.Ordering.{is_lt};
 ghost use Rattle.sk_base.specs.Order.{ArePositions};
 ghost use Rattle.sk_base.specs.Documents.{AreTerms, positions_of};
 ghost use Rattle.sk_dict.specs.Terms.{term_at, term_cmp};
-ghost use Rattle.sk_index.specs.Packed.{AreKnown, numbered_at, positions_at};
+ghost use Rattle.sk_index.specs.Packed.{AreKnown, numbered_at, positions_at_place};
 ghost use Rattle.sk_index.specs.Placed.{IsBetween};
 ghost use Rattle.sk_index.specs.Unpacked.{named_all};
 
@@ -64,7 +64,7 @@ pub(crate) fn place_in(packed: &PackedTerms, lists: &TermLists, number: usize) -
     requires there { number < length lists.now.terms }
     requires known { AreKnown (length lists.now.terms) packed.now }
     requires rising { AreTerms (named_all lists.now.terms packed.now) }
-    ensures { positions_at packed.now result ≡ positions_of (term_at lists.now.terms number) (named_all lists.now.terms packed.now) }
+    ensures { positions_at_place packed.now result ≡ positions_of (term_at lists.now.terms number) (named_all lists.now.terms packed.now) }
 {
     let term = lists.term(number);
     if packed.len() <= FEW {
@@ -94,7 +94,7 @@ fn place_by_text(packed: &PackedTerms, lists: &TermLists, term: &[u8]) -> usize
     requires known { AreKnown (length lists.now.terms) packed.now }
     requires rising { AreTerms (named_all lists.now.terms packed.now) }
     ensures within { result ≤ length packed.now }
-    ensures value { positions_at packed.now result ≡ positions_of term.now (named_all lists.now.terms packed.now) }
+    ensures value { positions_at_place packed.now result ≡ positions_of term.now (named_all lists.now.terms packed.now) }
 {
     let place = place_of(packed, lists, term);
     if place < packed.len() {
@@ -109,7 +109,7 @@ fn place_if(packed: &PackedTerms, place: usize, lists: &TermLists, term: &[u8]) 
     requires there { place < length packed.now }
     requires known { AreKnown (length lists.now.terms) packed.now }
     ensures within { result ≤ length packed.now }
-    ensures value { positions_at packed.now result ≡ (if bytes_eq (term_at lists.now.terms (numbered_at packed.now place).number) term.now then positions_at packed.now place else []) }
+    ensures value { positions_at_place packed.now result ≡ (if bytes_eq (term_at lists.now.terms (numbered_at packed.now place).number) term.now then positions_at_place packed.now place else []) }
 {
     if lists.term(packed.number(place)) == term {
         place

@@ -35,8 +35,8 @@ pub data Outcome : Type 0 where
   stopped : LineStop → Outcome
 
 -- What a result of `next` says.
-abbrev pub outcome : Result (Option Line) LineStop → Outcome
-outcome (Ok None) = ended
-outcome (Ok (Some (Whole line))) = whole line.now
-outcome (Ok (Some TooLong)) = too_long
-outcome (Err why) = stopped why
+abbrev pub line_outcome : Result (Option Line) LineStop → Outcome
+line_outcome (Ok None) = ended
+line_outcome (Ok (Some (Whole line))) = whole line.now
+line_outcome (Ok (Some TooLong)) = too_long
+line_outcome (Err why) = stopped why

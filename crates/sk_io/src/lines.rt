@@ -4,7 +4,7 @@ ghost use Rattle.std.specs.Borrow.{sem};
 ghost use Rattle.std.specs.Io.BufRead.{Rests};
 ghost use Rattle.sk_io.specs.contracts.lines.Lines.{the_row};
 ghost use Rattle.sk_io.specs.LineText.{NoLineEnd, HasLineEnd};
-ghost use Rattle.sk_io.specs.Reading.{pending, outcome};
+ghost use Rattle.sk_io.specs.Reading.{pending, line_outcome};
 ghost use Rattle.sk_io.specs.Answers.{Reads, ReadsOn, StopHasCause, IsShort, IsGiven};
 ghost use Rattle.sk_io.specs.Steps.{IsOpen, Fills, Halts, Halted, Sought, Skips, FailHasCause, found_outcome, IsWithin, EndIsFound, LineIsFound};
 
@@ -64,7 +64,7 @@ impl Lines {
         ensures ended { self.old.ended ≡ true → source.new ≡ source.old }
         ensures no_stop { self.old.ended ≡ true → self.old.stopped ≡ None → IsOk result }
         ensures cause { StopHasCause self.old.stopped (S.seen source.old).faults (S.seen source.new).faults result }
-        ensures* after { sem 𝓛 (Rests the_row self.entry (λ new. Reads self.old (S.seen source.old).left new (S.seen source.new).left (outcome result))) }
+        ensures* after { sem 𝓛 (Rests the_row self.entry (λ new. Reads self.old (S.seen source.old).left new (S.seen source.new).left (line_outcome result))) }
     {
         match self.advance(source) {
             Ok(Found::End) => Ok(None),

@@ -1,6 +1,6 @@
 //! Words, and the groups that joiners make of them.
 ghost use Rattle.std.specs.Prelude.{◌≡◌, ◌≤◌, IfOk, true, length, take, drop, encode_utf8_all, string_bytes};
-ghost use Rattle.sk_grammar.specs.Characters.{terms_in};
+ghost use Rattle.sk_grammar.specs.Characters.{run_terms};
 ghost use Rattle.sk_grammar.specs.Cutting.{byte_len};
 ghost use Rattle.sk_grammar.specs.Pieces.{is_starred, is_one, first_term, words_kind, group_kind, group_of_len, group_piece, quote_piece};
 ghost use Rattle.sk_lexer.specs.Shown.{shown};
@@ -29,7 +29,7 @@ pub(crate) fn string_of(alloc: Global, cs: &[char]) -> Result<String, AllocError
 fn terms_in(alloc: Global, cs: &[char], text: &str) -> Result<Vec<Text>, AllocError>
     requires text { text.now ≡ encode_utf8_all cs.now }
     requires size { byte_len cs.now ≤ 1048576 }
-    ensures { IfOk result (λ terms. terms.items ≡ terms_in cs.now) }
+    ensures { IfOk result (λ terms. terms.items ≡ run_terms cs.now) }
 {
     let found = words(alloc, text)?;
     let mut terms = Vec::new(alloc);

@@ -1,6 +1,6 @@
 //! The walk over a text.
 ghost use Rattle.std.specs.Prelude.{◌≡◌, ◌≤◌, ◌<◌, ℕ, ◌++◌, IfOk, List, OnOk, length, take, chars, option_map};
-ghost use Rattle.sk_grammar.specs.Cutting.{byte_len, last_of, placed, IsCut, tokens_from, tokens_in, tokens_of};
+ghost use Rattle.sk_grammar.specs.Cutting.{byte_len, last_of, token_at, IsCut, tokens_from, tokens_in, tokens_of};
 ghost use Rattle.sk_grammar.specs.Pieces.{Piece, takes_mark, is_marked, mark_piece, last_piece};
 ghost use Rattle.sk_lexer.specs.Shown.{shown, mark_in, last_in, other_in, piece_in};
 
@@ -147,7 +147,7 @@ fn front(cs: &[char], n: usize) -> &[char]
 
 /// Adds the token of a piece that begins and ends at these bytes, if it is one.
 fn add(made: &mut Tokens, kind: Option<Kind>, from: usize, to: usize) -> Result<(), AllocError>
-    ensures { OnOk result (made.new ≡ made.old ++ placed kind from to) }
+    ensures { OnOk result (made.new ≡ made.old ++ token_at kind from to) }
 {
     match kind {
         Some(kind) => made.push(Token { kind, from, to }),

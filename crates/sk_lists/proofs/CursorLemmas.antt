@@ -7,7 +7,7 @@ use Rattle.sk_sorted.specs.Runs.{AreRuns}
 use Rattle.sk_sorted.proofs.RunLaws.{top-at, tops_rise}
 use Rattle.sk_chunks.specs.Postings.{Postings, greatest_wdf, is_below}
 use Rattle.sk_lists.specs.Lists.{Runs}
-use Rattle.sk_lists.specs.Seeks.{Reads, IsSkipped}
+use Rattle.sk_lists.specs.Seeks.{ReadsPostings, IsSkipped}
 use Rattle.sk_lists.specs.Cursor.{rest_from, headed, IsReadLast, IsHeadAt, IsReadTo}
 use Rattle.sk_lists.proofs.SeekLaws.{Sought, sought_here, sought_behind, sought_end}
 
@@ -110,7 +110,7 @@ seeks_end target need runs head run read at after here are on ahead was first on
     (sought_end target need runs are.rise b.entry run read at b.on b.below (omega (arith, onward)) (skips_from target need run at runs passed skips) after end)
 
 -- what is read was unread before
-pub reads_once : (target count : ℕ) (old new : Postings) → Reads target count old new → count + length new ≤ length old
+pub reads_once : (target count : ℕ) (old new : Postings) → ReadsPostings target count old new → count + length new ≤ length old
 reads_once target count old new reads = omega (arith, ap length reads.is, length-drop (reads.skipped + count) old, reads.within)
 
 -- ---- chunks by their heads

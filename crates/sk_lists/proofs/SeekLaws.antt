@@ -9,7 +9,7 @@ use Rattle.sk_sorted.specs.Runs.{flat, RunsRise}
 use Rattle.sk_sorted.proofs.RunLaws.{below-top, flat-append, flat-drop, rise_drop, rise_take}
 use Rattle.sk_chunks.specs.Postings.{Postings, greatest_wdf, is_below}
 use Rattle.sk_lists.specs.Lists.{Runs}
-use Rattle.sk_lists.specs.Seeks.{ArePassed, Passes, Reads, count_below, IsSkipped}
+use Rattle.sk_lists.specs.Seeks.{ArePassed, PassesPostings, ReadsPostings, count_below, IsSkipped}
 use Rattle.sk_lists.specs.Cursor.{rest_from, headed, IsReadLast, IsHeadAt, IsReadTo}
 
 -- ---- what may be passed over
@@ -56,7 +56,7 @@ count-all target id (p ∷ ps) le below = grind (arith, nat_tests, count-all tar
 -- ---- the need 0
 
 -- without a need a seek passes over just what lies below the target
-pub passes-exact : (target low : ℕ) (old new : Postings) → RiseAbove low old → Passes target 0 old new → new ≡ from target old
+pub passes-exact : (target low : ℕ) (old new : Postings) → RiseAbove low old → PassesPostings target 0 old new → new ≡ from target old
 passes-exact target low old new up passes = go low passes.passed (subst (RiseAbove low) passes.is up) passes.light ∙ ap (from target) (sym passes.is)
   where
     stays : (ps : Postings) → is_below target ps ≡ false → ps ≡ from target ps
@@ -97,7 +97,7 @@ module _ (target need : ℕ) (h : ℕ × ℕ) (behind : h.0 < target) where
     length_read : length read_before ≡ count - 1
     length_read = length-take-le (count - 1) (drop before run) (omega (arith, length-drop before run, counted, within, some))
 
-    found-passes : Passes target need (h ∷ (gap ++ (drop before run ++ more))) (p ∷ (drop after run ++ more))
+    found-passes : PassesPostings target need (h ∷ (gap ++ (drop before run ++ more))) (p ∷ (drop after run ++ more))
     found-passes = record {
       passed = h ∷ (gap ++ read_before);
       is = ap (λ (es : Postings). h ∷ es) old_is;
@@ -108,7 +108,7 @@ module _ (target need : ℕ) (h : ℕ × ℕ) (behind : h.0 < target) where
         not_below : (id target : ℕ) → target ≤ id → nat_lt id target ≡ false
         not_below id target le = grind (arith, nat_tests)
 
-    found-reads : Reads target count (gap ++ (drop before run ++ more)) (drop after run ++ more)
+    found-reads : ReadsPostings target count (gap ++ (drop before run ++ more)) (drop after run ++ more)
     found-reads = record {
       skipped = length gap;
       is = sym (drop-append-add gap (drop before run ++ more) count
@@ -130,10 +130,10 @@ module _ (target need : ℕ) (h : ℕ × ℕ) (behind : h.0 < target) where
 
   -- ---- a seek that ends
 
-  ended-passes : (gap : Postings) → ArePassed target need gap → Passes target need (h ∷ gap) []
+  ended-passes : (gap : Postings) → ArePassed target need gap → PassesPostings target need (h ∷ gap) []
   ended-passes gap light = record { passed = h ∷ gap; is = ap (λ (es : Postings). h ∷ es) (sym (append-nil gap)); light = (inl behind, light); reached = refl }
 
-  ended-reads : (gap : Postings) → Reads target 0 gap []
+  ended-reads : (gap : Postings) → ReadsPostings target 0 gap []
   ended-reads gap = record {
     skipped = length gap;
     is = sym (ap (λ n. drop n gap) (omega arith) ∙ drop-length gap);
@@ -177,8 +177,8 @@ gap_passed target need runs run read at up le skips =
 -- what a seek for the target did, from one place to another
 pub record Sought (target need count : ℕ) (runs : Runs) (head : Option (ℕ × ℕ)) (run read : ℕ) (next : Option (ℕ × ℕ)) (at after : ℕ) : Type 0 where
   pub on : IsHeadAt next at after runs
-  pub passes : Passes target need (headed head (rest_from run read runs)) (headed next (rest_from at after runs))
-  pub reads : Reads target count (rest_from run read runs) (rest_from at after runs)
+  pub passes : PassesPostings target need (headed head (rest_from run read runs)) (headed next (rest_from at after runs))
+  pub reads : ReadsPostings target count (rest_from run read runs) (rest_from at after runs)
   pub moves : (id : ℕ) → target ≤ id → count + count_below id (headed next (rest_from at after runs)) ≤ count_below id (headed head (rest_from run read runs))
 
 -- where the head is not below the target, nothing was done
@@ -219,11 +219,11 @@ module _ (target need : ℕ) (runs : Runs) (up : RunsRise 0 runs) (h : ℕ × �
       subst (λ o. Sought target need count runs (Some h) run read o at after) (sym to.is)
       (record {
         on = record { there = lt; begun = omega (arith, to.counted, to.some); within = to.within; is = to.at };
-        passes = subst (λ (new : Postings). Passes target need (h ∷ rest_from run read runs) (to.last ∷ new)) (sym v)
-            (subst (λ (old : Postings). Passes target need (h ∷ old) (to.last ∷ (drop after (get_or runs at []) ++ flat (drop (at + 1) runs)))) (sym parts.is)
+        passes = subst (λ (new : Postings). PassesPostings target need (h ∷ rest_from run read runs) (to.last ∷ new)) (sym v)
+            (subst (λ (old : Postings). PassesPostings target need (h ∷ old) (to.last ∷ (drop after (get_or runs at []) ++ flat (drop (at + 1) runs)))) (sym parts.is)
             (found-passes target need h behind parts.gap (get_or runs at []) (flat (drop (at + 1) runs)) before after count to.last parts.light to.counted to.some to.within to.at to.below to.reached));
-        reads = subst (λ (new : Postings). Reads target count (rest_from run read runs) new) (sym v)
-            (subst (λ (old : Postings). Reads target count old (drop after (get_or runs at []) ++ flat (drop (at + 1) runs))) (sym parts.is)
+        reads = subst (λ (new : Postings). ReadsPostings target count (rest_from run read runs) new) (sym v)
+            (subst (λ (old : Postings). ReadsPostings target count old (drop after (get_or runs at []) ++ flat (drop (at + 1) runs))) (sym parts.is)
             (found-reads target need h behind parts.gap (get_or runs at []) (flat (drop (at + 1) runs)) before after count to.last parts.light to.counted to.some to.within to.at to.below to.reached));
         moves = λ id le. subst (λ (new : Postings). count + count_below id (to.last ∷ new) ≤ count_below id (h ∷ rest_from run read runs)) (sym v)
             (subst (λ (old : Postings). count + count_below id (to.last ∷ (drop after (get_or runs at []) ++ flat (drop (at + 1) runs))) ≤ count_below id (h ∷ old)) (sym parts.is)
@@ -250,8 +250,8 @@ module _ (target need : ℕ) (runs : Runs) (up : RunsRise 0 runs) (h : ℕ × �
       let gap : Postings = drop read (flat (take (at - run) (drop run runs))) in
       record {
         on = gone;
-        passes = subst (λ (old : Postings). Passes target need (h ∷ old) []) (sym over) (ended-passes target need h behind gap (gap_passed target need runs run read at up (omega (arith, end)) skips));
-        reads = subst (λ (new : Postings). Reads target 0 (rest_from run read runs) new) (sym gone) (subst (λ (old : Postings). Reads target 0 old []) (sym over) (ended-reads target need h behind gap));
+        passes = subst (λ (old : Postings). PassesPostings target need (h ∷ old) []) (sym over) (ended-passes target need h behind gap (gap_passed target need runs run read at up (omega (arith, end)) skips));
+        reads = subst (λ (new : Postings). ReadsPostings target 0 (rest_from run read runs) new) (sym gone) (subst (λ (old : Postings). ReadsPostings target 0 old []) (sym over) (ended-reads target need h behind gap));
         moves = λ id le. omega arith;
       }
     where

@@ -9,14 +9,14 @@ ArePassed target need_wdf [] = Unit {0}
 ArePassed target need_wdf (p ∷ ps) = ((p.0 < target) ⊎ (p.1 < need_wdf)) × ArePassed target need_wdf ps
 
 -- What is left begins at the target or behind it, and no entry went that lies there and is wanted.
-pub record Passes (target need_wdf : ℕ) (old new : Postings) : Type 0 where
+pub record PassesPostings (target need_wdf : ℕ) (old new : Postings) : Type 0 where
   pub passed : Postings
   pub is : old ≡ passed ++ new
   pub light : ArePassed target need_wdf passed
   pub reached : is_below target new ≡ false
 
 -- What was read stands together in what was unread, none of it twice, and all but the last of it lies below the target.
-pub record Reads (target count : ℕ) (old new : Postings) : Type 0 where
+pub record ReadsPostings (target count : ℕ) (old new : Postings) : Type 0 where
   pub skipped : ℕ
   pub is : new ≡ drop (skipped + count) old
   pub within : skipped + count ≤ length old

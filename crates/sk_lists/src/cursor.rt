@@ -4,7 +4,7 @@ ghost use Rattle.sk_sorted.specs.Entries.{first_id, top_id};
 ghost use Rattle.sk_sorted.specs.Runs.{flat};
 ghost use Rattle.sk_chunks.specs.Postings.{first_wdf, is_below};
 ghost use Rattle.sk_lists.specs.Lists.{Runs};
-ghost use Rattle.sk_lists.specs.Seeks.{Passes, Reads, count_below, IsSkipped, AreWithin};
+ghost use Rattle.sk_lists.specs.Seeks.{PassesPostings, ReadsPostings, count_below, IsSkipped, AreWithin};
 ghost use Rattle.sk_lists.specs.Cursor.{unread, left, IsOn, IsReadTo};
 
 use crate::{BlockMax, List};
@@ -59,10 +59,10 @@ impl Cursor {
         ensures on { IsOn self.new list.now }
 
         // It passes over what lies below the target, or is lighter than what is needed, and over nothing else.
-        ensures passes { Passes target need_wdf (left self.old list.now) (left self.new list.now) }
+        ensures passes { PassesPostings target need_wdf (left self.old list.now) (left self.new list.now) }
 
         // What it reads stands together, none of it was read before, and one at most lies at the target or behind it.
-        ensures reads { Reads target result (unread self.old list.now) (unread self.new list.now) }
+        ensures reads { ReadsPostings target result (unread self.old list.now) (unread self.new list.now) }
         ensures once { result + length (unread self.new list.now) ≤ length (unread self.old list.now) }
         ensures most { result ≤ 128 }
         ensures cost { steps.new ≡ steps.old + result }
@@ -91,8 +91,8 @@ impl Cursor {
         requires on { IsOn self.old list.now }
         requires below { is_below target (left self.old list.now) ≡ true }
         ensures on { IsOn self.new list.now }
-        ensures passes { Passes target need_wdf (left self.old list.now) (left self.new list.now) }
-        ensures reads { Reads target result (unread self.old list.now) (unread self.new list.now) }
+        ensures passes { PassesPostings target need_wdf (left self.old list.now) (left self.new list.now) }
+        ensures reads { ReadsPostings target result (unread self.old list.now) (unread self.new list.now) }
         ensures once { result + length (unread self.new list.now) ≤ length (unread self.old list.now) }
         ensures most { result ≤ 128 }
         ensures cost { steps.new ≡ steps.old + result }

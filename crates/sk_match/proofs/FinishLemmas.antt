@@ -12,7 +12,7 @@ use Rattle.sk_model.specs.Settled.{stop_point}
 use Rattle.sk_model.specs.Sharp.{ups, rare_readings}
 use Rattle.sk_report.specs.Reports.{ReportsFor}
 use Rattle.sk_index.specs.Indexed.{Indexed}
-use Rattle.sk_nodes.specs.Stops.{Stops}
+use Rattle.sk_nodes.specs.Stops.{PaysToStop}
 use Rattle.sk_nodes.specs.Rare.{Rare}
 use Rattle.sk_nodes.specs.Decays.{Decays}
 use Rattle.sk_nodes.specs.Built.{gives, left}
@@ -37,7 +37,7 @@ done_settled i s e = ap (λ b. is_none (first_id (left i s.tree)) || b) e ∙ or
 -- what a tree spent, by each account that bounds it
 pub record IsSpentBy (i : Indexed) (s : Search) (query : Query.Tree) (spent : ℕ) : Type 0 where
   pub within : spent ≤ leaf_readings query i.live.documents
-  pub stops : (point most : ℕ) → Stops i s.tree point most → spent ≤ most
+  pub stops : (point most : ℕ) → PaysToStop i s.tree point most → spent ≤ most
   pub rare : (most : ℕ) → Rare i s.tree most → spent ≤ most
   pub decays : (point greatest most : ℕ) → Decays i s.tree point greatest most → spent ≤ most
 

@@ -23,7 +23,7 @@ use Rattle.sk_index.specs.Indexed.{Indexed}
 use Rattle.sk_nodes.specs.Built as Nodes
 use Rattle.sk_nodes.specs.Built.{weighed_ids, gives, left, scored, Built}
 use Rattle.sk_nodes.specs.Flat.{IsAtLeast}
-use Rattle.sk_nodes.specs.Stops.{Stops, MayMove}
+use Rattle.sk_nodes.specs.Stops.{PaysToStop, MayMove}
 use Rattle.sk_nodes.specs.Rare.{Rare}
 use Rattle.sk_nodes.specs.Decays.{MayFall, DecaysBoth}
 use Rattle.sk_nodes.specs.declared.tree.Tree.{Tree}
@@ -31,14 +31,14 @@ use Rattle.sk_heap.specs.Held.{need_of}
 use Rattle.sk_collapse.specs.Collapsed.{Collapsed}
 use Rattle.sk_page.specs.Pages.{CollapsesBy}
 use Rattle.sk_page.specs.Needs.{wanted_by, is_above, is_settled, need_for}
-use Rattle.sk_page.specs.Views.{Opens, PageOf, MaySee, Sees}
+use Rattle.sk_page.specs.Views.{OpensPage, PageOf, MaySee, Sees}
 use Rattle.sk_page.specs.declared.page.Page.{Page}
 use Rattle.sk_page.proofs.WalkLaws as Walks
 use Rattle.sk_page.proofs.WalkLaws.{weighed, scores}
 use Rattle.sk_page.proofs.SeeLaws.{page_opened, may_see, at_last, Looked, passed_by, looked_at, gone_on, wanted_before, asked_behind, head_early}
 use Rattle.sk_page.specs.Paces.{reached_by}
 use Rattle.sk_page.proofs.PaceLaws.{no_cutoff, reached_on}
-use Rattle.sk_match.specs.Searches.{IsOn, Stands, PassesOver, Passes, AsksBehind}
+use Rattle.sk_match.specs.Searches.{IsOn, Stands, TreePasses, PassesUnseen, AsksBehind}
 use Rattle.sk_match.specs.declared.open_search.Search.{Search}
 
 -- ---- a search that was opened
@@ -74,9 +74,9 @@ same_given f g low (one ∷ docs) up e = step (f one) (g one) refl refl e (rises
 pub opened : (i : Indexed) (s : Search) (paging : Paging) (query : Query.Tree) → fits_tree query ≡ true
     → Built s.tree i query paging.options.scheme
     → left i s.tree ≡ scored query paging.options.scheme 1 i.live.documents
-    → s.tree.need ≡ 0 → s.need ≡ 0 → Opens paging s.page
+    → s.tree.need ≡ 0 → s.need ≡ 0 → OpensPage paging s.page
     → s.bounds ≡ record { greatest = ceil query paging.options.scheme 1 i.live.documents; most = static_count query i.live.documents }
-    → ((lists : List (List ℕ)) → flat_lists query i.live.documents ≡ Some lists → (point : ℕ) → Stops i s.tree point (ups lists point i.live.documents))
+    → ((lists : List (List ℕ)) → flat_lists query i.live.documents ≡ Some lists → (point : ℕ) → PaysToStop i s.tree point (ups lists point i.live.documents))
     → ((lists : List (List ℕ)) (m : ℕ) → rare_lists query i.live.documents ≡ Some (lists, m) → Rare i s.tree (rare_readings lists m i.live.documents))
     → ((ts : Query.Trees) (a b : List ℕ) → query ≡ Query.parts Form.Or ts → terms_in ts ≡ Some (a ∷ b ∷ []) → (point : ℕ) → DecaysBoth i s.tree paging.options.scheme point a b)
     → Stands s i paging query
@@ -144,7 +144,7 @@ module _ (i : Indexed) (old : Search) (paging : Paging) (query : Query.Tree) (st
 
   -- ---- past the head
 
-  module _ (high : old.page.options.cutoff ≤ old.tree.top.greatest) (mid : Page) (saw2 : List Rank) (looked : LookedOn mid saw2) (new : Search) (passes : Passes i h (record old { page = mid }) new) where
+  module _ (high : old.page.options.cutoff ≤ old.tree.top.greatest) (mid : Page) (saw2 : List Rank) (looked : LookedOn mid saw2) (new : Search) (passes : PassesUnseen i h (record old { page = mid }) new) where
     asked : ((new.need ≡ old.need) × (h ≡ last_id)) ⊎ (new.need ≡ max old.need (need_for mid.options mid.seen mid.heap old.tree.top.greatest))
     asked = by_asked passes.asked
       where
@@ -200,13 +200,13 @@ module _ (i : Indexed) (old : Search) (paging : Paging) (query : Query.Tree) (st
         by_end true e = inr (by_point (ltb-true h last_id e) (nat_lt point h) refl)
 
     -- while nothing is asked for, it reads no list behind what was seen by more than one entry
-    pace_on : (lists : List (List ℕ)) → flat_lists query docs ≡ Some lists → new.need ≡ 0 → (point : ℕ) → reached_by mid.seen (found_by query paging docs) ≤ point → Stops i new.tree point (ups lists point docs)
+    pace_on : (lists : List (List ℕ)) → flat_lists query docs ≡ Some lists → new.need ≡ 0 → (point : ℕ) → reached_by mid.seen (found_by query paging docs) ≤ point → PaysToStop i new.tree point (ups lists point docs)
     pace_on lists flat none point far = by_asked asked
       where
         reach : (reached_by old.page.seen (found_by query paging docs) ≤ point) × (paging.options.cutoff ≤ w → h ≤ point)
         reach = reached_on query paging docs give old.need old.page stands.page sorted h w (sym head) weight_there mid saw2 looked old.tree.top.greatest new.need (gives i new.tree) asked passes.over (omega (arith, none)) point far
 
-        by_asked : ((new.need ≡ old.need) × (h ≡ last_id)) ⊎ (new.need ≡ max old.need (need_for mid.options mid.seen mid.heap old.tree.top.greatest)) → Stops i new.tree point (ups lists point docs)
+        by_asked : ((new.need ≡ old.need) × (h ≡ last_id)) ⊎ (new.need ≡ max old.need (need_for mid.options mid.seen mid.heap old.tree.top.greatest)) → PaysToStop i new.tree point (ups lists point docs)
         by_asked (inl last) = let same = last.0 in passes.stops point (ups lists point docs) (stands.accounts.pace lists flat (omega (arith, same, none)) point reach.0) (inl last.1)
         by_asked (inr e) =
             let cut : mid.options.cutoff ≡ 0 = no_cutoff mid.options mid.seen old.tree.top.greatest mid.heap (omega (arith, none, e)) in
@@ -241,12 +241,12 @@ module _ (i : Indexed) (old : Search) (paging : Paging) (query : Query.Tree) (st
     cut_same : old.page.options.cutoff ≡ paging.options.cutoff
     cut_same = ap (λ (o : Options). o.cutoff) stands.page.options
 
-    pub turned_seen : (mid : Page) → old.page.options.cutoff ≤ w → Sees docs h w old.page mid → Passes i h (record old { page = mid }) new → Stands new i paging query
+    pub turned_seen : (mid : Page) → old.page.options.cutoff ≤ w → Sees docs h w old.page mid → PassesUnseen i h (record old { page = mid }) new → Stands new i paging query
     turned_seen mid enough sees passes =
         let looked = looked_at query paging docs give old.need old.page stands.page sorted h w (sym head) weight_there mid (omega (arith, enough, cut_same)) sees in
         moved high mid looked.0 looked.1 new passes
 
-    pub turned_light : w < old.page.options.cutoff → Passes i h old new → Stands new i paging query
+    pub turned_light : w < old.page.options.cutoff → PassesUnseen i h old new → Stands new i paging query
     turned_light light passes =
         moved high old.page stands.page.saw (passed_by query paging docs give old.need old.page stands.page sorted h w (sym head) weight_there (omega (arith, light, cut_same))) new passes
 
@@ -335,10 +335,10 @@ module _ (id : ℕ) where
           let same : d.0 ≡ h = ap (λ o. unwrap_or o 0) f in
           absurd (subst (λ b. CoversAt (cond b (Some v) None) (Some w) need) (not_later d.0 same) c)
 
-pub turned_fewer : (i : Indexed) (h need : ℕ) (old new : Tree) → Some h ≡ first_id (left i old) → PassesOver i h old new need → length (left i new) < length (left i old)
+pub turned_fewer : (i : Indexed) (h need : ℕ) (old new : Tree) → Some h ≡ first_id (left i old) → TreePasses i h old new need → length (left i new) < length (left i old)
 turned_fewer i h need old new head over = fewer_left (gives i old) (gives i new) need h i.live.documents (sym head) over
 
-pub turned_early : (i : Indexed) (point h need : ℕ) (old new : Tree) → h ≤ point → Some h ≡ first_id (left i old) → PassesOver i h old new need
+pub turned_early : (i : Indexed) (point h need : ℕ) (old new : Tree) → h ≤ point → Some h ≡ first_id (left i old) → TreePasses i h old new need
     → length (filter (λ (p : ℕ × ℕ). nat_le p.0 point) (left i new)) < length (filter (λ (p : ℕ × ℕ). nat_le p.0 point) (left i old))
 turned_early i point h need old new early head over = fewer_to point (gives i old) (gives i new) need h i.live.documents early (sym head) over
 

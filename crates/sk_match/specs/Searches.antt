@@ -15,7 +15,7 @@ use Rattle.sk_model.specs.Settled.{stop_point, decay_point}
 use Rattle.sk_model.specs.Sharp.{is_plain, flat_lists, ups, rare_lists, rare_readings, terms_in, decay_readings}
 use Rattle.sk_index.specs.Indexed.{Indexed}
 use Rattle.sk_nodes.specs.Built.{gives, left, first_weight, Built}
-use Rattle.sk_nodes.specs.Stops.{Stops, MayMove}
+use Rattle.sk_nodes.specs.Stops.{PaysToStop, MayMove}
 use Rattle.sk_nodes.specs.Rare.{Rare}
 use Rattle.sk_nodes.specs.Decays.{Decays, MayFall}
 use Rattle.sk_nodes.specs.declared.tree.Tree.{Tree}
@@ -51,14 +51,14 @@ DecaysBehind index paging query tree a b =
     (decay_readings a b (decay_point query (Query.term b) paging index.live.documents) index.live.documents 0)
 
 -- What the tree of a search of this find and query may read: of terms alone it stops at the point at which a page by relevance is settled, where one of its lists leads it reads the others with it, of an or of two terms either may fade, and while nothing is asked for no list of terms alone is read by more than one entry behind the last match that was seen.
-pub record Accounts (index : Indexed) (paging : Paging) (query : Query.Tree) (seen need : ℕ) (tree : Tree) : Type 0 where
+pub record TreeAccounts (index : Indexed) (paging : Paging) (query : Query.Tree) (seen need : ℕ) (tree : Tree) : Type 0 where
   pub stops : is_plain paging ≡ true → (lists : List (List ℕ)) → flat_lists query index.live.documents ≡ Some lists
-      → Stops index tree (stop_point query paging index.live.documents) (ups lists (stop_point query paging index.live.documents) index.live.documents)
+      → PaysToStop index tree (stop_point query paging index.live.documents) (ups lists (stop_point query paging index.live.documents) index.live.documents)
   pub rare : (lists : List (List ℕ)) (m : ℕ) → rare_lists query index.live.documents ≡ Some (lists, m) → Rare index tree (rare_readings lists m index.live.documents)
   pub decays : is_plain paging ≡ true → (ts : Query.Trees) (a b : List ℕ) → query ≡ Query.parts Form.Or ts → terms_in ts ≡ Some (a ∷ b ∷ [])
       → DecaysBehind index paging query tree a b × DecaysBehind index paging query tree b a
   pub pace : (lists : List (List ℕ)) → flat_lists query index.live.documents ≡ Some lists → need ≡ 0
-      → (point : ℕ) → reached_by seen (found_by query paging index.live.documents) ≤ point → Stops index tree point (ups lists point index.live.documents)
+      → (point : ℕ) → reached_by seen (found_by query paging index.live.documents) ≤ point → PaysToStop index tree point (ups lists point index.live.documents)
 
 -- A search is one of this find and query on this index: its tree is the query's, its bounds are the query's, and its page is that of a search that is given what the tree gives.
 pub record Stands (search : Search) (index : Indexed) (paging : Paging) (query : Query.Tree) : Type 0 where
@@ -68,18 +68,18 @@ pub record Stands (search : Search) (index : Indexed) (paging : Paging) (query :
   pub need : search.need ≡ search.tree.need
   pub low : ceil query paging.options.scheme 1 index.live.documents < paging.options.cutoff → search.need ≤ paging.options.cutoff
   pub page : PageOf search.page query paging index.live.documents (gives index search.tree) search.need
-  pub accounts : Accounts index paging query search.page.seen search.need search.tree
+  pub accounts : TreeAccounts index paging query search.page.seen search.need search.tree
 
 -- ---- a step of a search
 
 -- A tree went past a document: of each live one behind it what is left covers what was, under the need, and of the others nothing is left.
-abbrev pub PassesOver : Indexed → ℕ → Tree → Tree → ℕ → Type 0
-PassesOver index id old new need =
+abbrev pub TreePasses : Indexed → ℕ → Tree → Tree → ℕ → Type 0
+TreePasses index id old new need =
     AllByRecursion (λ one. CoversAt (if nat_le (id + 1) one.0 then gives index old one.0 else None) (gives index new one.0) need) index.live.documents
 
 -- A tree that went past a document goes on to stop at a point: where it may go so far under the need, and at the last id.
 abbrev pub KeepsStops : Indexed → ℕ → ℕ → Tree → Tree → Type 0
-KeepsStops index id need old new = (point most : ℕ) → Stops index old point most → (id ≡ last_id) ⊎ MayMove point (id + 1) need old.top.greatest (gives index old point) → Stops index new point most
+KeepsStops index id need old new = (point most : ℕ) → PaysToStop index old point most → (id ≡ last_id) ⊎ MayMove point (id + 1) need old.top.greatest (gives index old point) → PaysToStop index new point most
 
 -- A tree of an or of two terms that went past a document goes on to read no more: at the last id, where the need exceeds the ceiling, where the fading list was asked for up to the point alone, and where nothing of it is enough.
 abbrev pub KeepsDecays : Indexed → ℕ → ℕ → Tree → Tree → Type 0
@@ -92,8 +92,8 @@ AsksBehind index id old new =
     ⊎ (new.need ≡ max old.need (need_for old.page.options old.page.seen old.page.heap old.tree.top.greatest))
 
 -- A search went past a document, and saw nothing.
-pub record Passes (index : Indexed) (id : ℕ) (old new : Search) : Type 0 where
-  pub over : PassesOver index id old.tree new.tree new.need
+pub record PassesUnseen (index : Indexed) (id : ℕ) (old new : Search) : Type 0 where
+  pub over : TreePasses index id old.tree new.tree new.need
   pub built : (query : Query.Tree) (scheme : Scheme) → Built old.tree index query scheme → Built new.tree index query scheme
   pub need : new.need ≡ new.tree.need
   pub asked : AsksBehind index id old new
@@ -113,7 +113,7 @@ pub record MovesPast (index : Indexed) (old new : Search) : Type 0 where
   pub head : ℕ
   pub first : first_id (ahead index old) ≡ Some head
   pub sees : SeesHead index head (first_weight (ahead index old)) old new
-  pub over : PassesOver index head old.tree new.tree new.need
+  pub over : TreePasses index head old.tree new.tree new.need
 
 -- A search asked its tree for the need of its page, with what it saw, and for no less than before; or nothing is ahead.
 abbrev pub Asks : Indexed → Search → Search → Type 0

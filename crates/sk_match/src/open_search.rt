@@ -16,7 +16,7 @@ ghost use Rattle.sk_nodes.specs.Built.{scored, IsTree};
 ghost use Rattle.sk_page.specs.Needs.{is_whole};
 ghost use Rattle.sk_page.specs.Paces.{IsEarly};
 ghost use Rattle.sk_match.specs.Paces.{ups_seen};
-ghost use Rattle.sk_match.specs.Searches.{IsOn, Stands, Asks, Passes, MovesPast, ahead, left_to_stop, is_done, spent_by};
+ghost use Rattle.sk_match.specs.Searches.{IsOn, Stands, Asks, PassesUnseen, MovesPast, ahead, left_to_stop, is_done, spent_by};
 ghost use Rattle.sk_match.specs.declared.open_search.Turn.TheVariants as Turn;
 
 use crate::reader::IndexReader;
@@ -140,7 +140,7 @@ impl Search {
     fn pass<L: Ledger>(&mut self, index: &Index, id: DocId, steps: &mut Steps<L>)
         requires tree { IsTree index.now self.old.tree }
         requires need { self.old.need ≡ self.old.tree.need }
-        ensures passes { Passes index.now id self.old self.new }
+        ensures passes { PassesUnseen index.now id self.old self.new }
         ensures cost { steps.new + self.old.tree.spent ≡ steps.old + self.new.tree.spent }
         ensures later { steps.old ≤ steps.new }
     {

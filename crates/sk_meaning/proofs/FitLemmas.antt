@@ -8,12 +8,13 @@ use Rattle.std.proofs.lemmas.Bool.{and_from}
 use Rattle.sk_base.specs.declared.find.Join.{Join}
 use Rattle.sk_query.specs.declared.form.Form.{Form}
 use Rattle.sk_query.specs.Trees.{Tree, nothing, all, parts, Trees, tree, trees_from}
-use Rattle.sk_query.specs.Fits.{is_given, is_window, has_parts, leaves_of, leaves_in, depth_of, depth_in, is_sound, are_sound}
+use Rattle.sk_query.specs.Fits.{is_window, has_parts, leaves_of, leaves_in, depth_of, depth_in, is_sound, are_sound}
+use Rattle.sk_base.specs.Terms.{is_given}
 use Rattle.sk_grammar.specs.declared.token.Kind.{Kind}
 use Rattle.sk_grammar.specs.declared.token.Mark.{Mark}
 use Rattle.sk_grammar.specs.Parts.{Part, chain, unit, chosen, empty, link, operator, linked, with_words, with_part, chained, chain_tree}
-use Rattle.sk_grammar.specs.Runs.{Unit as UnitMeant, unit_of, mark_behind, units, is_hated, is_filter, is_wanted, is_loved, is_plain, queries_of, joined, without, all_of, with_plain, loved_and_plain, base_of, Group, added, added_filter, groups_after, group_tree, filtered, units_tree, run_tree}
-use Rattle.sk_grammar.specs.Meaning.{at, in_front, split, is_or, is_xor, is_and, Run, in_run, runs, runs_in, is_positive, run_trees, and_tree, xor_tree, parts_tree, closed_part}
+use Rattle.sk_grammar.specs.Runs.{Unit as UnitMeant, unit_of, mark_behind, units, is_hated, is_filter, is_wanted, is_loved, is_optional, queries_of, joined, excluding, all_of, with_plain, loved_and_plain, base_of, FilterGroup, added, added_filter, groups_after, group_tree, filtered, units_tree, run_tree}
+use Rattle.sk_grammar.specs.Meaning.{at, in_front, split, is_or, is_xor, is_and, Run, in_run, runs, xor_runs, is_positive, run_trees, and_tree, xor_tree, parts_tree, closed_part}
 use Rattle.sk_grammar.specs.Faults.{is_not}
 
 -- A query is no deeper than this, and keeps its conditions where it has no more than 1,024 leaves.
@@ -73,7 +74,7 @@ nothing_fits : (d : ℕ) → 1 ≤ d → Fits d nothing
 nothing_fits d h = record { sound = λ few. refl; deep = h }
 
 -- A query with others taken away.
-without_fits : (d e : ℕ) (base : Tree) (ts : List Tree) → e ≤ d → Fits d base → AllFit e ts → Fits (d + 1) (without base ts)
+without_fits : (d e : ℕ) (base : Tree) (ts : List Tree) → e ≤ d → Fits d base → AllFit e ts → Fits (d + 1) (excluding base ts)
 without_fits d e base [] h f g = deeper d (d + 1) base (omega arith) f
 without_fits d e base (t ∷ ts) h f g = some_fit d Form.AndNot base (t ∷ ts) (f, all_deeper e d (t ∷ ts) h g)
 
@@ -109,42 +110,42 @@ queries_fit d test (u ∷ us) h = by (test u) u (filter test us) h.0 (queries_fi
     by false v vs f g = g
 
 base_fits : (d : ℕ) (join : Join) (us : List UnitMeant) → UnitsFit d us → Fits (d + 2) (base_of join us)
-base_fits d Join.Or us h = loved_fit d (queries_of is_loved us) (queries_of is_plain us) (queries_fit d is_loved us h) (queries_fit d is_plain us h)
+base_fits d Join.Or us h = loved_fit d (queries_of is_loved us) (queries_of is_optional us) (queries_fit d is_loved us h) (queries_fit d is_optional us h)
 base_fits d Join.And us h = deeper (d + 1) (d + 2) _ (omega arith) (all_of_fits d (queries_of is_wanted us) (queries_fit d is_wanted us h))
 
 -- The filters of a field are there, and fit.
-record GroupFits (d : ℕ) (g : Group) : Type 0 where
-  some : 1 ≤ length (Group.queries g)
-  fit : AllFit d (Group.queries g)
+record GroupFits (d : ℕ) (g : FilterGroup) : Type 0 where
+  some : 1 ≤ length (FilterGroup.queries g)
+  fit : AllFit d (FilterGroup.queries g)
 
-abbrev GroupsFit : ℕ → List Group → Type 0
+abbrev GroupsFit : ℕ → List FilterGroup → Type 0
 GroupsFit d [] = Unit {0}
 GroupsFit d (g ∷ gs) = GroupFits d g × GroupsFit d gs
 
-last_fits : (d : ℕ) (t : Tree) (g : Group) → Fits d t → GroupFits d g → GroupFits d (record { field = Group.field g; queries = Group.queries g ++ t ∷ [] })
+last_fits : (d : ℕ) (t : Tree) (g : FilterGroup) → Fits d t → GroupFits d g → GroupFits d (record { field = FilterGroup.field g; queries = FilterGroup.queries g ++ t ∷ [] })
 last_fits d t g f h = record {
-  some = let n = length-append (Group.queries g) (t ∷ []) in omega (arith, n);
-  fit = all_append d (Group.queries g) (t ∷ []) h.fit (f, tt);
+  some = let n = length-append (FilterGroup.queries g) (t ∷ []) in omega (arith, n);
+  fit = all_append d (FilterGroup.queries g) (t ∷ []) h.fit (f, tt);
 }
 
-added_fit : (d f : ℕ) (t : Tree) (gs : List Group) → Fits d t → GroupsFit d gs → GroupsFit d (added f t gs)
+added_fit : (d f : ℕ) (t : Tree) (gs : List FilterGroup) → Fits d t → GroupsFit d gs → GroupsFit d (added f t gs)
 added_fit d f t [] h k = (record { some = omega arith; fit = (h, tt) }, tt)
-added_fit d f t (g ∷ gs) h k = by (Group.field g == f) (last_fits d t g h k.0) k.0 k.1 (added_fit d f t gs h k.1)
+added_fit d f t (g ∷ gs) h k = by (FilterGroup.field g == f) (last_fits d t g h k.0) k.0 k.1 (added_fit d f t gs h k.1)
   where
-    by : (b : Bool) → GroupFits d (record { field = Group.field g; queries = Group.queries g ++ t ∷ [] }) → GroupFits d g → GroupsFit d gs → GroupsFit d (added f t gs)
-        → GroupsFit d (if b then record { field = Group.field g; queries = Group.queries g ++ t ∷ [] } ∷ gs else g ∷ added f t gs)
+    by : (b : Bool) → GroupFits d (record { field = FilterGroup.field g; queries = FilterGroup.queries g ++ t ∷ [] }) → GroupFits d g → GroupsFit d gs → GroupsFit d (added f t gs)
+        → GroupsFit d (if b then record { field = FilterGroup.field g; queries = FilterGroup.queries g ++ t ∷ [] } ∷ gs else g ∷ added f t gs)
     by true a b c e = (a, c)
     by false a b c e = (b, e)
 
-one_added : (d : ℕ) (o : Option ℕ) (t : Tree) (gs : List Group) → Fits d t → GroupsFit d gs → GroupsFit d (added_filter o t gs)
+one_added : (d : ℕ) (o : Option ℕ) (t : Tree) (gs : List FilterGroup) → Fits d t → GroupsFit d gs → GroupsFit d (added_filter o t gs)
 one_added d None t gs f g = g
 one_added d (Some field) t gs f g = added_fit d field t gs f g
 
-if_groups : (d : ℕ) (b : Bool) (gs hs : List Group) → GroupsFit d gs → GroupsFit d hs → GroupsFit d (if b then gs else hs)
+if_groups : (d : ℕ) (b : Bool) (gs hs : List FilterGroup) → GroupsFit d gs → GroupsFit d hs → GroupsFit d (if b then gs else hs)
 if_groups d true gs hs f g = f
 if_groups d false gs hs f g = g
 
-after_fit : (d : ℕ) (us : List UnitMeant) (gs : List Group) → UnitsFit d us → GroupsFit d gs → GroupsFit d (groups_after gs us)
+after_fit : (d : ℕ) (us : List UnitMeant) (gs : List FilterGroup) → UnitsFit d us → GroupsFit d gs → GroupsFit d (groups_after gs us)
 after_fit d [] gs f g = g
 after_fit d (u ∷ us) gs f g =
     after_fit d us (if is_filter u then added_filter (UnitMeant.field u) (UnitMeant.query u) gs else gs) f.1
@@ -154,11 +155,11 @@ some_joined : (d : ℕ) (form : Form) (ts : List Tree) → 1 ≤ length ts → A
 some_joined d form [] h f = absurd (omega arith)
 some_joined d form (t ∷ ts) h f = joined_fit d form t ts f
 
-groups_trees : (d : ℕ) (gs : List Group) → GroupsFit d gs → AllFit (d + 1) (map group_tree gs)
+groups_trees : (d : ℕ) (gs : List FilterGroup) → GroupsFit d gs → AllFit (d + 1) (map group_tree gs)
 groups_trees d [] h = tt
-groups_trees d (g ∷ gs) h = (some_joined d Form.Or (Group.queries g) h.0.some h.0.fit, groups_trees d gs h.1)
+groups_trees d (g ∷ gs) h = (some_joined d Form.Or (FilterGroup.queries g) h.0.some h.0.fit, groups_trees d gs h.1)
 
-filtered_fits : (d : ℕ) (base : Tree) (gs : List Group) → Fits (d + 2) base → GroupsFit d gs → Fits (d + 3) (filtered base gs)
+filtered_fits : (d : ℕ) (base : Tree) (gs : List FilterGroup) → Fits (d + 2) base → GroupsFit d gs → Fits (d + 3) (filtered base gs)
 filtered_fits d base [] f g = deeper (d + 2) (d + 3) base (omega arith) f
 filtered_fits d base (g ∷ gs) f h =
     deeper (d + 2 + 1) (d + 3) _ (omega arith) (some_fit (d + 2) Form.Filter base (map group_tree (g ∷ gs)) (f, all_deeper (d + 1) (d + 2) (map group_tree (g ∷ gs)) (omega arith) (groups_trees d (g ∷ gs) h)))
@@ -275,7 +276,7 @@ run_trees_fit d join test (r ∷ rs) some h = by (test r) r (filter test rs) (ru
 
 and_fits : (d : ℕ) (join : Join) (ps : List Part) → 1 ≤ d → PartsFit d ps → Fits (d + 6) (and_tree join ps)
 and_fits d join ps some h =
-    let rs : List Run = runs_in ps in
+    let rs : List Run = xor_runs ps in
     let fit : RunsFit d rs = runs_fit d true false ps h in
     deeper (d + 4 + 1 + 1) (d + 6) (and_tree join ps) (omega arith)
     (without_fits (d + 4 + 1) (d + 4) (all_of (run_trees join is_positive rs)) (run_trees join Run.negative rs) (omega arith)

@@ -8,8 +8,8 @@ use Rattle.sk_query.specs.Fits.{leaves_of, leaves_in}
 use Rattle.sk_grammar.specs.declared.token.Kind.{Kind}
 use Rattle.sk_grammar.specs.declared.token.Mark.{Mark}
 use Rattle.sk_grammar.specs.Parts.{Part, chain, unit, chosen, empty, link, operator, linked, with_words, with_part, chained, chain_tree}
-use Rattle.sk_grammar.specs.Runs.{Unit as UnitMeant, unit_of, mark_behind, units, hates, loves, is_hated, is_filter, is_wanted, is_loved, is_plain, queries_of, joined, without, all_of, with_plain, loved_and_plain, base_of, Group, added, added_filter, groups_after, group_tree, filtered, units_tree, run_tree}
-use Rattle.sk_grammar.specs.Meaning.{at, in_front, split, is_or, is_xor, is_and, Run, in_run, runs, runs_in, is_positive, run_trees, and_tree, xor_tree, parts_tree, closed_part}
+use Rattle.sk_grammar.specs.Runs.{Unit as UnitMeant, unit_of, mark_behind, units, hates, loves, is_hated, is_filter, is_wanted, is_loved, is_optional, queries_of, joined, excluding, all_of, with_plain, loved_and_plain, base_of, FilterGroup, added, added_filter, groups_after, group_tree, filtered, units_tree, run_tree}
+use Rattle.sk_grammar.specs.Meaning.{at, in_front, split, is_or, is_xor, is_and, Run, in_run, runs, xor_runs, is_positive, run_trees, and_tree, xor_tree, parts_tree, closed_part}
 use Rattle.sk_grammar.specs.Faults.{is_not}
 
 -- The leaves of several queries.
@@ -26,7 +26,7 @@ joined_leaves form [] = refl
 joined_leaves form (t ∷ []) = omega arith
 joined_leaves form (t ∷ u ∷ ts) = refl
 
-without_leaves : (base : Tree) (ts : List Tree) → leaves_of (without base ts) ≡ leaves_of base + sum_of ts
+without_leaves : (base : Tree) (ts : List Tree) → leaves_of (excluding base ts) ≡ leaves_of base + sum_of ts
 without_leaves base [] = omega arith
 without_leaves base (t ∷ ts) = refl
 
@@ -68,40 +68,40 @@ wanted_shares false true true k = omega arith
 wanted_shares false true false k = omega arith
 wanted_shares false false l k = refl
 
-wanted_leaves : (us : List UnitMeant) → sum_of (queries_of is_loved us) + sum_of (queries_of is_plain us) ≡ sum_of (queries_of is_wanted us)
+wanted_leaves : (us : List UnitMeant) → sum_of (queries_of is_loved us) + sum_of (queries_of is_optional us) ≡ sum_of (queries_of is_wanted us)
 wanted_leaves [] = refl
 wanted_leaves (u ∷ us) =
     let a = passed_leaves is_loved u us in
-    let b = passed_leaves is_plain u us in
+    let b = passed_leaves is_optional u us in
     let c = passed_leaves is_wanted u us in
     let one = wanted_shares (hates (UnitMeant.mark u)) (is_none (UnitMeant.field u)) (loves (UnitMeant.mark u)) (leaves_of (UnitMeant.query u)) in
     let more = wanted_leaves us in
     omega (arith, a, b, c, one, more)
 
 base_leaves : (join : Join) (us : List UnitMeant) → leaves_of (base_of join us) ≡ sum_of (queries_of is_wanted us)
-base_leaves Join.Or us = loved_leaves (queries_of is_loved us) (queries_of is_plain us) ∙ wanted_leaves us
+base_leaves Join.Or us = loved_leaves (queries_of is_loved us) (queries_of is_optional us) ∙ wanted_leaves us
 base_leaves Join.And us = all_of_leaves (queries_of is_wanted us)
 
 -- The leaves of filters.
-abbrev groups_leaves : List Group → ℕ
+abbrev groups_leaves : List FilterGroup → ℕ
 groups_leaves [] = 0
-groups_leaves (g ∷ gs) = sum_of (Group.queries g) + groups_leaves gs
+groups_leaves (g ∷ gs) = sum_of (FilterGroup.queries g) + groups_leaves gs
 
-added_leaves : (f : ℕ) (t : Tree) (gs : List Group) → groups_leaves (added f t gs) ≡ groups_leaves gs + leaves_of t
+added_leaves : (f : ℕ) (t : Tree) (gs : List FilterGroup) → groups_leaves (added f t gs) ≡ groups_leaves gs + leaves_of t
 added_leaves f t [] = omega arith
-added_leaves f t (g ∷ gs) = by (Group.field g == f) (added_leaves f t gs)
+added_leaves f t (g ∷ gs) = by (FilterGroup.field g == f) (added_leaves f t gs)
   where
     by : (b : Bool) → groups_leaves (added f t gs) ≡ groups_leaves gs + leaves_of t
-        → groups_leaves (if b then record { field = Group.field g; queries = Group.queries g ++ t ∷ [] } ∷ gs else g ∷ added f t gs) ≡ (sum_of (Group.queries g) + groups_leaves gs) + leaves_of t
-    by true more = let whole = sum_append (Group.queries g) (t ∷ []) in omega (arith, whole)
+        → groups_leaves (if b then record { field = FilterGroup.field g; queries = FilterGroup.queries g ++ t ∷ [] } ∷ gs else g ∷ added f t gs) ≡ (sum_of (FilterGroup.queries g) + groups_leaves gs) + leaves_of t
+    by true more = let whole = sum_append (FilterGroup.queries g) (t ∷ []) in omega (arith, whole)
     by false more = omega (arith, more)
 
-one_leaves : (h : Bool) (o : Option ℕ) (t : Tree) (gs : List Group) → groups_leaves (if not h && is_some o then added_filter o t gs else gs) ≡ groups_leaves gs + share (not h && is_some o) (leaves_of t)
+one_leaves : (h : Bool) (o : Option ℕ) (t : Tree) (gs : List FilterGroup) → groups_leaves (if not h && is_some o then added_filter o t gs else gs) ≡ groups_leaves gs + share (not h && is_some o) (leaves_of t)
 one_leaves true o t gs = omega arith
 one_leaves false None t gs = omega arith
 one_leaves false (Some f) t gs = added_leaves f t gs
 
-after_leaves : (us : List UnitMeant) (gs : List Group) → groups_leaves (groups_after gs us) ≡ groups_leaves gs + sum_of (queries_of is_filter us)
+after_leaves : (us : List UnitMeant) (gs : List FilterGroup) → groups_leaves (groups_after gs us) ≡ groups_leaves gs + sum_of (queries_of is_filter us)
 after_leaves [] gs = omega arith
 after_leaves (u ∷ us) gs =
     let more = after_leaves us (if is_filter u then added_filter (UnitMeant.field u) (UnitMeant.query u) gs else gs) in
@@ -109,11 +109,11 @@ after_leaves (u ∷ us) gs =
     let first = passed_leaves is_filter u us in
     omega (arith, more, one, first)
 
-trees_leaves : (gs : List Group) → sum_of (map group_tree gs) ≡ groups_leaves gs
+trees_leaves : (gs : List FilterGroup) → sum_of (map group_tree gs) ≡ groups_leaves gs
 trees_leaves [] = refl
-trees_leaves (g ∷ gs) = let first = joined_leaves Form.Or (Group.queries g) in let more = trees_leaves gs in omega (arith, first, more)
+trees_leaves (g ∷ gs) = let first = joined_leaves Form.Or (FilterGroup.queries g) in let more = trees_leaves gs in omega (arith, first, more)
 
-filtered_leaves : (base : Tree) (gs : List Group) → leaves_of (filtered base gs) ≡ leaves_of base + groups_leaves gs
+filtered_leaves : (base : Tree) (gs : List FilterGroup) → leaves_of (filtered base gs) ≡ leaves_of base + groups_leaves gs
 filtered_leaves base [] = omega arith
 filtered_leaves base (g ∷ gs) = ap (λ n. leaves_of base + n) (trees_leaves (g ∷ gs))
 
@@ -252,7 +252,7 @@ signs_leaves join (r ∷ rs) =
 
 and_leaves : (join : Join) (ps : List Part) → leaves_of (and_tree join ps) ≤ parts_leaves ps
 and_leaves join ps =
-    let rs : List Run = runs_in ps in
+    let rs : List Run = xor_runs ps in
     let a = without_leaves (all_of (run_trees join is_positive rs)) (run_trees join Run.negative rs) in
     let b = all_of_leaves (run_trees join is_positive rs) in
     let c = signs_leaves join rs in

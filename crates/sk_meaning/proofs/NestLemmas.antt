@@ -10,11 +10,11 @@ use Rattle.sk_base.specs.declared.schema.Schema.{Schema}
 use Rattle.sk_base.specs.declared.schema.FieldKind.{FieldKind}
 use Rattle.sk_base.specs.declared.find.Join.{Join}
 use Rattle.sk_base.specs.Fields.{is_field, is_kind}
-use Rattle.sk_base.specs.Terms.{prefixed}
-use Rattle.sk_query.specs.Fits.{is_given, is_slot, leaves_of as tree_leaves}
+use Rattle.sk_base.specs.Terms.{prefixed, is_given}
+use Rattle.sk_query.specs.Fits.{is_slot, leaves_of as tree_leaves}
 use Rattle.sk_grammar.specs.declared.token.Kind.{Kind}
 use Rattle.sk_grammar.specs.Brackets.{Nest, single, bracket, Nests, no_nests, nest, Levels, opened, with_token, levels_of}
-use Rattle.sk_grammar.specs.Faults.{is_open, is_distance, depth_behind, leaves_of, leaves_in}
+use Rattle.sk_grammar.specs.Faults.{is_open, is_distance, depth_behind, leaves_by, leaves_among}
 use Rattle.sk_grammar.specs.Parts.{Part, prefix_of, prefix_in, side_by_side, slot_of, range_in, all_prefixed, part_of, chained}
 use Rattle.sk_grammar.specs.Meaning.{closed_part, nest_part, nest_parts, tree_in}
 use Rattle.sk_meaning.proofs.TermLemmas.{text_prefixed, prefix_prefixed}
@@ -93,7 +93,7 @@ part_fits schema around (Kind.Near n) sound h = distance_within n h.1
 part_fits schema around (Kind.Adj n) sound h = distance_within n h.1
 part_fits schema around k sound h = tt
 
-part_few : (schema : Schema) (around : List ℕ) (k : Kind) → part_leaves (part_of schema around k) ≤ leaves_of k
+part_few : (schema : Schema) (around : List ℕ) (k : Kind) → part_leaves (part_of schema around k) ≤ leaves_by k
 part_few schema around (Kind.Word field t) = omega arith
 part_few schema around (Kind.Wild field t) = omega arith
 part_few schema around (Kind.Joined field ts) =
@@ -116,7 +116,7 @@ abbrev mutual
 
 abbrev mutual
   nest_leaves : Nest → ℕ
-  nest_leaves (single k) = leaves_of k
+  nest_leaves (single k) = leaves_by k
   nest_leaves (bracket field ns) = nests_leaves ns
 
   nests_leaves : Nests → ℕ
@@ -224,14 +224,14 @@ opened_leaves : (field : Option ℕ) (here : Nests) (outside : List Nests) → l
 opened_leaves field here [] = omega arith
 opened_leaves field here (next ∷ more) = omega arith
 
-token_leaves : (k : Kind) (behind : Levels) → levels_leaves (with_token k behind) ≡ leaves_of k + levels_leaves behind
+token_leaves : (k : Kind) (behind : Levels) → levels_leaves (with_token k behind) ≡ leaves_by k + levels_leaves behind
 token_leaves (Kind.Open field) behind = opened_leaves field (Levels.here behind) (Levels.outside behind) ∙ omega arith
 token_leaves Kind.Close behind = omega arith
 token_leaves k behind = omega arith
 
-all_leaves : (ks : List Kind) → levels_leaves (levels_of ks) ≡ leaves_in ks
+all_leaves : (ks : List Kind) → levels_leaves (levels_of ks) ≡ leaves_among ks
 all_leaves [] = refl
-all_leaves (k ∷ ks) = token_leaves k (levels_of ks) ∙ ap (λ n. leaves_of k + n) (all_leaves ks)
+all_leaves (k ∷ ks) = token_leaves k (levels_of ks) ∙ ap (λ n. leaves_by k + n) (all_leaves ks)
 
 -- The query of tokens.
 pub tree_in_fits : (schema : Schema) (join : Join) (ks : List Kind) → list_all is_field schema.fields ≡ true → AreGood schema ks → IsShallow 0 ks → Fits 809 (tree_in schema join ks)
@@ -244,7 +244,7 @@ tree_in_fits schema join ks sound good shallow =
     (chained_fit 801 [] (nest_parts schema join [] here) tt (parts_deeper (1 + 8 * nests_depth here) 801 (nest_parts schema join [] here) (omega arith) made)) in
     parts_tree_fits 801 join (reverse (chained [] (nest_parts schema join [] here))) (omega arith) turned
 
-pub tree_in_leaves : (schema : Schema) (join : Join) (ks : List Kind) → tree_leaves (tree_in schema join ks) ≤ leaves_in ks
+pub tree_in_leaves : (schema : Schema) (join : Join) (ks : List Kind) → tree_leaves (tree_in schema join ks) ≤ leaves_among ks
 tree_in_leaves schema join ks =
     let here : Nests = Levels.here (levels_of ks) in
     let parts : List Part = nest_parts schema join [] here in

@@ -11,9 +11,9 @@ use Rattle.sk_base.specs.declared.schema.FieldKind.{FieldKind}
 use Rattle.sk_base.specs.Names.{is_name, is_name_byte, is_prefix}
 use Rattle.sk_base.specs.Fields.{is_kind, is_field, place_of}
 use Rattle.sk_text.specs.Characters.{is_word_char}
-use Rattle.sk_query.specs.Fits.{is_given}
+use Rattle.sk_base.specs.Terms.{is_given}
 use Rattle.sk_grammar.specs.declared.token.Kind.{Kind}
-use Rattle.sk_grammar.specs.Characters.{group_len, inner, is_good, runs_on, terms_in}
+use Rattle.sk_grammar.specs.Characters.{group_len, inner, is_good, runs_on, run_terms}
 use Rattle.sk_grammar.specs.Pieces.{Piece, token_piece, longer, quote_piece, is_starred, is_one, first_term, distance, distant, operator_of, words_kind, group_kind, group_of_len, group_piece, text_piece, filter_piece, range_piece, value_piece, colon_piece, field_piece, mark_piece, takes_mark, is_marked, last_piece, piece_at}
 use Rattle.sk_base.specs.Fields.{kind_prefix}
 use Rattle.sk_grammar.specs.Parts.{prefix_of}
@@ -106,10 +106,10 @@ group_kind_filled schema (Some f) text ts e = words_filled schema (Some f) ts e
 
 of_len_filled : (schema : Schema) (field : Option ℕ) (n : ℕ) (cs : List ℕ) → PieceFilled schema (group_of_len field n cs)
 of_len_filled schema field n cs =
-    if_piece schema (is_one (terms_in (take n cs)) && is_starred (drop n cs)) (token_piece (Kind.Wild field (first_term (terms_in (take n cs)))) (n + 1))
-    (token_piece (group_kind field (encode_utf8_all (take n cs)) (terms_in (take n cs))) n)
-    (λ e. first_given (terms_in (take n cs)) (terms_given (take n cs)) (first_so (is_one (terms_in (take n cs))) (is_starred (drop n cs)) e))
-    (λ _. group_kind_filled schema field (encode_utf8_all (take n cs)) (terms_in (take n cs)) (terms_given (take n cs)))
+    if_piece schema (is_one (run_terms (take n cs)) && is_starred (drop n cs)) (token_piece (Kind.Wild field (first_term (run_terms (take n cs)))) (n + 1))
+    (token_piece (group_kind field (encode_utf8_all (take n cs)) (run_terms (take n cs))) n)
+    (λ e. first_given (run_terms (take n cs)) (terms_given (take n cs)) (first_so (is_one (run_terms (take n cs))) (is_starred (drop n cs)) e))
+    (λ _. group_kind_filled schema field (encode_utf8_all (take n cs)) (run_terms (take n cs)) (terms_given (take n cs)))
 
 group_filled : (schema : Schema) (field : Option ℕ) (cs : List ℕ) → PieceFilled schema (group_piece field cs)
 group_filled schema field cs = of_len_filled schema field (group_len false cs) cs

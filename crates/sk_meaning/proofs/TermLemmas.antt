@@ -11,9 +11,8 @@ use Rattle.sk_text.specs.declared.word.Word.{Word}
 use Rattle.sk_text.specs.Characters.{is_word_char, belongs, written}
 use Rattle.sk_text.specs.Terms.{folded_bytes, term_of}
 use Rattle.sk_text.specs.Words.{ended, words_from}
-use Rattle.sk_base.specs.Terms.{needs_colon, prefixed}
-use Rattle.sk_query.specs.Fits.{is_given}
-use Rattle.sk_grammar.specs.Characters.{word_term, terms_in}
+use Rattle.sk_base.specs.Terms.{needs_colon, prefixed, is_given}
+use Rattle.sk_grammar.specs.Characters.{word_term, run_terms}
 
 -- A text with a byte is not empty.
 pub given_some : (t : List ℕ) → 1 ≤ length t → is_given t ≡ true
@@ -75,7 +74,7 @@ from_given (c ∷ cs) number after from at word some =
     (from_given cs (number + length (ended number from at word)) (is_word_char c) (at + len_utf8 c) (at + len_utf8 c) [] (same_place (at + len_utf8 c))))
 
 -- The terms of a run are not empty.
-pub terms_given : (cs : List ℕ) → list_all is_given (terms_in cs) ≡ true
+pub terms_given : (cs : List ℕ) → list_all is_given (run_terms cs) ≡ true
 terms_given cs = from_given cs 1 false 0 0 [] (same_place 0)
 
 -- A term under a prefix is not empty, where either is not.

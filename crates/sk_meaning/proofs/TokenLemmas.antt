@@ -9,8 +9,8 @@ use Rattle.sk_grammar.specs.declared.fault.FaultKind.{FaultKind}
 use Rattle.sk_grammar.specs.declared.token.Kind.{Kind}
 use Rattle.sk_grammar.specs.declared.token.Token.{Token}
 use Rattle.sk_grammar.specs.Pieces.{Piece, piece_at}
-use Rattle.sk_grammar.specs.Cutting.{pieces_behind, pieces_of, placed, byte_len, tokens_from, tokens_of}
-use Rattle.sk_grammar.specs.Faults.{is_item, is_open, is_distance, is_between, depth_behind, depth_of, leaves_of, leaves_in, is_stray, is_unclosed, lacks_operand, is_bad_near, is_bad_range, is_too_deep, is_too_many, fault_at, fault_or, fault_behind, fault_in, kinds_of, second_is, is_adj, is_near}
+use Rattle.sk_grammar.specs.Cutting.{pieces_behind, pieces_of, token_at, byte_len, tokens_from, tokens_of}
+use Rattle.sk_grammar.specs.Faults.{is_item, is_open, is_distance, is_between, depth_behind, brackets_at, leaves_by, leaves_among, is_stray, is_unclosed, lacks_operand, is_bad_near, is_bad_range, is_too_deep, is_too_many, fault_at, fault_or, fault_behind, fault_in, kinds_of, second_is, is_adj_sign, is_near_sign}
 use Rattle.sk_meaning.proofs.PieceLemmas.{is_filled, KindFilled, PieceFilled, piece_filled}
 
 -- The tokens of a text are filled.
@@ -25,7 +25,7 @@ behind_filled schema (c ∷ cs) before zero sound =
     (piece_filled schema before c cs sound, behind_filled schema cs (Some c) (pred (Piece.size (piece_at schema before c cs))) sound)
 
 placed_filled : (schema : Schema) (o : Option Kind) (from to : ℕ) (ts : List Token) → KindFilled schema o → list_all (is_filled schema) (kinds_of ts) ≡ true
-    → list_all (is_filled schema) (kinds_of (placed o from to ++ ts)) ≡ true
+    → list_all (is_filled schema) (kinds_of (token_at o from to ++ ts)) ≡ true
 placed_filled schema None from to ts f g = g
 placed_filled schema (Some k) from to ts f g = and_from (is_filled schema k) (list_all (is_filled schema) (kinds_of ts)) f g
 
@@ -52,8 +52,8 @@ IsShallow depth (k ∷ ks) = (is_open k ≡ true → depth < 100) × IsShallow (
 -- What a token without a fault is.
 record IsFaultless (before : List Kind) (k : Kind) : Type 0 where
   link : is_linkable k ≡ true
-  deep : is_open k ≡ true → depth_of before < 100
-  few : leaves_in before ≤ 1024 → leaves_in before + leaves_of k ≤ 1024
+  deep : is_open k ≡ true → brackets_at before < 100
+  few : leaves_among before ≤ 1024 → leaves_among before + leaves_by k ≤ 1024
 
 pub past : (b : Bool) (x : FaultKind) (o : Option FaultKind) → (if b then Some x else o) ≡ None → (b ≡ false) × (o ≡ None)
 past true x o e = absurd (cc)
@@ -70,8 +70,8 @@ middle false true c e = refl
 middle false false c e = absurd (cc)
 
 near_linkable : (before : List Kind) (k : Kind) (behind : List Kind) → is_bad_near before k behind ≡ false → is_linkable k ≡ true
-near_linkable before (Kind.Near n) behind e = middle (is_between before behind) (is_distance n) (second_is is_adj before) e
-near_linkable before (Kind.Adj n) behind e = middle (is_between before behind) (is_distance n) (second_is is_near before) e
+near_linkable before (Kind.Near n) behind e = middle (is_between before behind) (is_distance n) (second_is is_adj_sign before) e
+near_linkable before (Kind.Adj n) behind e = middle (is_between before behind) (is_distance n) (second_is is_near_sign before) e
 near_linkable before k behind e = refl
 
 deep_within : (b : Bool) (n : ℕ) → (b && nat_le 100 n) ≡ false → b ≡ true → n < 100
@@ -79,7 +79,7 @@ deep_within true n e f = grind (arith, nat_tests)
 deep_within false n e f = absurd (cc)
 
 -- What is no item has no leaves.
-no_leaves : (k : Kind) → is_item k ≡ false → leaves_of k ≡ 0
+no_leaves : (k : Kind) → is_item k ≡ false → leaves_by k ≡ 0
 no_leaves (Kind.Joined field ts) e = absurd (cc)
 no_leaves (Kind.Quote field ts) e = absurd (cc)
 no_leaves k e = ap (λ (b : Bool). if b then 1 else 0) e
@@ -99,15 +99,15 @@ faultless schema before k behind e =
     let h = past (is_too_many before k) FaultKind.TooMany _ g.1 in
     record {
       link = near_linkable before k behind d.0;
-      deep = deep_within (is_open k) (depth_of before) g.0;
-      few = few_within (is_item k) (leaves_in before) (leaves_of k) (no_leaves k) h.0;
+      deep = deep_within (is_open k) (brackets_at before) g.0;
+      few = few_within (is_item k) (leaves_among before) (leaves_by k) (no_leaves k) h.0;
     }
 
 -- What tokens without a fault are, behind others.
 pub record AreFaultless (before ks : List Kind) : Type 0 where
   pub links : list_all is_linkable ks ≡ true
-  pub shallow : IsShallow (depth_of before) ks
-  pub few : leaves_in before ≤ 1024 → leaves_in before + leaves_in ks ≤ 1024
+  pub shallow : IsShallow (brackets_at before) ks
+  pub few : leaves_among before ≤ 1024 → leaves_among before + leaves_among ks ≤ 1024
 
 more_faultless : (before : List Kind) (k : Kind) (ks : List Kind) → IsFaultless before k → AreFaultless (k ∷ before) ks → AreFaultless before (k ∷ ks)
 more_faultless before k ks one more = record {

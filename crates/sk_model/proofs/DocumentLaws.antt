@@ -18,7 +18,8 @@ use Rattle.sk_base.specs.declared.schema.Schema.{Schema}
 use Rattle.sk_base.specs.declared.schema.FieldKind.{FieldKind}
 use Rattle.sk_base.specs.Documents.{has_value, AreValues}
 use Rattle.sk_base.specs.Fields.{clash, kinds_clash, are_apart}
-use Rattle.sk_model.specs.Documents.{value_at, is_given, slot_values_of, slot_values_from, with_value, values_of, document_of, keeps_slot, has_slot}
+use Rattle.sk_model.specs.Documents.{value_at, slot_values_of, slot_values_from, with_value, values_of, document_of, keeps_slot, has_slot}
+use Rattle.sk_base.specs.Terms.{is_given}
 
 pub swap_or : (a b c : Bool) → (a || (b || c)) ≡ (b || (a || c))
 swap_or true true c = refl

@@ -13,7 +13,7 @@ use Rattle.sk_base.specs.declared.doc_entry.DocTerm.{DocTerm}
 use Rattle.sk_base.specs.Order.{Precedes}
 use Rattle.sk_base.specs.Documents.{AreTerms, has_term, wdf_of, positions_of}
 use Rattle.sk_model.proofs.DocumentLaws.{swap_or, shift_or}
-use Rattle.sk_model.specs.Documents.{joined, noted, terms_of, mentions_of}
+use Rattle.sk_model.specs.Documents.{merged, noted, terms_of, mentions_of}
 
 -- ---- order
 
@@ -27,7 +27,7 @@ all_behind a b [] h all = tt
 all_behind a b (one ∷ more) h all = (nat_list_cmp_total.trans a b one.term h all.0, all_behind a b more h all.1)
 
 before_step : (a : List ℕ) (one m : DocTerm) (more put : List DocTerm) (r : Ordering) → Precedes a m.term → AllByRecursion (λ t. Precedes a t.term) (one ∷ more)
-    → AllByRecursion (λ t. Precedes a t.term) put → AllByRecursion (λ t. Precedes a t.term) (match_ordering r (m ∷ one ∷ more) (joined one m ∷ more) (one ∷ put))
+    → AllByRecursion (λ t. Precedes a t.term) put → AllByRecursion (λ t. Precedes a t.term) (match_ordering r (m ∷ one ∷ more) (merged one m ∷ more) (one ∷ put))
 before_step a one m more put Less h all rest = (h, all)
 before_step a one m more put Equal h all rest = all
 before_step a one m more put Greater h all rest = (all.0, rest)
@@ -40,7 +40,7 @@ pub turned : (a b : List ℕ) → slice_cmp nat_cmp a b ≡ Greater → Precedes
 turned a b h = nat_list_cmp_total.antisymm b a ∙ ap ordering_reverse h
 
 rising_step : (one m : DocTerm) (more : List DocTerm) (r : Ordering) → slice_cmp nat_cmp m.term one.term ≡ r → Rising (one ∷ more) → Rising (noted more m)
-    → Rising (match_ordering r (m ∷ one ∷ more) (joined one m ∷ more) (one ∷ noted more m))
+    → Rising (match_ordering r (m ∷ one ∷ more) (merged one m ∷ more) (one ∷ noted more m))
 rising_step one m more Less h rising rest = ((h, all_behind m.term one.term more h rising.0), rising)
 rising_step one m more Equal h rising rest = rising
 rising_step one m more Greater h rising rest = (before-noted one.term more m (turned m.term one.term h) rising.0, rest)
@@ -79,7 +79,7 @@ fold-filter g p a (x ∷ xs) = fold-filter g p (cond (p x) (g a x) a) xs ∙ sym
 zero_plus : (n : ℕ) → n ≡ 0 + n
 zero_plus n = omega arith
 
-module _ {X : Type 0} (f : DocTerm → X) (none : X) (plus : X → X → X) (add : (one m : DocTerm) → f (joined one m) ≡ plus (f one) (f m)) (start : (m : DocTerm) → f m ≡ plus none (f m)) where
+module _ {X : Type 0} (f : DocTerm → X) (none : X) (plus : X → X → X) (add : (one m : DocTerm) → f (merged one m) ≡ plus (f one) (f m)) (start : (m : DocTerm) → f m ≡ plus none (f m)) where
   -- what the first entry of a term has
   abbrev of : List ℕ → List DocTerm → X
   of t [] = none
@@ -93,7 +93,7 @@ module _ {X : Type 0} (f : DocTerm → X) (none : X) (plus : X → X → X) (add
   first_step t m terms true h = start m ∙ ap (λ x. plus x (f m)) (sym (h refl))
   first_step t m terms false h = refl
 
-  same_step : (t : List ℕ) (one m : DocTerm) (rest : X) (b : Bool) → cond b (f (joined one m)) rest ≡ cond b (plus (cond b (f one) rest) (f m)) (cond b (f one) rest)
+  same_step : (t : List ℕ) (one m : DocTerm) (rest : X) (b : Bool) → cond b (f (merged one m)) rest ≡ cond b (plus (cond b (f one) rest) (f m)) (cond b (f one) rest)
   same_step t one m rest true = add one m
   same_step t one m rest false = refl
 
@@ -105,7 +105,7 @@ module _ {X : Type 0} (f : DocTerm → X) (none : X) (plus : X → X → X) (add
 
   noted_step : (t : List ℕ) (one m : DocTerm) (more : List DocTerm) (r : Ordering) → slice_cmp nat_cmp m.term one.term ≡ r → Rising (one ∷ more)
       → of t (noted more m) ≡ cond (bytes_eq m.term t) (plus (of t more) (f m)) (of t more)
-      → of t (match_ordering r (m ∷ one ∷ more) (joined one m ∷ more) (one ∷ noted more m))
+      → of t (match_ordering r (m ∷ one ∷ more) (merged one m ∷ more) (one ∷ noted more m))
       ≡ cond (bytes_eq m.term t) (plus (of t (one ∷ more)) (f m)) (of t (one ∷ more))
   noted_step t one m more Less h rising rest =
       first_step t m (one ∷ more) (bytes_eq m.term t)
@@ -161,7 +161,7 @@ or_none true = refl
 or_none false = refl
 
 has_step : (t : List ℕ) (one m : DocTerm) (more put : List DocTerm) (r : Ordering) → slice_cmp nat_cmp m.term one.term ≡ r → has_term t put ≡ (bytes_eq m.term t || has_term t more)
-    → has_term t (match_ordering r (m ∷ one ∷ more) (joined one m ∷ more) (one ∷ put)) ≡ (bytes_eq m.term t || has_term t (one ∷ more))
+    → has_term t (match_ordering r (m ∷ one ∷ more) (merged one m ∷ more) (one ∷ put)) ≡ (bytes_eq m.term t || has_term t (one ∷ more))
 has_step t one m more put Less h rest = refl
 has_step t one m more put Equal h rest =
     both_or (bytes_eq one.term t) (has_term t more) ∙ ap (λ s. bytes_eq s t || has_term t (one ∷ more)) (sym (exact_bytes m.term one.term h))

@@ -17,7 +17,7 @@ use Rattle.sk_base.specs.declared.schema.Field.{Field}
 use Rattle.sk_base.specs.declared.schema.FieldKind.{FieldKind}
 use Rattle.sk_base.specs.declared.schema.Schema.{Schema}
 use Rattle.sk_base.specs.Fields.{kind_slot}
-use Rattle.sk_base.specs.Terms.{prefixed}
+use Rattle.sk_base.specs.Terms.{prefixed, is_given}
 
 -- A document: its terms with wdf and positions, its values by slot, and its payload.
 abbrev pub Document : Type 0
@@ -81,10 +81,6 @@ placed_words schema values = placed_from 1 (occurrences_from 0 0 schema.fields v
 abbrev pub filter_term : List ℕ → List ℕ → DocTerm
 filter_term prefix text = record { term = prefixed prefix text; wdf = 0; positions = [] }
 
--- The text has a byte.
-abbrev pub is_given : List ℕ → Bool
-is_given text = nat_lt 0 (length text)
-
 -- The terms that a value gives in a filter field: one for each text that is not empty.
 abbrev pub filter_terms_of : FieldKind → Option FieldValue → List DocTerm
 filter_terms_of (FieldKind.Filter prefix) (Some (FieldValue.Filter texts)) = map (filter_term prefix) (filter is_given texts)
@@ -100,14 +96,14 @@ abbrev pub mentions : Schema → List Entry → List DocTerm
 mentions schema values = placed_words schema values ++ filter_terms_from 0 schema.fields values
 
 -- A term with one mention more: the wdfs are added, and its places put last.
-abbrev pub joined : DocTerm → DocTerm → DocTerm
-joined one mention = record { term = one.term; wdf = one.wdf + mention.wdf; positions = one.positions ++ mention.positions }
+abbrev pub merged : DocTerm → DocTerm → DocTerm
+merged one mention = record { term = one.term; wdf = one.wdf + mention.wdf; positions = one.positions ++ mention.positions }
 
 -- The terms with one mention more, in byte order: a new term in its place, or one that is there joined with it.
 abbrev pub noted : List DocTerm → DocTerm → List DocTerm
 noted [] mention = mention ∷ []
 noted (one ∷ more) mention =
-    match_ordering (slice_cmp nat_cmp mention.term one.term) (mention ∷ one ∷ more) (joined one mention ∷ more) (one ∷ noted more mention)
+    match_ordering (slice_cmp nat_cmp mention.term one.term) (mention ∷ one ∷ more) (merged one mention ∷ more) (one ∷ noted more mention)
 
 -- The terms of a document: of all that is mentioned, each term once.
 abbrev pub terms_of : List DocTerm → List DocTerm

@@ -16,9 +16,9 @@ use Rattle.sk_nodes.specs.Odd.{AreSought, followed_by}
 use Rattle.sk_nodes.specs.Flat.{room_to, rooms_to, IsFlat, AreFlat, AreNests, MayGo}
 use Rattle.sk_nodes.specs.Led.{follow_room, follow_rooms}
 use Rattle.sk_nodes.specs.Accounts.{Keeps}
-use Rattle.sk_nodes.specs.Moved.{Kind, flat_to, plain_to, with_lead, lone_behind, nest_behind, account_of, Accounts, Sought}
+use Rattle.sk_nodes.specs.Moved.{Kind, flat_to, plain_to, with_lead, lone_behind, nest_behind, account_of, Accounts, WasSought}
 use Rattle.sk_nodes.specs.Any.{AreKept, AreMoved, HaveLed, AreWeighed, AreEnded}
-use Rattle.sk_nodes.specs.Skips.{IsLight}
+use Rattle.sk_nodes.specs.Skips.{WeighsBelow}
 use Rattle.sk_nodes.proofs.LeafLaws.{from_on-at, from_cases}
 use Rattle.sk_nodes.proofs.NodeLaws.{IsHead-none, ended_top, none_bound}
 use Rattle.sk_nodes.proofs.OddLaws.{either_none, either_first, either_second, either_both, sum_bound, none_below, same_from}
@@ -147,7 +147,7 @@ kept_first i target before between after t s ss u r rs first others = record {
 
 -- the same of all that is kept of them
 pub moved_first : (i : Indexed) (target before between after steps more : ℕ) (t : Top) (s : Shape) (ss : Sides) (u : Top) (r : Shape) (rs : Sides)
-    → Sought i target 0 t.greatest before between steps more s r u → Accounts i target 0 before between s r → AreMoved i target between after ss rs → AreMoved i target before after (side t s ss) (side u r rs)
+    → WasSought i target 0 t.greatest before between steps more s r u → Accounts i target 0 before between s r → AreMoved i target between after ss rs → AreMoved i target before after (side t s ss) (side u r rs)
 moved_first i target before between after steps more t s ss u r rs sought accounts others = record {
   sound = record { top = sought.lands.top; sound = sought.lands.sound; others = others.sound };
   falls = omega (arith, sought.falls, others.falls);
@@ -226,11 +226,11 @@ sum_past i (side t s ss) id sound le = either_none (rest i s id) (sum_of_any (re
 
 -- ---- some sides lead
 
-light_le : (need greatest : ℕ) (o : Option ℕ) → unwrap_or o 0 ≤ greatest → greatest < need → IsLight need o
+light_le : (need greatest : ℕ) (o : Option ℕ) → unwrap_or o 0 ≤ greatest → greatest < need → WeighsBelow need o
 light_le need greatest None le lt = tt
 light_le need greatest (Some v) le lt = omega (arith, le, lt)
 
-light_covers : (need : ℕ) (a b : Option ℕ) → b ≡ None → IsLight need a → CoversAt a b need
+light_covers : (need : ℕ) (a b : Option ℕ) → b ≡ None → WeighsBelow need a → CoversAt a b need
 light_covers need None None e light = tt
 light_covers need (Some v) None e light = light
 light_covers need a (Some w) e light = cc
@@ -329,7 +329,7 @@ size_some _ = omega arith
 pub record AnySoFar (i : Indexed) (target need from before after : ℕ) (ss0 ss : Sides) : Type 0 where
   pub sides : IsOdd ss (AreSound i ss)
   pub same : (id : ℕ) → from ≤ id → rests i ss id ≡ rests i ss0 id
-  pub light : (id : ℕ) → target ≤ id → id < from → IsLight need (sum_of_any (rests i ss0 id))
+  pub light : (id : ℕ) → target ≤ id → id < from → WeighsBelow need (sum_of_any (rests i ss0 id))
   pub begun : target ≤ from
   pub falls : greatest_sum ss ≤ greatest_sum ss0
   pub smaller : sizes_in ss ≤ sizes_in ss0
@@ -365,9 +365,9 @@ module _ (i : Indexed) (target need : ℕ) (some_need : 0 < need) (before : ℕ)
   any_led from head between after ss rs small far led sound falls smaller kept = record {
     sides = record { sides = sound; fits = omega (arith, falls, far.sides.fits) };
     same = λ id up. led.same id (omega (arith, up, led.further)) ∙ far.same id (omega (arith, up, led.further));
-    light = λ id up lt. elim (cases_lt id from) as (λ _. IsLight need (sum_of_any (rests i ss0 id))) [
+    light = λ id up lt. elim (cases_lt id from) as (λ _. WeighsBelow need (sum_of_any (rests i ss0 id))) [
       | inl less ↦ far.light id up less
-      | inr le ↦ subst (λ (xs : List (Option ℕ)). IsLight need (sum_of_any xs)) (led.same id le ∙ far.same id le) (led.light id lt)
+      | inr le ↦ subst (λ (xs : List (Option ℕ)). WeighsBelow need (sum_of_any xs)) (led.same id le ∙ far.same id le) (led.light id lt)
     ];
     begun = omega (arith, far.begun, led.further);
     falls = omega (arith, falls, far.falls);
@@ -403,12 +403,12 @@ module _ (i : Indexed) (target need : ℕ) (some_need : 0 < need) (before : ℕ)
   any_on head after total ss rs far weighed less = record {
     sides = far.sides;
     same = λ id up. far.same id (omega (arith, up));
-    light = λ id up lt. elim (cases_lt id head) as (λ _. IsLight need (sum_of_any (rests i ss0 id))) [
+    light = λ id up lt. elim (cases_lt id head) as (λ _. WeighsBelow need (sum_of_any (rests i ss0 id))) [
       | inl before ↦ far.light id up before
       | inr le ↦
           let there : head ≡ id = omega (arith, lt, le) in
-          subst (λ n. IsLight need (sum_of_any (rests i ss0 n))) there
-          (subst (λ (xs : List (Option ℕ)). IsLight need (sum_of_any xs)) (far.same head (le_refl head))
+          subst (λ n. WeighsBelow need (sum_of_any (rests i ss0 n))) there
+          (subst (λ (xs : List (Option ℕ)). WeighsBelow need (sum_of_any xs)) (far.same head (le_refl head))
           (let light = weighed.light less in light_le need (unwrap_or (sum_of_any (rests i rs head)) 0) (sum_of_any (rests i rs head)) (omega arith) (omega (arith, light))))
     ];
     begun = omega (arith, far.begun);
@@ -439,7 +439,7 @@ module _ (i : Indexed) (target need : ℕ) (some_need : 0 < need) (before : ℕ)
       from_cases target (rest i (any ss0)) id (rest i (any rs) id) need
       (λ up. elim (cases_lt id from) as (λ _. CoversAt (rest i (any ss0) id) (rest i (any rs) id) need) [
         | inl lt ↦ light_covers need (rest i (any ss0) id) (rest i (any rs) id) (ended_none i rs id over) (far.light id up lt)
-        | inr le ↦ light_covers need (rest i (any ss0) id) (rest i (any rs) id) (ended_none i rs id over) (subst (λ (o : Option ℕ). IsLight need o) (sym (sum_past i ss0 id sound (omega (arith, end, le)))) tt)
+        | inr le ↦ light_covers need (rest i (any ss0) id) (rest i (any rs) id) (ended_none i rs id over) (subst (λ (o : Option ℕ). WeighsBelow need o) (sym (sum_past i ss0 id sound (omega (arith, end, le)))) tt)
       ])
       (λ lt. ended_none i rs id over)
 

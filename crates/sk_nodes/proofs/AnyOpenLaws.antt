@@ -7,7 +7,7 @@ use Rattle.sk_index.specs.Indexed.{Indexed}
 use Rattle.sk_nodes.specs.declared.top.Top.{Top}
 use Rattle.sk_nodes.specs.Shapes.{Shape, any, Sides, no_sides, side}
 use Rattle.sk_nodes.specs.Odd.{followed_by}
-use Rattle.sk_nodes.specs.Opened.{count_in}
+use Rattle.sk_nodes.specs.Opened.{part_count}
 use Rattle.sk_nodes.specs.Flat.{IsNest, OpensNest}
 use Rattle.sk_nodes.specs.Moved.{flat_to, nest_behind, Accounts}
 use Rattle.sk_nodes.specs.OpenedLed.{CanLead, OpensFollowing}
@@ -50,7 +50,7 @@ terms_nest i form ss s lists s0 s1 s2 is opens accounts = record {
 }
 
 -- the same, as one that follows a list
-pub terms_follow : (i : Indexed) (ts : Trees.Trees) (ss : Sides) (s : Shape) (lists : List (List ℕ)) (s0 s1 s2 : ℕ) → 3 ≤ count_in ts → terms_in ts ≡ Some lists → OpensTerms i ss lists s0 s1 → Accounts i 0 0 s1 s2 (any ss) s → OpensFollowing i s lists s0 s2
+pub terms_follow : (i : Indexed) (ts : Trees.Trees) (ss : Sides) (s : Shape) (lists : List (List ℕ)) (s0 s1 s2 : ℕ) → 3 ≤ part_count ts → terms_in ts ≡ Some lists → OpensTerms i ss lists s0 s1 → Accounts i 0 0 s1 s2 (any ss) s → OpensFollowing i s lists s0 s2
 terms_follow i ts ss s lists s0 s1 s2 many e opens accounts = record {
   nest = ((accounts.keeps (nest_behind 0 0)).kind (refl, (refl, opens.nests))).1;
   lone = λ one. let n = terms_count ts lists e in absurd (omega (arith, n.0, many, one));
@@ -61,7 +61,7 @@ terms_follow i ts ss s lists s0 s1 s2 many e opens accounts = record {
 }
 
 -- two terms are not three
-pub many_not_two : (ts : Trees.Trees) (x y : List ℕ) → 3 ≤ count_in ts → terms_in ts ≡ Some (x ∷ y ∷ []) → ⊥
+pub many_not_two : (ts : Trees.Trees) (x y : List ℕ) → 3 ≤ part_count ts → terms_in ts ≡ Some (x ∷ y ∷ []) → ⊥
 many_not_two ts x y many e = let n = terms_count ts (x ∷ y ∷ []) e in omega (arith, n.0, many)
 
 -- nothing leads in an or

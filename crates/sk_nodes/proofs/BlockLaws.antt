@@ -16,7 +16,7 @@ use Rattle.sk_nodes.specs.Leaves.{weighed}
 use Rattle.sk_nodes.specs.Shapes.{Shape}
 use Rattle.sk_nodes.specs.Left.{rest, from_on}
 use Rattle.sk_nodes.specs.Flat.{IsAtLeast, MayGo}
-use Rattle.sk_nodes.specs.Skips.{IsLight, Skips}
+use Rattle.sk_nodes.specs.Skips.{WeighsBelow, SidesSkip}
 use Rattle.sk_nodes.proofs.LeafLaws.{from_on-at, from_on-below}
 use Rattle.sk_nodes.proofs.ListLaws.{weigh_more}
 
@@ -36,18 +36,18 @@ within_bound factor scheme target last greatest id (p ∷ ps) within from to =
     here same (inr (inr light)) = weigh_more factor scheme p.1 greatest light
 
 -- two that weigh too little weigh too little together
-pub both_light : (need x y : ℕ) (a b : Option ℕ) → unwrap_or a 0 ≤ x → unwrap_or b 0 ≤ y → x + y < need → IsLight need (both a b)
+pub both_light : (need x y : ℕ) (a b : Option ℕ) → unwrap_or a 0 ≤ x → unwrap_or b 0 ≤ y → x + y < need → WeighsBelow need (both a b)
 both_light need x y None b p q lt = tt
 both_light need x y (Some v) None p q lt = tt
 both_light need x y (Some v) (Some w) p q lt = omega (arith, p, q, lt)
 
 -- a weight that is enough is not light
-pub light_enough : (need : ℕ) (o : Option ℕ) → IsLight need o → IsAtLeast need o → ⊥
+pub light_enough : (need : ℕ) (o : Option ℕ) → WeighsBelow need o → IsAtLeast need o → ⊥
 light_enough need None light enough = enough
 light_enough need (Some w) light enough = omega (arith, light, enough)
 
 -- what is light may be passed over
-light_covers : (need : ℕ) (a b : Option ℕ) → IsLight need b → CoversAt a b need → CoversAt a None need
+light_covers : (need : ℕ) (a b : Option ℕ) → WeighsBelow need b → CoversAt a b need → CoversAt a None need
 light_covers need None None light c = tt
 light_covers need None (Some w) light c = absurd c
 light_covers need (Some v) None light c = c
@@ -57,7 +57,7 @@ light_covers need (Some v) (Some w) light c =
       | inr le ↦ let same = c.1 le in omega (arith, same, light)
     ]
 
-module _ (i : Indexed) (form : Form) (from need : ℕ) (a b : Shape) (to : ℕ) (skips : Skips i form from need a b to) where
+module _ (i : Indexed) (form : Form) (from need : ℕ) (a b : Shape) (to : ℕ) (skips : SidesSkip i form from need a b to) where
   abbrev given : ℕ → Option ℕ
   given id = paired form (rest i a id) (rest i b id)
 

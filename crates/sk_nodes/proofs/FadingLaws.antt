@@ -15,12 +15,12 @@ use Rattle.sk_nodes.specs.declared.top.Top.{Top}
 use Rattle.sk_nodes.specs.declared.leaf.Leaf.{Leaf}
 use Rattle.sk_nodes.specs.Leaves.{entries_of, head_of, leaf_unread}
 use Rattle.sk_nodes.specs.Shapes.{Shape, ended, leaf, pair}
-use Rattle.sk_nodes.specs.Left.{greatest_in}
+use Rattle.sk_nodes.specs.Left.{greatest_held}
 use Rattle.sk_nodes.specs.Sound.{IsTop, Sound}
 use Rattle.sk_nodes.specs.Decayed.{changed_pair, decayed}
 use Rattle.sk_nodes.specs.Flat.{room_to}
 use Rattle.sk_nodes.specs.Led.{count_behind, IsLone, lead_head, lead_unread, Walks}
-use Rattle.sk_nodes.specs.Fading.{room_behind, StandsOn, following_room, leading_room, both_room, fading_room, IsFadingForm, IsFading, PairMayFade, MayFade, Moves, MayLeave, FadesUnder}
+use Rattle.sk_nodes.specs.Fading.{entries_behind, StandsOn, following_room, leading_room, both_room, fading_room, IsFadingForm, IsFading, PairMayFade, MayFade, LeafMoves, MayLeave, FadesUnder}
 use Rattle.sk_nodes.specs.Accounts.{Keeps}
 use Rattle.sk_nodes.specs.Moved.{fading_account}
 use Rattle.sk_nodes.proofs.StopLaws.{if_so}
@@ -29,7 +29,7 @@ use Rattle.sk_nodes.proofs.FadeNumbers.{following_under, leading_le, OtherMoved,
 -- ---- a leaf, or nothing
 
 -- where its head is behind the point it has an entry there
-behind_some : (i : Indexed) (point : ℕ) (s : Shape) → IsLone s → point < lead_head i s → lead_head i s < 2 ^ 32 → 1 ≤ room_behind i point s
+behind_some : (i : Indexed) (point : ℕ) (s : Shape) → IsLone s → point < lead_head i s → lead_head i s < 2 ^ 32 → 1 ≤ entries_behind i point s
 behind_some i point ended lone past small = absurd (omega (arith, small))
 behind_some i point (leaf l) lone past small = by (entries_of i l) past small
   where
@@ -56,29 +56,29 @@ alone_other i greatest point target (leaf l) lone = (tt, tt)
 alone_other i greatest point target _ lone = absurd lone
 
 -- or fading
-alone_fading : (i : Indexed) (greatest point target : ℕ) (s : Shape) → IsLone s → greatest_in s ≤ greatest → target ≤ point + 1 → IsFading i greatest false s × MayFade point target false s
+alone_fading : (i : Indexed) (greatest point target : ℕ) (s : Shape) → IsLone s → greatest_held s ≤ greatest → target ≤ point + 1 → IsFading i greatest false s × MayFade point target false s
 alone_fading i greatest point target ended lone bound near = (tt, tt)
 alone_fading i greatest point target (leaf l) lone bound near = (bound, near)
 alone_fading i greatest point target _ lone bound near = absurd lone
 
 -- ---- a leaf that was moved on
 
-pub moves_same : (i : Indexed) (target spent : ℕ) (t : Top) (s : Shape) → target ≤ t.head → StandsOn i t s → Moves i target spent spent s t s
+pub moves_same : (i : Indexed) (target spent : ℕ) (t : Top) (s : Shape) → target ≤ t.head → StandsOn i t s → LeafMoves i target spent spent s t s
 moves_same i target spent t s up stands = record {
   stands = stands;
   few = omega arith;
   paid = le_refl (spent + lead_unread i s);
   near = λ point le. le_refl (spent + room_to i point s);
   to = λ point. le_refl (room_to i point s);
-  behind = λ point. le_refl (room_behind i point s);
+  behind = λ point. le_refl (entries_behind i point s);
   passed = λ point past lt. absurd (omega (arith, up, stands.at, lt));
   still = λ le. (refl, refl);
   reached = omega (arith, up, stands.at);
-  greatest = le_refl (greatest_in s);
+  greatest = le_refl (greatest_held s);
 }
 
 -- it stood before the target, and nothing of it is wanted
-pub moves_gone : (i : Indexed) (target spent : ℕ) (t top : Top) (s : Shape) → t.head < target → target < 2 ^ 32 → StandsOn i t s → top.head ≡ 2 ^ 32 → Moves i target spent spent s top ended
+pub moves_gone : (i : Indexed) (target spent : ℕ) (t top : Top) (s : Shape) → t.head < target → target < 2 ^ 32 → StandsOn i t s → top.head ≡ 2 ^ 32 → LeafMoves i target spent spent s top ended
 moves_gone i target spent t top s before small stands end = record {
   stands = record { lone = tt; at = end };
   few = omega arith;
@@ -93,14 +93,14 @@ moves_gone i target spent t top s before small stands end = record {
 }
 
 -- nothing was moved
-pub moves_ended : (i : Indexed) (target spent : ℕ) (top : Top) → target < 2 ^ 32 → top.head ≡ 2 ^ 32 → Moves i target spent spent ended top ended
+pub moves_ended : (i : Indexed) (target spent : ℕ) (top : Top) → target < 2 ^ 32 → top.head ≡ 2 ^ 32 → LeafMoves i target spent spent ended top ended
 moves_ended i target spent top small end = moves_same i target spent top ended (omega (arith, small, end)) (record { lone = tt; at = end })
 
 -- what was put in its place is itself, and its top changed in its greatest alone
-pub moves_decayed : (i : Indexed) (target need before after : ℕ) (s : Shape) (t top : Top) (new : Shape) → IsLone s → top.head ≡ t.head → (IsLone (decayed need s) → Moves i target before after (decayed need s) t new) → Moves i target before after s top new
+pub moves_decayed : (i : Indexed) (target need before after : ℕ) (s : Shape) (t top : Top) (new : Shape) → IsLone s → top.head ≡ t.head → (IsLone (decayed need s) → LeafMoves i target before after (decayed need s) t new) → LeafMoves i target before after s top new
 moves_decayed i target need before after s t top new lone same moves =
     let is = decayed_itself s need lone in
-    let m = subst (λ (o : Shape). Moves i target before after o t new) is (moves (subst (λ (o : Shape). IsLone o) (sym is) lone)) in
+    let m = subst (λ (o : Shape). LeafMoves i target before after o t new) is (moves (subst (λ (o : Shape). IsLone o) (sym is) lone)) in
     record {
       stands = record { lone = m.stands.lone; at = same ∙ m.stands.at };
       few = m.few;
@@ -116,7 +116,7 @@ moves_decayed i target need before after s t top new lone same moves =
 
 pub moves_leaf : (i : Indexed) (target before after : ℕ) (old new : Leaf) (top : Top) → top.head ≡ head_of (entries_of i new) → Walks i target before after old new
     → ((point : ℕ) → target ≤ point + 1 → after + count_to point (entries_of i new) ≤ before + count_to point (entries_of i old))
-    → after + leaf_unread i new ≤ before + leaf_unread i old → new.greatest ≡ old.greatest → Moves i target before after (leaf old) top (leaf new)
+    → after + leaf_unread i new ≤ before + leaf_unread i old → new.greatest ≡ old.greatest → LeafMoves i target before after (leaf old) top (leaf new)
 moves_leaf i target before after old new top at walks moves paid own = record {
   stands = record { lone = tt; at = at };
   few = walks.few;
@@ -140,7 +140,7 @@ fades_leaf i target before after old new moves paid own point greatest false = r
 -- ---- what is put in the place of two sides
 
 -- the greatest kept beside a side is no more than its own
-top_within : (i : Indexed) (t : Top) (s : Shape) (greatest : ℕ) → IsTop i t s → greatest_in s ≤ greatest → t.greatest ≤ greatest
+top_within : (i : Indexed) (t : Top) (s : Shape) (greatest : ℕ) → IsTop i t s → greatest_held s ≤ greatest → t.greatest ≤ greatest
 top_within i t s greatest top own =
     elim (cases_lt t.head (2 ^ 32)) as (λ _. t.greatest ≤ greatest) [
       | inl lt ↦ let sum = top.summed lt in omega (arith, sum, own)
@@ -192,7 +192,7 @@ module _ (i : Indexed) (point greatest target need : ℕ) (ta : Top) (a : Shape)
       by (inr lt) = absurd (omega (arith, le, lt))
 
   -- the second side fades
-  module _ (bound : greatest_in b ≤ greatest) where
+  module _ (bound : greatest_held b ≤ greatest) where
     tb_bound : tb.greatest ≤ greatest
     tb_bound = top_within i tb b greatest top_b bound
 
@@ -237,7 +237,7 @@ module _ (i : Indexed) (point greatest target need : ℕ) (ta : Top) (a : Shape)
         (λ e. let opened = or_parts a_ended b_ended e0 in (true, ((tt, (on_a, (on_b, bound))), ((open_a opened.0, open_b opened.1), omega arith)))))
 
   -- the first side fades
-  module _ (bound : greatest_in a ≤ greatest) where
+  module _ (bound : greatest_held a ≤ greatest) where
     ta_bound : ta.greatest ≤ greatest
     ta_bound = top_within i ta a greatest top_a bound
 
@@ -290,7 +290,7 @@ decayed_stands i point greatest target need first top s is sound opened enough h
     leaf_near l le bound (inl n) = n
     leaf_near l le bound (inr lt) = absurd (omega (arith, le, bound, lt))
 
-    by : (first : Bool) (s : Shape) → need ≤ greatest_in s → Sound i s → IsFading i greatest first s → Stands i point greatest target first s (decayed need s)
+    by : (first : Bool) (s : Shape) → need ≤ greatest_held s → Sound i s → IsFading i greatest first s → Stands i point greatest target first s (decayed need s)
     by first ended le sound h = (first, (tt, (tt, omega arith)))
     by true (leaf l) le sound h = (true, (tt, (tt, le_refl (leaf_unread i l))))
     by false (leaf l) le sound h = (false, (h, (leaf_near l le h may, le_refl (count_to point (entries_of i l)))))
@@ -340,8 +340,8 @@ under_moved i target need before after top s mid new is sound opened enough e fa
 
 -- ---- two sides that are moved on
 
-other_moved : (i : Indexed) (point from before after : ℕ) (t : Top) (s : Shape) (u : Top) (c : Shape) → StandsOn i t s → Moves i from before after s u c
-    → OtherMoved point from t.head (lead_unread i s) (room_behind i point s) u.head (lead_unread i c) (room_behind i point c) before after
+other_moved : (i : Indexed) (point from before after : ℕ) (t : Top) (s : Shape) (u : Top) (c : Shape) → StandsOn i t s → LeafMoves i from before after s u c
+    → OtherMoved point from t.head (lead_unread i s) (entries_behind i point s) u.head (lead_unread i c) (entries_behind i point c) before after
 other_moved i point from before after t s u c on m = record {
   paid = m.paid;
   less = m.behind point;
@@ -352,7 +352,7 @@ other_moved i point from before after t s u c on m = record {
   some2 = λ past small. behind_some i point c m.stands.lone (omega (arith, past, m.stands.at)) (omega (arith, small, m.stands.at));
 }
 
-fading_moved : (i : Indexed) (point from before after : ℕ) (t : Top) (s : Shape) (u : Top) (c : Shape) → StandsOn i t s → Moves i from before after s u c
+fading_moved : (i : Indexed) (point from before after : ℕ) (t : Top) (s : Shape) (u : Top) (c : Shape) → StandsOn i t s → LeafMoves i from before after s u c
     → FadingMoved point from t.head (room_to i point s) u.head (room_to i point c) before after
 fading_moved i point from before after t s u c on m = record {
   few = m.few;
@@ -381,7 +381,7 @@ ready_begun i point target Form.Filter first spent ta a tb b may = (may, le_refl
 
 -- what is kept of the sides
 sides_fading : (i : Indexed) (greatest : ℕ) (first : Bool) (form : Form) (ta : Top) (a : Shape) (tb : Top) (b : Shape) (ua : Top) (c : Shape) (ub : Top) (d : Shape) → IsFading i greatest first (pair form ta a tb b)
-    → StandsOn i ua c → StandsOn i ub d → greatest_in c ≤ greatest_in a → greatest_in d ≤ greatest_in b → IsFading i greatest first (pair form ua c ub d)
+    → StandsOn i ua c → StandsOn i ub d → greatest_held c ≤ greatest_held a → greatest_held d ≤ greatest_held b → IsFading i greatest first (pair form ua c ub d)
 sides_fading i greatest true form ta a tb b ua c ub d h on_c on_d less_a less_b = (h.0, (on_c, (on_d, omega (arith, h.1.1.1, less_b))))
 sides_fading i greatest false form ta a tb b ua c ub d h on_c on_d less_a less_b = (h.0, (on_c, (on_d, omega (arith, h.1.1.1, less_a))))
 
@@ -390,12 +390,12 @@ sides_stand i greatest true form ta a tb b h = (h.0, (h.1.0, h.1.1.0))
 sides_stand i greatest false form ta a tb b h = (h.0, (h.1.0, h.1.1.0))
 
 -- the first was moved on from where they have come
-module _ (i : Indexed) (from before between : ℕ) (ta : Top) (a : Shape) (tb : Top) (b : Shape) (ua : Top) (c : Shape) (one : StandsOn i ta a → Moves i from before between a ua c) where
+module _ (i : Indexed) (from before between : ℕ) (ta : Top) (a : Shape) (tb : Top) (b : Shape) (ua : Top) (c : Shape) (one : StandsOn i ta a → LeafMoves i from before between a ua c) where
   half_fading : (greatest : ℕ) (first : Bool) (form : Form) → IsFading i greatest first (pair form ta a tb b) → IsFading i greatest first (pair form ua c tb b)
   half_fading greatest first form h =
       let on = sides_stand i greatest first form ta a tb b h in
       let m = one on.1.0 in
-      sides_fading i greatest first form ta a tb b ua c tb b h m.stands on.1.1 m.greatest (le_refl (greatest_in b))
+      sides_fading i greatest first form ta a tb b ua c tb b h m.stands on.1.1 m.greatest (le_refl (greatest_held b))
 
   -- and the form is led, and it has ended
   half_paid : (point base : ℕ) (form : Form) (first : Bool) → IsFadingForm form → StandsOn i ta a → StandsOn i tb b → 2 ^ 32 ≤ second_target form from ua.head → from < 2 ^ 32 → ReadyPair i point form first from base before ta a tb b
@@ -403,18 +403,18 @@ module _ (i : Indexed) (from before between : ℕ) (ta : Top) (a : Shape) (tb : 
   half_paid point base Form.Or first is on_a on_b end small ready = absurd (omega (arith, end, small))
   half_paid point base Form.And true is on_a on_b end small ready =
       let m = one on_a in
-      let gone = followed_gone point ta.head (lead_unread i a) ua.head (lead_unread i c) (room_behind i point c) tb.head (room_to i point b) before between (room_behind i point a) end m.paid in
+      let gone = followed_gone point ta.head (lead_unread i a) ua.head (lead_unread i c) (entries_behind i point c) tb.head (room_to i point b) before between (entries_behind i point a) end m.paid in
       omega (arith, gone, ready.1)
   half_paid point base Form.AndMaybe true is on_a on_b end small ready =
       let m = one on_a in
-      let gone = followed_gone point ta.head (lead_unread i a) ua.head (lead_unread i c) (room_behind i point c) tb.head (room_to i point b) before between (room_behind i point a) end m.paid in
+      let gone = followed_gone point ta.head (lead_unread i a) ua.head (lead_unread i c) (entries_behind i point c) tb.head (room_to i point b) before between (entries_behind i point a) end m.paid in
       omega (arith, gone, ready.1)
   half_paid point base Form.AndMaybe false is on_a on_b end small ready =
       let m = one on_a in
       let paid = m.near point ready.0 in
       omega (arith, paid, ready.1)
   half_paid point base Form.And false is on_a on_b end small ready =
-      let gone = leads_gone point from tb.head (lead_unread i b) ta.head (room_to i point a) ua.head (room_to i point c) (room_behind i point b) ready.1.0 before between ready.0
+      let gone = leads_gone point from tb.head (lead_unread i b) ta.head (room_to i point a) ua.head (room_to i point c) (entries_behind i point b) ready.1.0 before between ready.0
       (λ past lt. behind_some i point b on_b.lone (omega (arith, past, on_b.at)) (omega (arith, lt, on_b.at))) (fading_moved i point from before between ta a ua c on_a (one on_a)) end ready.1.1.0 in
       omega (arith, gone, ready.1.1.1)
   half_paid point base Form.Xor first is on_a on_b end small ready = absurd is
@@ -423,7 +423,7 @@ module _ (i : Indexed) (from before between : ℕ) (ta : Top) (a : Shape) (tb : 
   half_paid point base Form.Filter first is on_a on_b end small ready = absurd is
 
   -- and then the second
-  module _ (after next : ℕ) (small : next < 2 ^ 32) (ub : Top) (d : Shape) (two : StandsOn i tb b → Moves i next between after b ub d) where
+  module _ (after next : ℕ) (small : next < 2 ^ 32) (ub : Top) (d : Shape) (two : StandsOn i tb b → LeafMoves i next between after b ub d) where
     both_fading : (greatest : ℕ) (first : Bool) (form : Form) → IsFading i greatest first (pair form ta a tb b) → IsFading i greatest first (pair form ua c ub d)
     both_fading greatest first form h =
         let on = sides_stand i greatest first form ta a tb b h in
@@ -435,7 +435,7 @@ module _ (i : Indexed) (from before between : ℕ) (ta : Top) (a : Shape) (tb : 
     led_paid : (point : ℕ) → StandsOn i ta a → StandsOn i tb b → next ≡ ua.head → AreOpen ta.head tb.head
         → after + (lead_unread i c + following_room point ua.head ub.head (both_room i point c d)) ≤ before + (lead_unread i a + following_room point ta.head tb.head (both_room i point a b))
     led_paid point on_a on_b is opened =
-        followed_paid point from ta.head (lead_unread i a) (room_behind i point a) ua.head (lead_unread i c) (room_behind i point c) tb.head (room_to i point b) ub.head (room_to i point d) before between after opened.0 opened.1 (omega (arith, small, is))
+        followed_paid point from ta.head (lead_unread i a) (entries_behind i point a) ua.head (lead_unread i c) (entries_behind i point c) tb.head (room_to i point b) ub.head (room_to i point d) before between after opened.0 opened.1 (omega (arith, small, is))
         (other_moved i point from before between ta a ua c on_a (one on_a))
         (subst (λ n. FadingMoved point n tb.head (room_to i point b) ub.head (room_to i point d) between after) is (fading_moved i point next between after tb b ub d on_b (two on_b)))
 
@@ -443,9 +443,9 @@ module _ (i : Indexed) (from before between : ℕ) (ta : Top) (a : Shape) (tb : 
     leading_paid : (point left value : ℕ) → StandsOn i ta a → StandsOn i tb b → next ≡ ua.head → AreOpen tb.head ta.head → Sought point from tb.head ta.head (both_room i point b a) left → Leaves point ub.head ua.head (both_room i point d c) value
         → after + (lead_unread i d + value) ≤ before + (lead_unread i b + left)
     leading_paid point left value on_a on_b is opened sought leaves =
-        leads_paid point from tb.head (lead_unread i b) (room_behind i point b) ub.head (lead_unread i d) (room_behind i point d) ta.head (room_to i point a) ua.head (room_to i point c) left value before between after opened
+        leads_paid point from tb.head (lead_unread i b) (entries_behind i point b) ub.head (lead_unread i d) (entries_behind i point d) ta.head (room_to i point a) ua.head (room_to i point c) left value before between after opened
         (fading_moved i point from before between ta a ua c on_a (one on_a))
-        (subst (λ n. OtherMoved point n tb.head (lead_unread i b) (room_behind i point b) ub.head (lead_unread i d) (room_behind i point d) between after) is (other_moved i point next between after tb b ub d on_b (two on_b)))
+        (subst (λ n. OtherMoved point n tb.head (lead_unread i b) (entries_behind i point b) ub.head (lead_unread i d) (entries_behind i point d) between after) is (other_moved i point next between after tb b ub d on_b (two on_b)))
         leaves sought
 
     -- where they meet
@@ -508,7 +508,7 @@ fades_begun i form target spent ta a tb b = record {
 }
 
 module _ (i : Indexed) (form : Form) (target from before spent between : ℕ) (ta0 : Top) (a0 : Shape) (tb0 : Top) (b0 : Shape) (ta : Top) (a : Shape) (tb : Top) (b : Shape) (ua : Top) (c : Shape)
-    (far : FadesSoFar i form target from before spent ta0 a0 tb0 b0 ta a tb b) (one : StandsOn i ta a → Moves i from spent between a ua c) where
+    (far : FadesSoFar i form target from before spent ta0 a0 tb0 b0 ta a tb b) (one : StandsOn i ta a → LeafMoves i from spent between a ua c) where
   -- the first side alone, where the form is led and it has ended
   pub fades_half : 2 ^ 32 ≤ second_target form from ua.head → from < 2 ^ 32 → (point greatest : ℕ) (first : Bool) → Keeps (fading_account i point greatest first) target before between (pair form ta0 a0 tb0 b0) (pair form ua c tb b)
   fades_half end small point greatest first = record {
@@ -518,7 +518,7 @@ module _ (i : Indexed) (form : Form) (target from before spent between : ℕ) (t
         half_paid i from spent between ta a tb b ua c one point (before + fading_room i point first (pair form ta0 a0 tb0 b0)) form first on.0 on.1.0 on.1.1 end small (far.ready point greatest first h may);
   }
 
-  module _ (after next : ℕ) (small : next < 2 ^ 32) (ub : Top) (d : Shape) (is : next ≡ second_target form from ua.head) (two : StandsOn i tb b → Moves i next between after b ub d) where
+  module _ (after next : ℕ) (small : next < 2 ^ 32) (ub : Top) (d : Shape) (is : next ≡ second_target form from ua.head) (two : StandsOn i tb b → LeafMoves i next between after b ub d) where
     pub fades_both : (head weight : ℕ) → MeetsBoth form ua.head ub.head (Meeting.At head weight) → (point greatest : ℕ) (first : Bool) → Keeps (fading_account i point greatest first) target before after (pair form ta0 a0 tb0 b0) (pair form ua c ub d)
     fades_both head weight meets point greatest first = record {
       kind = λ h. both_fading i from spent between ta a tb b ua c one after next small ub d two greatest first form (far.fading greatest first h);

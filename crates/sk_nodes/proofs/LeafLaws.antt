@@ -10,7 +10,7 @@ use Rattle.sk_lists.specs.declared.cursor.Cursor.{Cursor}
 use Rattle.sk_chunks.specs.Postings.{Postings, first_wdf, is_below}
 use Rattle.sk_sorted.specs.Runs.{AreRuns}
 use Rattle.sk_lists.specs.Lists.{Runs}
-use Rattle.sk_lists.specs.Seeks.{ArePassed, Passes}
+use Rattle.sk_lists.specs.Seeks.{ArePassed, PassesPostings}
 use Rattle.sk_lists.specs.Cursor.{left, IsOn}
 use Rattle.sk_lists.proofs.CursorLaws.{AreSorted-left}
 use Rattle.sk_index.specs.Indexed.{Indexed}
@@ -20,7 +20,7 @@ use Rattle.sk_model.proofs.CoverLaws.{covers_itself}
 use Rattle.sk_decay.specs.Heads.{IsHead}
 use Rattle.sk_nodes.specs.declared.top.Top.{Top}
 use Rattle.sk_nodes.specs.declared.leaf.Leaf.{Leaf}
-use Rattle.sk_nodes.specs.Leaves.{runs_of, entries_of, weighed, leaf_rest, head_of, AreLight, AtMost, IsLeafOn, IsLeafTop}
+use Rattle.sk_nodes.specs.Leaves.{runs_of, entries_of, weighed, leaf_rest, head_of, WeighBelow, AtMost, IsLeafOn, IsLeafTop}
 use Rattle.sk_nodes.specs.Left.{from_on}
 use Rattle.sk_nodes.specs.Shapes.{leaf}
 use Rattle.sk_nodes.specs.Sound.{IsTop}
@@ -122,7 +122,7 @@ module _ (factor : ℕ) (scheme : Scheme) where
 
   -- ---- what is passed over
 
-  covers_at : (need_wdf need target low id : ℕ) (passed new : Postings) → AreLight factor scheme need_wdf need → RiseAbove low (passed ++ new)
+  covers_at : (need_wdf need target low id : ℕ) (passed new : Postings) → WeighBelow factor scheme need_wdf need → RiseAbove low (passed ++ new)
       → ArePassed target need_wdf passed → is_below target new ≡ false → CoversAt (from_on target (weighed factor scheme (passed ++ new)) id) (weighed factor scheme new id) need
   covers_at need_wdf need target low id [] new light up passes reached =
       from_cases target (weighed factor scheme new) id (weighed factor scheme new id) need (λ le. covers_itself (weighed factor scheme new id) need)
@@ -145,23 +145,23 @@ module _ (factor : ℕ) (scheme : Scheme) where
       light_one le same (inl lt) = absurd (omega (arith, le, same, lt))
       light_one le same (inr less) = light p.1 less
 
-  pub Passes-covers : (need_wdf need target : ℕ) (old new : Postings) → AreLight factor scheme need_wdf need → AreSorted old
-      → Passes target need_wdf old new → Covers (from_on target (weighed factor scheme old)) (weighed factor scheme new) need
+  pub Passes-covers : (need_wdf need target : ℕ) (old new : Postings) → WeighBelow factor scheme need_wdf need → AreSorted old
+      → PassesPostings target need_wdf old new → Covers (from_on target (weighed factor scheme old)) (weighed factor scheme new) need
   Passes-covers need_wdf need target old new light sorted passes = λ id.
       subst (λ (es : Postings). CoversAt (from_on target (weighed factor scheme es) id) (weighed factor scheme new id) need) (sym passes.is)
       (covers_at need_wdf need target 0 id passes.passed new light (subst (λ (es : Postings). RiseAbove 0 es) passes.is sorted.rise) passes.light passes.reached)
 
 -- the exact cursor passes over what lies below the target alone
-pub Passes-from : (target need_wdf : ℕ) (es : Postings) → Passes target need_wdf es (from target es)
+pub Passes-from : (target need_wdf : ℕ) (es : Postings) → PassesPostings target need_wdf es (from target es)
 Passes-from target need_wdf [] = record { passed = []; is = refl; light = tt; reached = refl }
 Passes-from target need_wdf (p ∷ ps) =
-    elim (cases_lt p.0 target) as (λ _. Passes target need_wdf (p ∷ ps) (from target (p ∷ ps))) [
+    elim (cases_lt p.0 target) as (λ _. PassesPostings target need_wdf (p ∷ ps) (from target (p ∷ ps))) [
       | inl lt ↦
           let more = Passes-from target need_wdf ps in
-          subst (λ (es : Postings). Passes target need_wdf (p ∷ ps) es) (sym (from-below target p ps lt))
+          subst (λ (es : Postings). PassesPostings target need_wdf (p ∷ ps) es) (sym (from-below target p ps lt))
           (record { passed = p ∷ more.passed; is = ap (λ (es : Postings). p ∷ es) more.is; light = (inl lt, more.light); reached = more.reached })
       | inr le ↦
-          subst (λ (es : Postings). Passes target need_wdf (p ∷ ps) es) (sym (from-at target p ps le))
+          subst (λ (es : Postings). PassesPostings target need_wdf (p ∷ ps) es) (sym (from-at target p ps le))
           (record { passed = []; is = refl; light = tt; reached = not_below p.0 target le })
     ]
   where
@@ -235,14 +235,14 @@ head_is_below i t l target top on lt small =
     first_below t.head target there.0 (entries_of i l) (AreSorted-left l.cursor (runs_of i l.source) on.runs on.on) there.1 lt
 
 -- the cursor moved on
-pub sought_covers : (factor : ℕ) (scheme : Scheme) (need_wdf need target : ℕ) (runs : Runs) (old new : Cursor) → AreRuns runs → IsOn old runs → AreLight factor scheme need_wdf need
-    → Passes target need_wdf (left old runs) (left new runs) → Covers (from_on target (weighed factor scheme (left old runs))) (weighed factor scheme (left new runs)) need
+pub sought_covers : (factor : ℕ) (scheme : Scheme) (need_wdf need target : ℕ) (runs : Runs) (old new : Cursor) → AreRuns runs → IsOn old runs → WeighBelow factor scheme need_wdf need
+    → PassesPostings target need_wdf (left old runs) (left new runs) → Covers (from_on target (weighed factor scheme (left old runs))) (weighed factor scheme (left new runs)) need
 sought_covers factor scheme need_wdf need target runs old new are on light passes =
     Passes-covers factor scheme need_wdf need target (left old runs) (left new runs) light (AreSorted-left old runs are on) passes
 
 -- a leaf whose cursor moved on is sound
 pub leaf_moved : (i : Indexed) (old new : Leaf) (target : ℕ) → IsLeafOn i old → new.source ≡ old.source → new.scheme ≡ old.scheme → new.factor ≡ old.factor → new.greatest ≡ old.greatest
-    → IsOn new.cursor (runs_of i old.source) → AreLight new.factor new.scheme new.need_wdf new.need
+    → IsOn new.cursor (runs_of i old.source) → WeighBelow new.factor new.scheme new.need_wdf new.need
     → Covers (from_on target (leaf_rest i old)) (leaf_rest i new) new.need → IsLeafOn i new
 leaf_moved i old new target sound source scheme factor greatest on light covers = record {
   there = subst (λ n. Rattle.sk_nodes.specs.Leaves.IsThere n i.terms) (sym source) sound.there;

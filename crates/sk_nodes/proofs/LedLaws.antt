@@ -16,7 +16,7 @@ use Rattle.sk_nodes.specs.declared.top.Top.{Top}
 use Rattle.sk_nodes.specs.Leaves.{entries_of, head_of}
 use Rattle.sk_nodes.specs.Shapes.{Shape, ended, leaf, pair}
 use Rattle.sk_chunks.specs.Postings.{Postings}
-use Rattle.sk_nodes.specs.Opened.{count_in, is_nest, others_of}
+use Rattle.sk_nodes.specs.Opened.{part_count, is_nest, others_of}
 use Rattle.sk_nodes.specs.Flat.{IsNest, SplitsTerms}
 use Rattle.sk_nodes.specs.Led.{IsLone, lead_head, lead_unread, owed, follow_room, led_room, IsAtLead, MayFollow, IsLed, Advances}
 use Rattle.sk_nodes.specs.Moved.{with_lead, nest_behind, Accounts}
@@ -93,7 +93,7 @@ ordered_led Form.Xor first second docs some more small off can ordered = absurd 
 ordered_led Form.Max first second docs some more small off can ordered = absurd can
 
 -- how many terms there are
-pub terms_count : (ts : Trees.Trees) (lists : List (List ℕ)) → terms_in ts ≡ Some lists → (count_in ts ≡ length lists) × (leaves_in ts ≡ length lists)
+pub terms_count : (ts : Trees.Trees) (lists : List (List ℕ)) → terms_in ts ≡ Some lists → (part_count ts ≡ length lists) × (leaves_in ts ≡ length lists)
 terms_count Trees.no_trees lists e = by lists e
   where
     by : (lists : List (List ℕ)) → ◌≡◌ {A = Option (List (List ℕ))} (Some []) (Some lists) → (0 ≡ length lists) × (0 ≡ length lists)
@@ -104,18 +104,18 @@ terms_count (Trees.tree (Trees.term t) ts) lists e = by (terms_in ts) refl e (te
     some : (xs : List (List ℕ)) → ◌≡◌ {A = Option (List (List ℕ))} (Some (t ∷ xs)) (Some lists) → t ∷ xs ≡ lists
     some xs e = cc
 
-    more : (xs : List (List ℕ)) → t ∷ xs ≡ lists → (count_in ts ≡ length xs) × (leaves_in ts ≡ length xs) → (1 + count_in ts ≡ length lists) × (1 + leaves_in ts ≡ length lists)
+    more : (xs : List (List ℕ)) → t ∷ xs ≡ lists → (part_count ts ≡ length xs) × (leaves_in ts ≡ length xs) → (1 + part_count ts ≡ length lists) × (1 + leaves_in ts ≡ length lists)
     more xs e rest = (omega (arith, ap length e, rest.0), omega (arith, ap length e, rest.1))
 
-    by : (o : Option (List (List ℕ))) → terms_in ts ≡ o → option_map (λ more. t ∷ more) o ≡ Some lists → ((xs : List (List ℕ)) → terms_in ts ≡ Some xs → (count_in ts ≡ length xs) × (leaves_in ts ≡ length xs))
-        → (1 + count_in ts ≡ length lists) × (1 + leaves_in ts ≡ length lists)
+    by : (o : Option (List (List ℕ))) → terms_in ts ≡ o → option_map (λ more. t ∷ more) o ≡ Some lists → ((xs : List (List ℕ)) → terms_in ts ≡ Some xs → (part_count ts ≡ length xs) × (leaves_in ts ≡ length xs))
+        → (1 + part_count ts ≡ length lists) × (1 + leaves_in ts ≡ length lists)
     by None e f rest = cc
     by (Some xs) e f rest = more xs (some xs f) (rest xs e)
 terms_count (Trees.tree _ ts) lists e = cc
 
 -- terms that were split in order
-pub splits_led : (form : Form) (whole fs bs : Trees.Trees) (lists : List (List ℕ)) (docs : Docs) (n : ℕ) → whole ≡ joined fs bs → terms_in whole ≡ Some lists → leaves_in whole ≤ 1024 → count_in fs ≡ n → 0 < count_in fs → 0 < count_in bs
-    → SplitsOff form (count_in whole) n → CanLead form lists → IsOrdered form lists docs → SplitsLed form lists docs (terms_in fs) (terms_in bs)
+pub splits_led : (form : Form) (whole fs bs : Trees.Trees) (lists : List (List ℕ)) (docs : Docs) (n : ℕ) → whole ≡ joined fs bs → terms_in whole ≡ Some lists → leaves_in whole ≤ 1024 → part_count fs ≡ n → 0 < part_count fs → 0 < part_count bs
+    → SplitsOff form (part_count whole) n → CanLead form lists → IsOrdered form lists docs → SplitsLed form lists docs (terms_in fs) (terms_in bs)
 splits_led form whole fs bs lists docs n parts terms small is some more off can ordered = by (in_order fs bs lists (ap terms_in (sym parts) ∙ terms))
   where
     by : InOrder lists (terms_in fs) (terms_in bs) → SplitsLed form lists docs (terms_in fs) (terms_in bs)
@@ -139,7 +139,7 @@ splits_led form whole fs bs lists docs n parts terms small is some more off can 
         }
 
 -- an and whose first part is put behind the others
-pub turns_led : (whole fs bs : Trees.Trees) (lists : List (List ℕ)) (docs : Docs) → whole ≡ joined fs bs → terms_in whole ≡ Some lists → count_in fs ≡ 1 → 0 < count_in bs → last_length lists docs < first_length lists docs
+pub turns_led : (whole fs bs : Trees.Trees) (lists : List (List ℕ)) (docs : Docs) → whole ≡ joined fs bs → terms_in whole ≡ Some lists → part_count fs ≡ 1 → 0 < part_count bs → last_length lists docs < first_length lists docs
     → SplitsLed Form.And lists docs (terms_in bs) (terms_in fs)
 turns_led whole fs bs lists docs parts terms is more lt = by (in_order fs bs lists (ap terms_in (sym parts) ∙ terms))
   where
@@ -413,7 +413,7 @@ split_leads i form other ta a tb b t s lists front back s0 s1 s2 s3 can is one t
     alone (inl e) = inl (is ∙ ap others_of e)
     alone (inr e) = inr e
 
-pub split_follows : (i : Indexed) (form other : Form) (ta : Top) (a : Shape) (tb : Top) (b s : Shape) (fs bs : Trees.Trees) (lists : List (List ℕ)) (s0 s1 s2 s3 : ℕ) → (form ≡ Form.Or) ⊎ (length lists ≡ 1) → other ≡ others_of form → 0 < count_in fs → 0 < count_in bs
+pub split_follows : (i : Indexed) (form other : Form) (ta : Top) (a : Shape) (tb : Top) (b s : Shape) (fs bs : Trees.Trees) (lists : List (List ℕ)) (s0 s1 s2 s3 : ℕ) → (form ≡ Form.Or) ⊎ (length lists ≡ 1) → other ≡ others_of form → 0 < part_count fs → 0 < part_count bs
     → ((xs : List (List ℕ)) → (form ≡ Form.Or) ⊎ (length xs ≡ 1) → terms_in fs ≡ Some xs → OpensFollowing i a xs s0 s1)
     → ((ys : List (List ℕ)) → (other ≡ Form.Or) ⊎ (length ys ≡ 1) → terms_in bs ≡ Some ys → OpensFollowing i b ys s1 s2)
     → Accounts i 0 0 s2 s3 (pair form ta a tb b) s → SplitsTerms lists (terms_in fs) (terms_in bs) → OpensFollowing i s lists s0 s3
@@ -436,10 +436,10 @@ split_follows i form other ta a tb b s fs bs lists s0 s1 s2 s3 so is some more o
     by (inr e) = absurd (long split.whole e)
 
 -- an xor of three parts or more follows nothing
-pub odd_follows : (form : Form) (ts : Trees.Trees) (lists : List (List ℕ)) → is_nest form (count_in ts) ≡ false → (form ≡ Form.Or) ⊎ (length lists ≡ 1) → terms_in ts ≡ Some lists → ⊥
-odd_follows form ts lists three (inl is) terms = other (ap (λ f. is_nest f (count_in ts)) (sym is) ∙ three)
+pub odd_follows : (form : Form) (ts : Trees.Trees) (lists : List (List ℕ)) → is_nest form (part_count ts) ≡ false → (form ≡ Form.Or) ⊎ (length lists ≡ 1) → terms_in ts ≡ Some lists → ⊥
+odd_follows form ts lists three (inl is) terms = other (ap (λ f. is_nest f (part_count ts)) (sym is) ∙ three)
   where
-    other : is_nest Form.Or (count_in ts) ≡ false → ⊥
+    other : is_nest Form.Or (part_count ts) ≡ false → ⊥
     other e = cc
 odd_follows form ts lists three (inr one) terms = alone form (ap (is_nest form) (sym one ∙ sym (terms_count ts lists terms).0) ∙ three)
   where

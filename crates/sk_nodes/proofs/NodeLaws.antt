@@ -20,9 +20,9 @@ use Rattle.sk_nodes.specs.declared.proximity.Proximity.{Proximity}
 use Rattle.sk_nodes.specs.declared.leaf.Leaf.{Leaf}
 use Rattle.sk_nodes.specs.Shapes.{Shape, ended, leaf, pair, odd, any, tested, shape_of, size_of, sides_on}
 use Rattle.sk_nodes.specs.Decayed.{changed_pair, decayed}
-use Rattle.sk_nodes.specs.Left.{rest, from_on, unread_of, greatest_in}
-use Rattle.sk_nodes.specs.Skips.{IsLight}
-use Rattle.sk_nodes.specs.Moved.{Sought}
+use Rattle.sk_nodes.specs.Left.{rest, from_on, unread_of, greatest_held}
+use Rattle.sk_nodes.specs.Skips.{WeighsBelow}
+use Rattle.sk_nodes.specs.Moved.{WasSought}
 use Rattle.sk_nodes.specs.Sound.{IsTop, IsPair, Sound, Replaces}
 use Rattle.sk_nodes.proofs.LeafLaws.{from_on-at, from_on-below, from_cases, covers_none}
 
@@ -266,13 +266,13 @@ goes_on_covers target need next f g covers below = λ id.
     ]
 
 -- what weighs too little may go
-pub light_goes : (need : ℕ) (a b : Option ℕ) → CoversAt a b need → IsLight need b → CoversAt a None need
+pub light_goes : (need : ℕ) (a b : Option ℕ) → CoversAt a b need → WeighsBelow need b → CoversAt a None need
 light_goes need None None covers light = tt
 light_goes need None (Some w) covers light = absurd covers
 light_goes need (Some v) None covers light = covers
 light_goes need (Some v) (Some w) covers light = elim (cases_lt v need) as (λ _. v < need) [ inl lt ↦ lt | inr le ↦ absurd (omega (arith, le, covers.1 le, light)) ]
 
-pub goes_on_light : (target need next : ℕ) (f g : ℕ → Option ℕ) → Covers (from_on target f) g need → ((id : ℕ) → id < next → IsLight need (g id)) → Covers (from_on target f) (from_on next g) need
+pub goes_on_light : (target need next : ℕ) (f g : ℕ → Option ℕ) → Covers (from_on target f) g need → ((id : ℕ) → id < next → WeighsBelow need (g id)) → Covers (from_on target f) (from_on next g) need
 goes_on_light target need next f g covers light = λ id.
     elim (cases_lt id next) as (λ _. CoversAt (from_on target f id) (from_on next g id) need) [
       | inl lt ↦ subst (λ o. CoversAt (from_on target f id) o need) (sym (from_on-below next g id lt)) (light_goes need (from_on target f id) (g id) (covers id) (light id lt))
@@ -374,10 +374,10 @@ decays_swapped i need form other ta a tb b a_ended b_ended first second sound co
 
 -- ---- a node that was moved on, by what the shapes are
 
-pub sought_along : (i : Indexed) (target need before after steps more : ℕ) (old new s t : Shape) (top : Top) → old ≡ s → new ≡ t → Sought i target need (greatest_in s) before after steps more s t top
-    → Sought i target need (greatest_in old) before after steps more old new top
+pub sought_along : (i : Indexed) (target need before after steps more : ℕ) (old new s t : Shape) (top : Top) → old ≡ s → new ≡ t → WasSought i target need (greatest_held s) before after steps more s t top
+    → WasSought i target need (greatest_held old) before after steps more old new top
 sought_along i target need before after steps more old new s t top e f h =
-    subst (λ (o : Shape). Sought i target need (greatest_in o) before after steps more o new top) (sym e) (subst (λ (n : Shape). Sought i target need (greatest_in s) before after steps more s n top) (sym f) h)
+    subst (λ (o : Shape). WasSought i target need (greatest_held o) before after steps more o new top) (sym e) (subst (λ (n : Shape). WasSought i target need (greatest_held s) before after steps more s n top) (sym f) h)
 
 -- what two sides can weigh together falls with them
 pub greatest_under-mono : (form : Form) (a b c d : ℕ) → c ≤ a → d ≤ b → greatest_under form c d ≤ greatest_under form a b

@@ -22,7 +22,7 @@ use Rattle.sk_model.proofs.WeightLaws.{ceil_small}
 use Rattle.sk_decay.specs.Sides.{paired, greatest_under}
 use Rattle.sk_decay.proofs.SideLaws.{paired-none}
 use Rattle.sk_nodes.proofs.OddLaws.{none_odd}
-use Rattle.sk_nodes.specs.Opened.{count_in, joint_score_of, others_of, query_size, parts_size, is_nest, part_scores, score_of, AreParts}
+use Rattle.sk_nodes.specs.Opened.{part_count, joint_score_of, others_of, query_size, parts_size, is_nest, part_scores, score_of, AreParts}
 
 -- ---- parts, one behind the other
 
@@ -142,15 +142,15 @@ ceil_of-split Form.Filter bs cs some = omega (arith, first_in-append bs cs some)
 
 -- ---- parts, and the parts that are put together first
 
-length-scores : (ts : Trees.Trees) (scheme : Scheme) (factor : ℕ) (d : Document) → length (scores ts scheme factor d) ≡ count_in ts
+length-scores : (ts : Trees.Trees) (scheme : Scheme) (factor : ℕ) (d : Document) → length (scores ts scheme factor d) ≡ part_count ts
 length-scores no_trees scheme factor d = refl
 length-scores (tree t ts) scheme factor d = let rest = length-scores ts scheme factor d in omega (arith, rest)
 
-length-ceils : (ts : Trees.Trees) (scheme : Scheme) (factor : ℕ) (docs : Docs) → length (ceils ts scheme factor docs) ≡ count_in ts
+length-ceils : (ts : Trees.Trees) (scheme : Scheme) (factor : ℕ) (docs : Docs) → length (ceils ts scheme factor docs) ≡ part_count ts
 length-ceils no_trees scheme factor docs = refl
 length-ceils (tree t ts) scheme factor docs = let rest = length-ceils ts scheme factor docs in omega (arith, rest)
 
-count_in-joined : (ts us : Trees.Trees) → count_in (joined ts us) ≡ count_in ts + count_in us
+count_in-joined : (ts us : Trees.Trees) → part_count (joined ts us) ≡ part_count ts + part_count us
 count_in-joined no_trees us = omega arith
 count_in-joined (tree t ts) us = let rest = count_in-joined ts us in omega (arith, rest)
 
@@ -166,7 +166,7 @@ query_size-some (Trees.synonym ts) = omega arith
 query_size-some (Trees.scale f t) = omega arith
 query_size-some (Trees.range slot lo hi) = omega arith
 
-parts_size-some : (ts : Trees.Trees) → count_in ts ≤ parts_size ts
+parts_size-some : (ts : Trees.Trees) → part_count ts ≤ parts_size ts
 parts_size-some no_trees = omega arith
 parts_size-some (tree t ts) = let rest = parts_size-some ts in omega (arith, rest, query_size-some t)
 
@@ -174,7 +174,7 @@ parts_size-joined : (ts us : Trees.Trees) → parts_size (joined ts us) ≡ part
 parts_size-joined no_trees us = omega arith
 parts_size-joined (tree t ts) us = let rest = parts_size-joined ts us in omega (arith, rest)
 
-has_parts-some : (ts : Trees.Trees) → 0 < count_in ts → has_parts ts ≡ true
+has_parts-some : (ts : Trees.Trees) → 0 < part_count ts → has_parts ts ≡ true
 has_parts-some no_trees some = absurd (omega (arith, some))
 has_parts-some (tree t ts) some = refl
 
@@ -194,9 +194,9 @@ pub parts_joined : (ps fs bs : List Query) (n : ℕ) → fs ≡ take n ps → bs
 parts_joined ps fs bs n e f =
     ap queries_view (sym (take-append-drop n ps)) ∙ (λ i. queries_view (sym e i ++ sym f i)) ∙ queries_view-append fs bs
 
-module _ (form : Form) (factor : ℕ) (ts fs bs : Trees.Trees) (e : ts ≡ joined fs bs) (are : AreParts form factor ts) (front_some : 0 < count_in fs) (back_some : 0 < count_in bs) where
-  counts : count_in ts ≡ count_in fs + count_in bs
-  counts = ap count_in e ∙ count_in-joined fs bs
+module _ (form : Form) (factor : ℕ) (ts fs bs : Trees.Trees) (e : ts ≡ joined fs bs) (are : AreParts form factor ts) (front_some : 0 < part_count fs) (back_some : 0 < part_count bs) where
+  counts : part_count ts ≡ part_count fs + part_count bs
+  counts = ap part_count e ∙ count_in-joined fs bs
 
   leaves : leaves_in ts ≡ leaves_in fs + leaves_in bs
   leaves = ap leaves_in e ∙ leaves_in-joined fs bs
@@ -224,14 +224,14 @@ module _ (form : Form) (factor : ℕ) (ts fs bs : Trees.Trees) (e : ts ≡ joine
   pub split_back_size : parts_size bs < parts_size ts
   split_back_size = omega (arith, ap parts_size e, parts_size-joined fs bs, parts_size-some fs, front_some)
 
-  pub split_scores : is_nest form (count_in ts) ≡ true → (scheme : Scheme) (o : Option Document) → joint_score_of form ts scheme factor o ≡ paired form (joint_score_of form fs scheme factor o) (joint_score_of (others_of form) bs scheme factor o)
+  pub split_scores : is_nest form (part_count ts) ≡ true → (scheme : Scheme) (o : Option Document) → joint_score_of form ts scheme factor o ≡ paired form (joint_score_of form fs scheme factor o) (joint_score_of (others_of form) bs scheme factor o)
   split_scores nest scheme None = sym (paired-none form)
   split_scores nest scheme (Some d) =
       ap (λ us. combined form (scores us scheme factor d)) e ∙ ap (combined form) (scores-joined fs bs scheme factor d)
       ∙ combined-split form (scores fs scheme factor d) (scores bs scheme factor d) (omega (arith, length-scores fs scheme factor d, front_some))
       (subst (λ m. IsTwo form m (length (scores bs scheme factor d))) (sym (length-scores fs scheme factor d))
-      (subst (λ n. IsTwo form (count_in fs) n) (sym (length-scores bs scheme factor d))
-      (is_two form (count_in fs) (count_in bs) front_some back_some (ap (is_nest form) (sym counts) ∙ nest))))
+      (subst (λ n. IsTwo form (part_count fs) n) (sym (length-scores bs scheme factor d))
+      (is_two form (part_count fs) (part_count bs) front_some back_some (ap (is_nest form) (sym counts) ∙ nest))))
 
   pub split_ceiling : (scheme : Scheme) (docs : Docs) → greatest_under form (ceil_of form (ceils fs scheme factor docs)) (ceil_of (others_of form) (ceils bs scheme factor docs)) ≤ ceil_of form (ceils ts scheme factor docs)
   split_ceiling scheme docs =
@@ -250,7 +250,7 @@ module _ (form : Form) (factor : ℕ) (ts fs bs : Trees.Trees) (e : ts ≡ joine
 
 -- ---- an and whose first part is put behind the others
 
-module _ (factor : ℕ) (ts fs bs : Trees.Trees) (e : ts ≡ joined bs fs) (are : AreParts Form.And factor ts) (front_some : 0 < count_in fs) (back_some : 0 < count_in bs) where
+module _ (factor : ℕ) (ts fs bs : Trees.Trees) (e : ts ≡ joined bs fs) (are : AreParts Form.And factor ts) (front_some : 0 < part_count fs) (back_some : 0 < part_count bs) where
   pub turned_fits : factor ≤ 65536 → (scheme : Scheme) (docs : Docs) → All IsLight docs → ceil_of Form.And (ceils fs scheme factor docs) + ceil_of Form.And (ceils bs scheme factor docs) < 2 ^ 63
   turned_fits small scheme docs light = omega (arith, split_fits Form.And factor ts bs fs e are back_some front_some small scheme docs light)
 

@@ -24,7 +24,7 @@ use Rattle.sk_nodes.specs.Shapes.{Shape, ended, leaf, pair}
 use Rattle.sk_nodes.specs.Flat.{SplitsTerms}
 use Rattle.sk_nodes.specs.Led.{count_behind}
 use Rattle.sk_nodes.specs.OpenedLed.{OpensLone}
-use Rattle.sk_nodes.specs.Opened.{count_in, is_nest}
+use Rattle.sk_nodes.specs.Opened.{part_count, is_nest}
 use Rattle.sk_nodes.specs.Fading.{IsFading}
 use Rattle.sk_nodes.specs.Accounts.{Keeps}
 use Rattle.sk_nodes.specs.Moved.{fading_account}
@@ -124,7 +124,7 @@ one_each (u ∷ []) (v ∷ w ∷ ys) x y some more e = absurd (omega (arith, ap 
 one_each (u ∷ v ∷ xs) ys x y some more e = absurd (omega (arith, ap length e, length-append xs ys, more))
 
 -- the terms of the two pieces
-pub split_decays : (i : Indexed) (scheme : Scheme) (factor : ℕ) (form other : Form) (ta : Top) (a : Shape) (tb : Top) (b : Shape) (s : Shape) (fs bs : Trees.Trees) (x y : List ℕ) (s0 s1 s2 s3 : ℕ) → form ≡ Form.Or → 0 < count_in fs → 0 < count_in bs
+pub split_decays : (i : Indexed) (scheme : Scheme) (factor : ℕ) (form other : Form) (ta : Top) (a : Shape) (tb : Top) (b : Shape) (s : Shape) (fs bs : Trees.Trees) (x y : List ℕ) (s0 s1 s2 s3 : ℕ) → form ≡ Form.Or → 0 < part_count fs → 0 < part_count bs
     → ((t : List ℕ) → terms_in fs ≡ Some (t ∷ []) → OpensAlone i ta a t (term_ceil scheme factor t i.live.documents) s0 s1)
     → ((t : List ℕ) → terms_in bs ≡ Some (t ∷ []) → OpensAlone i tb b t (term_ceil scheme factor t i.live.documents) s1 s2)
     → ((point greatest : ℕ) (first : Bool) → Keeps (fading_account i point greatest first) 0 s2 s3 (pair form ta a tb b) s) → SplitsTerms (x ∷ y ∷ []) (terms_in fs) (terms_in bs) → OpensFading i scheme factor s x y s0 s3
@@ -168,7 +168,7 @@ one_not_two ts t x y alone e = by t (ap terms_in (sym alone) ∙ e)
     by _ e = cc
 
 -- several parts have no one term
-pub many_not_one : (ts : Trees.Trees) (term : List ℕ) → 2 ≤ count_in ts → terms_in ts ≡ Some (term ∷ []) → ⊥
+pub many_not_one : (ts : Trees.Trees) (term : List ℕ) → 2 ≤ part_count ts → terms_in ts ≡ Some (term ∷ []) → ⊥
 many_not_one ts term many e = let n = terms_count ts (term ∷ []) e in omega (arith, n.0, many)
 
 -- an xor of three parts or more is no or

@@ -16,7 +16,7 @@ use Rattle.sk_model.specs.Sharp.{terms_in}
 use Rattle.sk_index.specs.Indexed.{Indexed}
 use Rattle.sk_nodes.specs.declared.top.Top.{Top}
 use Rattle.sk_nodes.specs.Shapes.{Shape, ended, pair, any, Sides, no_sides, side}
-use Rattle.sk_nodes.specs.Opened.{count_in, score_of, part_scores, joint_score_of, is_nest, others_of, OpensSides, Gathers, Opens}
+use Rattle.sk_nodes.specs.Opened.{part_count, score_of, part_scores, joint_score_of, is_nest, others_of, OpensSides, Gathers, Opens}
 use Rattle.sk_nodes.specs.Moved.{Accounts, SeekAccounts}
 use Rattle.sk_nodes.specs.Any.{OpensTerms}
 use Rattle.sk_nodes.specs.Flat.{IsNest, IsJoint, OpensNest, OpensFlat, PairsNest, SplitsTerms}
@@ -158,23 +158,23 @@ only_query i form ts query scheme factor t s before after alone h = record {
 }
 
 -- the sides of an xor
-pub odd_parts_query : (i : Indexed) (form : Form) (ts : Trees.Trees) (scheme : Scheme) (factor : ℕ) (t : Top) (s : Shape) (before after : ℕ) → is_nest form (count_in ts) ≡ false → 2 ≤ count_in ts → OpensParts i form ts scheme factor t s before after
+pub odd_parts_query : (i : Indexed) (form : Form) (ts : Trees.Trees) (scheme : Scheme) (factor : ℕ) (t : Top) (s : Shape) (before after : ℕ) → is_nest form (part_count ts) ≡ false → 2 ≤ part_count ts → OpensParts i form ts scheme factor t s before after
 odd_parts_query i form ts scheme factor t s before after odd many = record {
   nest = λ lists joint e. absurd (joint_not form joint odd);
   led = λ lists can e. absurd (leads_not form lists can odd);
   follows = λ lists so e. absurd (odd_follows form ts lists odd so e);
   alone = λ term e. absurd (many_not_one ts term many e);
-  fading = λ x y is e. absurd (odd_not_or form (count_in ts) odd is);
+  fading = λ x y is e. absurd (odd_not_or form (part_count ts) odd is);
 }
   where
-    joint_not : (form : Form) → IsJoint form → is_nest form (count_in ts) ≡ false → ⊥
-    joint_not form (inl e) odd = odd_not_or form (count_in ts) odd e
-    joint_not form (inr e) odd = by (ap (λ f. is_nest f (count_in ts)) (sym e) ∙ odd)
+    joint_not : (form : Form) → IsJoint form → is_nest form (part_count ts) ≡ false → ⊥
+    joint_not form (inl e) odd = odd_not_or form (part_count ts) odd e
+    joint_not form (inr e) odd = by (ap (λ f. is_nest f (part_count ts)) (sym e) ∙ odd)
       where
-        by : is_nest Form.Max (count_in ts) ≡ false → ⊥
+        by : is_nest Form.Max (part_count ts) ≡ false → ⊥
         by f = cc
 
-    leads_not : (form : Form) (lists : List (List ℕ)) → CanLead form lists → is_nest form (count_in ts) ≡ false → ⊥
+    leads_not : (form : Form) (lists : List (List ℕ)) → CanLead form lists → is_nest form (part_count ts) ≡ false → ⊥
     leads_not Form.Xor lists can odd = can
     leads_not Form.Or lists can odd = can
     leads_not Form.Max lists can odd = can
@@ -184,7 +184,7 @@ odd_parts_query i form ts scheme factor t s before after odd many = record {
     leads_not Form.AndMaybe lists can odd = cc
 
 -- the sides of an or
-pub any_parts_query : (i : Indexed) (form : Form) (ts : Trees.Trees) (ss : Sides) (scheme : Scheme) (factor : ℕ) (t : Top) (s : Shape) (before between after : ℕ) → form ≡ Form.Or → 3 ≤ count_in ts
+pub any_parts_query : (i : Indexed) (form : Form) (ts : Trees.Trees) (ss : Sides) (scheme : Scheme) (factor : ℕ) (t : Top) (s : Shape) (before between after : ℕ) → form ≡ Form.Or → 3 ≤ part_count ts
     → ((lists : List (List ℕ)) → terms_in ts ≡ Some lists → OpensTerms i ss lists before between) → Accounts i 0 0 between after (any ss) s → OpensParts i form ts scheme factor t s before after
 any_parts_query i form ts ss scheme factor t s before between after is many opens accounts = record {
   nest = λ lists joint e. terms_nest i form ss s lists before between after is (opens lists e) accounts;
@@ -195,7 +195,7 @@ any_parts_query i form ts ss scheme factor t s before between after is many open
 }
 
 -- two nodes
-pub pair_parts_query : (i : Indexed) (form other : Form) (ts fs bs : Trees.Trees) (scheme : Scheme) (factor : ℕ) (ta : Top) (a : Shape) (tb : Top) (b : Shape) (t : Top) (s : Shape) (s0 s1 s2 s3 : ℕ) → other ≡ others_of form → 2 ≤ count_in ts → 0 < count_in fs → 0 < count_in bs
+pub pair_parts_query : (i : Indexed) (form other : Form) (ts fs bs : Trees.Trees) (scheme : Scheme) (factor : ℕ) (ta : Top) (a : Shape) (tb : Top) (b : Shape) (t : Top) (s : Shape) (s0 s1 s2 s3 : ℕ) → other ≡ others_of form → 2 ≤ part_count ts → 0 < part_count fs → 0 < part_count bs
     → ((lists : List (List ℕ)) → terms_in ts ≡ Some lists → SplitsTerms lists (terms_in fs) (terms_in bs))
     → ((lists : List (List ℕ)) → CanLead form lists → terms_in ts ≡ Some lists → SplitsLed form lists i.live.documents (terms_in fs) (terms_in bs))
     → OpensParts i form fs scheme factor ta a s0 s1 → OpensParts i other bs scheme factor tb b s1 s2

@@ -9,13 +9,13 @@ use Rattle.sk_query.specs.Trees as Trees
 use Rattle.sk_model.specs.Bounds.{ceil, ceils, ceil_of}
 use Rattle.sk_model.specs.Allowance.{leaves_readings}
 use Rattle.sk_model.proofs.CombiningLaws.{both-turned}
-use Rattle.sk_nodes.specs.Opened.{IsPart, count_in, score_of, joint_score_of, is_nest, AreParts}
+use Rattle.sk_nodes.specs.Opened.{IsPart, part_count, score_of, joint_score_of, is_nest, AreParts}
 use Rattle.sk_nodes.specs.Parts.{Splits, Halves, IsOfParts, IsOnlyPart, AreSides}
 use Rattle.sk_nodes.proofs.OpenLaws.{combined-one, halves_scores, halves_ceiling, joined, split_front, split_back, split_front_size, split_back_size, split_scores, split_ceiling, split_readings, split_fits, odd_are, odd_scores, odd_ceiling, odd_fits, or_are, or_scores, or_ceiling, or_fits}
 use Rattle.sk_nodes.proofs.NestLaws.{split_terms, turned_terms}
 
 -- pieces in the order of the parts
-pub splits : (form : Form) (factor : ℕ) (ts fs bs : Trees.Trees) → ts ≡ joined fs bs → AreParts form factor ts → 0 < count_in fs → 0 < count_in bs → factor ≤ 65536 → is_nest form (count_in ts) ≡ true → Splits form factor ts fs bs
+pub splits : (form : Form) (factor : ℕ) (ts fs bs : Trees.Trees) → ts ≡ joined fs bs → AreParts form factor ts → 0 < part_count fs → 0 < part_count bs → factor ≤ 65536 → is_nest form (part_count ts) ≡ true → Splits form factor ts fs bs
 splits form factor ts fs bs e are front_some back_some small nest = record {
   front = split_front form factor ts fs bs e are front_some back_some;
   back = split_back form factor ts fs bs e are front_some back_some;
@@ -29,7 +29,7 @@ splits form factor ts fs bs e are front_some back_some small nest = record {
 }
 
 -- of an and the first piece is put behind the other
-pub turned_splits : (factor : ℕ) (ts fs bs : Trees.Trees) → ts ≡ joined bs fs → AreParts Form.And factor ts → 0 < count_in fs → 0 < count_in bs → factor ≤ 65536 → Splits Form.And factor ts fs bs
+pub turned_splits : (factor : ℕ) (ts fs bs : Trees.Trees) → ts ≡ joined bs fs → AreParts Form.And factor ts → 0 < part_count fs → 0 < part_count bs → factor ≤ 65536 → Splits Form.And factor ts fs bs
 turned_splits factor ts fs bs e are front_some back_some small =
     let straight = splits Form.And factor ts bs fs e are back_some front_some small refl in
     record {
@@ -69,7 +69,7 @@ or_sides form factor ts e are small = record {
 }
 
 -- halves of the sides of one node
-pub halves : (factor : ℕ) (ts fs bs : Trees.Trees) → ts ≡ joined fs bs → AreParts Form.Xor factor ts → 0 < count_in fs → 0 < count_in bs → Halves factor ts fs bs
+pub halves : (factor : ℕ) (ts fs bs : Trees.Trees) → ts ≡ joined fs bs → AreParts Form.Xor factor ts → 0 < part_count fs → 0 < part_count bs → Halves factor ts fs bs
 halves factor ts fs bs e are front_some back_some = record {
   front = split_front Form.Xor factor ts fs bs e are front_some back_some;
   back = split_back Form.Xor factor ts fs bs e are front_some back_some;
@@ -85,7 +85,7 @@ halves factor ts fs bs e are front_some back_some = record {
 pub of_parts : (factor : ℕ) (query : Trees.Tree) (form : Form) (ts : Trees.Trees) → query ≡ Trees.parts form ts → IsPart factor query → IsOfParts factor query form ts
 of_parts factor query form ts e is = subst (λ (q : Trees.Tree). IsOfParts factor q form ts) (sym e) (by (subst (λ (q : Trees.Tree). IsPart factor q) e is))
   where
-    given : (us : Trees.Trees) → is_sound factor (Trees.parts form us) ≡ true → (0 < count_in us) × (are_sound factor us ≡ true)
+    given : (us : Trees.Trees) → is_sound factor (Trees.parts form us) ≡ true → (0 < part_count us) × (are_sound factor us ≡ true)
     given Trees.no_trees h = cc
     given (Trees.tree u us) h = (omega arith, h)
 

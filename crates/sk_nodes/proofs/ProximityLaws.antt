@@ -19,10 +19,10 @@ use Rattle.sk_nodes.specs.declared.leaf.ListOf.{ListOf}
 use Rattle.sk_nodes.specs.Leaves.{list_in}
 use Rattle.sk_nodes.specs.Shapes.{Shape, ended, tested, size_of}
 use Rattle.sk_nodes.specs.Left.{rest, from_on}
-use Rattle.sk_nodes.specs.Proximity.{stand, positions_at, holds, entries_from, AreInOrder, IsInAll, AreThere, CanTest, IsSameTest}
+use Rattle.sk_nodes.specs.Proximity.{stand, positions_in, holds_in, entries_unread, AreInOrder, IsInAll, AreThere, CanTest, IsSameTest}
 use Rattle.sk_nodes.specs.Sound.{IsTop, IsTested, Sound}
 use Rattle.sk_nodes.proofs.LeafLaws.{from_on-at, from_on-none, covers_none}
-use Rattle.sk_nodes.specs.Skips.{IsLight}
+use Rattle.sk_nodes.specs.Skips.{WeighsBelow}
 use Rattle.sk_nodes.proofs.NodeLaws.{IsHead-none, light_goes, goes_on_light, ended_top, none_bound}
 
 -- ---- what passes a test
@@ -48,12 +48,12 @@ pub tested_covers : (target need : ℕ) (h : ℕ → Bool) (f g : ℕ → Option
 tested_covers target need h f g covers = λ id. subst (λ o. CoversAt o (where_so (h id) (g id)) need) (sym (from_where target h f id)) (where_covers (h id) (from_on target f id) (g id) need (covers id))
 
 -- the same test holds in the same documents
-pub same_holds : (i : Indexed) (p q : Proximity) (id : ℕ) → IsSameTest p q → holds i q id ≡ holds i p id
+pub same_holds : (i : Indexed) (p q : Proximity) (id : ℕ) → IsSameTest p q → holds_in i q id ≡ holds_in i p id
 same_holds i p q id same =
-    ap (λ s. stand s q.window (positions_at i q.numbers.items id)) same.standing ∙ ap (λ w. stand p.standing w (positions_at i q.numbers.items id)) same.window
-    ∙ ap (λ (ns : List ℕ). stand p.standing p.window (positions_at i ns id)) same.numbers
+    ap (λ s. stand s q.window (positions_in i q.numbers.items id)) same.standing ∙ ap (λ w. stand p.standing w (positions_in i q.numbers.items id)) same.window
+    ∙ ap (λ (ns : List ℕ). stand p.standing p.window (positions_in i ns id)) same.numbers
 
-same_rest : (i : Indexed) (p q : Proximity) (t : Top) (s : Shape) (id : ℕ) → IsSameTest p q → rest i (tested q t s) id ≡ where_so (holds i p id) (rest i s id)
+same_rest : (i : Indexed) (p q : Proximity) (t : Top) (s : Shape) (id : ℕ) → IsSameTest p q → rest i (tested q t s) id ≡ where_so (holds_in i p id) (rest i s id)
 same_rest i p q t s id same = ap (λ b. where_so b (rest i s id)) (same_holds i p q id same)
 
 pub same_again : (p q r : Proximity) → IsSameTest p q → IsSameTest q r → IsSameTest p r
@@ -109,7 +109,7 @@ pub record TestSoFar (i : Indexed) (target need from : ℕ) (p0 : Proximity) (t0
   pub within : (id w : ℕ) → rest i s id ≡ Some w → IsInAll i id p.numbers.items
   pub ahead : p.next ≤ t.head + 1
   pub small : p.next ≤ 2 ^ 32
-  pub known : from ≤ t.head → t.head < p.next → holds i p t.head ≡ true
+  pub known : from ≤ t.head → t.head < p.next → holds_in i p t.head ≡ true
   pub covers : Covers (from_on target (rest i (tested p0 t0 s0))) (from_on from (rest i (tested p t s))) need
   pub bound : from < 2 ^ 32
   pub same : IsSameTest p0 p
@@ -138,10 +138,10 @@ module _ (i : Indexed) (target need from : ℕ) (p0 : Proximity) (t0 : Top) (s0 
   rises : t.head ≤ t2.head
   rises = heads_rise from need t.head t.weight t2.head t2.weight (rest i s) (rest i s2) far.top.head top.head covers
 
-  pub moved_known : t2.head < p.next → holds i p t2.head ≡ true
+  pub moved_known : t2.head < p.next → holds_in i p t2.head ≡ true
   moved_known lt =
       let same : t.head ≡ t2.head = omega (arith, lt, far.ahead, rises) in
-      subst (λ h. holds i p h ≡ true) same (far.known (omega (arith, same, reached)) (omega (arith, same, lt)))
+      subst (λ h. holds_in i p h ≡ true) same (far.known (omega (arith, same, reached)) (omega (arith, same, lt)))
 
   pub moved_within : (id w : ℕ) → rest i s2 id ≡ Some w → IsInAll i id p.numbers.items
   moved_within id w e =
@@ -156,7 +156,7 @@ module _ (i : Indexed) (target need from : ℕ) (p0 : Proximity) (t0 : Top) (s0 
 
   pub moved_covers : Covers (from_on target (rest i (tested p0 t0 s0))) (rest i (tested p t2 s2)) need
   moved_covers = λ id. covers_then (from_on target (rest i (tested p0 t0 s0)) id) (from_on from (rest i (tested p t s)) id) (rest i (tested p t2 s2) id) need need (le_refl need) (far.covers id)
-      (tested_covers from need (holds i p) (rest i s) (rest i s2) covers id)
+      (tested_covers from need (holds_in i p) (rest i s) (rest i s2) covers id)
 
   -- it has ended
   pub moved_ended : t2.head ≡ 2 ^ 32 → IsTested i p t2 s2 (Sound i s2)
@@ -170,7 +170,7 @@ module _ (i : Indexed) (target need from : ℕ) (p0 : Proximity) (t0 : Top) (s0 
     q_covers = λ id. subst (λ o. CoversAt (from_on target (rest i (tested p0 t0 s0)) id) o need) (sym (same_rest i p q t2 s2 id same)) (moved_covers id)
 
     -- it passed the test
-    pub passed_sound : holds i p t2.head ≡ true → IsTested i q t2 s2 (Sound i s2)
+    pub passed_sound : holds_in i p t2.head ≡ true → IsTested i q t2 s2 (Sound i s2)
     passed_sound passes = record {
       test = same_can i p q same far.test;
       top = top;
@@ -184,16 +184,16 @@ module _ (i : Indexed) (target need from : ℕ) (p0 : Proximity) (t0 : Top) (s0 
     pub passed_covers : Covers (from_on target (rest i (tested p0 t0 s0))) (rest i (tested q t2 s2)) need
     passed_covers = q_covers
 
-    pub passed_top : holds i p t2.head ≡ true → IsTop i t2 (tested q t2 s2)
+    pub passed_top : holds_in i p t2.head ≡ true → IsTop i t2 (tested q t2 s2)
     passed_top passes = record {
       head = record {
         within = top.head.within;
-        below = λ id less. same_rest i p q t2 s2 id same ∙ ap (where_so (holds i p id)) (top.head.below id less) ∙ where_none (holds i p id);
+        below = λ id less. same_rest i p q t2 s2 id same ∙ ap (where_so (holds_in i p id)) (top.head.below id less) ∙ where_none (holds_in i p id);
         at = λ there. same_rest i p q t2 s2 t2.head same ∙ ap (λ b. where_so b (rest i s2 t2.head)) passes ∙ top.head.at there;
-        past = λ id le. same_rest i p q t2 s2 id same ∙ ap (where_so (holds i p id)) (top.head.past id le) ∙ where_none (holds i p id);
+        past = λ id le. same_rest i p q t2 s2 id same ∙ ap (where_so (holds_in i p id)) (top.head.past id le) ∙ where_none (holds_in i p id);
         ended = top.head.ended;
       };
-      bound = λ id. subst (λ o. unwrap_or o 0 ≤ t2.greatest) (sym (same_rest i p q t2 s2 id same)) (less (holds i p id) (rest i s2 id) t2.greatest (top.bound id));
+      bound = λ id. subst (λ o. unwrap_or o 0 ≤ t2.greatest) (sym (same_rest i p q t2 s2 id same)) (less (holds_in i p id) (rest i s2 id) t2.greatest (top.bound id));
       summed = λ there. le_refl t2.greatest;
       closed = top.closed;
     }
@@ -203,15 +203,15 @@ module _ (i : Indexed) (target need from : ℕ) (p0 : Proximity) (t0 : Top) (s0 
         less false o n h = omega arith
 
     -- it did not, or weighs too little
-    failed_light : IsLight need (where_so (holds i p t2.head) (Some t2.weight)) → (id : ℕ) → id < t2.head + 1 → IsLight need (rest i (tested q t2 s2) id)
+    failed_light : WeighsBelow need (where_so (holds_in i p t2.head) (Some t2.weight)) → (id : ℕ) → id < t2.head + 1 → WeighsBelow need (rest i (tested q t2 s2) id)
     failed_light fails id less =
-        subst (λ (o : Option ℕ). IsLight need o) (sym (same_rest i p q t2 s2 id same)) (elim (cases_lt id t2.head) as (λ _. IsLight need (where_so (holds i p id) (rest i s2 id))) [
-          | inl before ↦ subst (λ (o : Option ℕ). IsLight need o) (sym (ap (where_so (holds i p id)) (top.head.below id before) ∙ where_none (holds i p id))) tt
+        subst (λ (o : Option ℕ). WeighsBelow need o) (sym (same_rest i p q t2 s2 id same)) (elim (cases_lt id t2.head) as (λ _. WeighsBelow need (where_so (holds_in i p id) (rest i s2 id))) [
+          | inl before ↦ subst (λ (o : Option ℕ). WeighsBelow need o) (sym (ap (where_so (holds_in i p id)) (top.head.below id before) ∙ where_none (holds_in i p id))) tt
           | inr le ↦ let here : t2.head ≡ id = omega (arith, less, le) in
-              subst (λ n. IsLight need (where_so (holds i p n) (rest i s2 n))) here (subst (λ (o : Option ℕ). IsLight need (where_so (holds i p t2.head) o)) (sym (top.head.at lt)) fails)
+              subst (λ n. WeighsBelow need (where_so (holds_in i p n) (rest i s2 n))) here (subst (λ (o : Option ℕ). WeighsBelow need (where_so (holds_in i p t2.head) o)) (sym (top.head.at lt)) fails)
         ])
 
-    pub failed_more : IsLight need (where_so (holds i p t2.head) (Some t2.weight)) → t2.head + 1 < 2 ^ 32 → TestSoFar i target need (t2.head + 1) p0 t0 s0 q t2 s2
+    pub failed_more : WeighsBelow need (where_so (holds_in i p t2.head) (Some t2.weight)) → t2.head + 1 < 2 ^ 32 → TestSoFar i target need (t2.head + 1) p0 t0 s0 q t2 s2
     failed_more fails less = record {
       test = same_can i p q same far.test;
       top = top;
@@ -227,17 +227,17 @@ module _ (i : Indexed) (target need from : ℕ) (p0 : Proximity) (t0 : Top) (s0 
       smaller = omega (arith, smaller, far.smaller);
     }
 
-    ended_light : IsLight need (where_so (holds i p t2.head) (Some t2.weight)) → 2 ^ 32 ≤ t2.head + 1 → (id : ℕ) → IsLight need (rest i (tested q t2 s2) id)
+    ended_light : WeighsBelow need (where_so (holds_in i p t2.head) (Some t2.weight)) → 2 ^ 32 ≤ t2.head + 1 → (id : ℕ) → WeighsBelow need (rest i (tested q t2 s2) id)
     ended_light fails le id =
-        elim (cases_lt id (t2.head + 1)) as (λ _. IsLight need (rest i (tested q t2 s2) id)) [
+        elim (cases_lt id (t2.head + 1)) as (λ _. WeighsBelow need (rest i (tested q t2 s2) id)) [
           | inl less ↦ failed_light fails id less
-          | inr more ↦ subst (λ (o : Option ℕ). IsLight need o) (sym (ap (where_so (holds i q id)) (top.head.past id (omega (arith, le, more))) ∙ where_none (holds i q id))) tt
+          | inr more ↦ subst (λ (o : Option ℕ). WeighsBelow need o) (sym (ap (where_so (holds_in i q id)) (top.head.past id (omega (arith, le, more))) ∙ where_none (holds_in i q id))) tt
         ]
 
     -- and nothing lies behind it
-    pub failed_ended_covers : IsLight need (where_so (holds i p t2.head) (Some t2.weight)) → 2 ^ 32 ≤ t2.head + 1 → (u : Top) → Covers (from_on target (rest i (tested p0 t0 s0))) (rest i (tested q u ended)) need
+    pub failed_ended_covers : WeighsBelow need (where_so (holds_in i p t2.head) (Some t2.weight)) → 2 ^ 32 ≤ t2.head + 1 → (u : Top) → Covers (from_on target (rest i (tested p0 t0 s0))) (rest i (tested q u ended)) need
     failed_ended_covers fails le u = λ id.
-        subst (λ o. CoversAt (from_on target (rest i (tested p0 t0 s0)) id) o need) (sym (where_none (holds i q id)))
+        subst (λ o. CoversAt (from_on target (rest i (tested p0 t0 s0)) id) o need) (sym (where_none (holds_in i q id)))
         (light_goes need (from_on target (rest i (tested p0 t0 s0)) id) (rest i (tested q t2 s2) id) (q_covers id) (ended_light fails le id))
 
     pub failed_ended_sound : IsTested i q (record { head = 2 ^ 32; weight = 0; greatest = 0 }) ended (Sound i ended)
@@ -270,7 +270,7 @@ none_top i p t s none = record {
 }
   where
     gone : (id : ℕ) → rest i (tested p t s) id ≡ None
-    gone id = ap (where_so (holds i p id)) (none id) ∙ where_none (holds i p id)
+    gone id = ap (where_so (holds_in i p id)) (none id) ∙ where_none (holds_in i p id)
 
 pub ended_none : (i : Indexed) (t : Top) (s : Shape) → IsTop i t s → 2 ^ 32 ≤ t.head → (id : ℕ) → rest i s id ≡ None
 ended_none i t s top le id =
@@ -306,7 +306,7 @@ from_more low next id (e ∷ es) up there le =
           ]
     ]
 
-pub entries_left : (i : Indexed) (next id : ℕ) (ns : List ℕ) → AreInOrder i ns → IsInAll i id ns → next ≤ id → entries_from i (id + 1) ns + length ns ≤ entries_from i next ns
+pub entries_left : (i : Indexed) (next id : ℕ) (ns : List ℕ) → AreInOrder i ns → IsInAll i id ns → next ≤ id → entries_unread i (id + 1) ns + length ns ≤ entries_unread i next ns
 entries_left i next id [] sorted all le = omega arith
 entries_left i next id (n ∷ ns) sorted all le =
     let one = from_more 0 next id (list_in i (ListOf.Term n)) sorted.0.rise all.0 le in
@@ -322,10 +322,10 @@ there_all i ns there = All-from_recursion (λ n. n < length i.terms) ns (by ns t
 
 -- ---- lengths, one by one
 
-pub lengths_next : (i : Indexed) (ns : List ℕ) (k n most more start : ℕ) → drop k ns ≡ n ∷ drop (k + 1) ns → more ≡ most + length (list_in i (ListOf.Term n)) → most + entries_from i 0 (drop k ns) ≡ start
-    → more + entries_from i 0 (drop (k + 1) ns) ≡ start
+pub lengths_next : (i : Indexed) (ns : List ℕ) (k n most more start : ℕ) → drop k ns ≡ n ∷ drop (k + 1) ns → more ≡ most + length (list_in i (ListOf.Term n)) → most + entries_unread i 0 (drop k ns) ≡ start
+    → more + entries_unread i 0 (drop (k + 1) ns) ≡ start
 lengths_next i ns k n most more start e f before =
-    let here : entries_from i 0 (drop k ns) ≡ length (from 0 (list_in i (ListOf.Term n))) + entries_from i 0 (drop (k + 1) ns) = ap (entries_from i 0) e in
+    let here : entries_unread i 0 (drop k ns) ≡ length (from 0 (list_in i (ListOf.Term n))) + entries_unread i 0 (drop (k + 1) ns) = ap (entries_unread i 0) e in
     let whole : length (from 0 (list_in i (ListOf.Term n))) ≡ length (list_in i (ListOf.Term n)) = ap length (from_zero (list_in i (ListOf.Term n))) in
     omega (arith, here, whole, f, before)
 
@@ -340,6 +340,6 @@ ended_test i p t s top end = none_top i p t s (λ id. IsHead-none t.weight id (r
 
 -- a test that was moved on from 0 without a need gives what passes it
 pub tested_gives : (i : Indexed) (p q : Proximity) (t u : Top) (s r : Shape) (node : Shape) (id : ℕ) → Covers (from_on 0 (rest i (tested p t s))) (rest i (tested q u r)) 0 → node ≡ tested q u r
-    → rest i node id ≡ where_so (holds i p id) (rest i s id)
+    → rest i node id ≡ where_so (holds_in i p id) (rest i s id)
 tested_gives i p q t u s r node id covers e =
     ap (λ (n : Shape). rest i n id) e ∙ covers_exactly (from_on 0 (rest i (tested p t s)) id) (rest i (tested q u r) id) (covers id) ∙ from_on-at 0 (rest i (tested p t s)) id (omega arith)

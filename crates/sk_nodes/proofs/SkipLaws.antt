@@ -5,7 +5,7 @@ use Rattle.sk_index.specs.Indexed.{Indexed}
 use Rattle.sk_nodes.specs.declared.top.Top.{Top}
 use Rattle.sk_nodes.specs.Shapes.{Shape, pair}
 use Rattle.sk_nodes.specs.Fading.{fading_room, both_room}
-use Rattle.sk_nodes.specs.Skips.{Skips}
+use Rattle.sk_nodes.specs.Skips.{SidesSkip}
 use Rattle.sk_nodes.proofs.BlockLaws.{skip_covers, skip_goes}
 use Rattle.sk_nodes.proofs.NodeLaws.{SidesSoFar}
 use Rattle.sk_nodes.specs.Led.{IsFollowing}
@@ -23,7 +23,7 @@ and_or e = cc
 and_max : Form.And ≡ Form.Max → ⊥
 and_max e = cc
 
-module _ (i : Indexed) (form : Form) (target need from to : ℕ) (ta0 : Top) (a0 : Shape) (tb0 : Top) (b0 : Shape) (ta : Top) (a : Shape) (tb : Top) (b : Shape) (skips : Skips i form from need a b to) where
+module _ (i : Indexed) (form : Form) (target need from to : ℕ) (ta0 : Top) (a0 : Shape) (tb0 : Top) (b0 : Shape) (ta : Top) (a : Shape) (tb : Top) (b : Shape) (skips : SidesSkip i form from need a b to) where
   pub sides_skipped : SidesSoFar i form target need from ta0 a0 tb0 b0 ta a tb b → SidesSoFar i form target need to ta0 a0 tb0 b0 ta a tb b
   sides_skipped far = record {
     pair = far.pair;

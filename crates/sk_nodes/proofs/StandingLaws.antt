@@ -13,7 +13,8 @@ use Rattle.sk_sorted.proofs.EntryLaws.{from-at, found-here, found-other}
 use Rattle.sk_dict.specs.Terms.{term_at, number_of}
 use Rattle.sk_chunks.specs.Postings.{Postings}
 use Rattle.sk_query.specs.declared.form.Form.{Form}
-use Rattle.sk_query.specs.Fits.{is_given, are_given, is_window, are_sound, leaves_in}
+use Rattle.sk_query.specs.Fits.{are_given, is_window, are_sound, leaves_in}
+use Rattle.sk_base.specs.Terms.{is_given}
 use Rattle.sk_model.specs.Documents.{Document}
 use Rattle.sk_model.specs.Edits.{document_at}
 use Rattle.sk_model.specs.Weights.{weigh_by}
@@ -31,8 +32,8 @@ use Rattle.sk_nodes.specs.Leaves.{list_in}
 use Rattle.sk_nodes.specs.Shapes.{Shape}
 use Rattle.sk_nodes.specs.Left.{rest}
 use Rattle.sk_nodes.specs.Sound.{IsTop, Sound, IsTested}
-use Rattle.sk_nodes.specs.Opened.{count_in, score_of, joint_score_of, parts_size, term_trees, AreParts, Opens}
-use Rattle.sk_nodes.specs.Proximity.{standing_query, stand, holds, entries_from, numbered, AreThere, AreInOrder, IsInAll}
+use Rattle.sk_nodes.specs.Opened.{part_count, score_of, joint_score_of, parts_size, term_trees, AreParts, Opens}
+use Rattle.sk_nodes.specs.Proximity.{standing_query, stand, holds_in, entries_unread, numbered, AreThere, AreInOrder, IsInAll}
 use Rattle.sk_index.proofs.NumberLemmas.{length-postings}
 use Rattle.sk_nodes.proofs.ListLaws.{wdf_at, found-postings}
 
@@ -68,7 +69,7 @@ pub terms_ceils : (ts : List (List ℕ)) (scheme : Scheme) (factor : ℕ) (docs 
 terms_ceils [] scheme factor docs = refl
 terms_ceils (t ∷ ts) scheme factor docs = let more = terms_ceils ts scheme factor docs in omega (arith, more)
 
-count_terms : (ts : List (List ℕ)) → count_in (term_trees ts) ≡ length ts
+count_terms : (ts : List (List ℕ)) → part_count (term_trees ts) ≡ length ts
 count_terms [] = refl
 count_terms (t ∷ ts) = let more = count_terms ts in omega (arith, more)
 
@@ -126,7 +127,7 @@ places_named f (n ∷ ns) d = ap (λ (ps : List (List ℕ)). positions_of (f n) 
 
 -- an and of the terms, and a test of their positions
 pub standing_scores : (i : Indexed) (p : Proximity) (ts : List (List ℕ)) (scheme : Scheme) (factor id : ℕ) → map (term_at i.terms) p.numbers.items ≡ ts
-    → where_so (holds i p id) (joint_score_of Form.And (term_trees ts) scheme factor (document_at id i.live.documents)) ≡ score_of (standing_query p.standing p.window ts) scheme factor (document_at id i.live.documents)
+    → where_so (holds_in i p id) (joint_score_of Form.And (term_trees ts) scheme factor (document_at id i.live.documents)) ≡ score_of (standing_query p.standing p.window ts) scheme factor (document_at id i.live.documents)
 standing_scores i p ts scheme factor id named = by (document_at id i.live.documents)
   where
     none : (b : Bool) → where_so b None ≡ None
@@ -263,7 +264,7 @@ pub from_zero : (es : Postings) → from 0 es ≡ es
 from_zero [] = refl
 from_zero (e ∷ es) = from-at 0 e es (omega arith)
 
-pub entries_all : (i : Indexed) (ns : List ℕ) → entries_from i 0 ns ≡ lengths_of (map (term_at i.terms) ns) i.live.documents
+pub entries_all : (i : Indexed) (ns : List ℕ) → entries_unread i 0 ns ≡ lengths_of (map (term_at i.terms) ns) i.live.documents
 entries_all i [] = refl
 entries_all i (n ∷ ns) =
     let more = entries_all i ns in
@@ -296,11 +297,11 @@ test_opened i p t s ts scheme factor most given named marks places there sorted 
 -- what passes it is what the terms score that stand so
 pub standing_opened : (i : Indexed) (p : Proximity) (below t : Top) (s r : Shape) (ts : List (List ℕ)) (scheme : Scheme) (factor most : ℕ) → map (term_at i.terms) p.numbers.items ≡ ts
     → Opens i below s (joint_score_of Form.And (term_trees ts) scheme factor) most → most ≡ terms_ceil scheme factor ts i.live.documents → IsTop i t r → Sound i r
-    → ((id : ℕ) → rest i r id ≡ where_so (holds i p id) (rest i s id)) → t.greatest ≤ below.greatest
+    → ((id : ℕ) → rest i r id ≡ where_so (holds_in i p id) (rest i s id)) → t.greatest ≤ below.greatest
     → Opens i t r (score_of (standing_query p.standing p.window ts) scheme factor) (terms_ceil scheme factor ts i.live.documents)
 standing_opened i p below t s r ts scheme factor most named opens bound top sound gives less = record {
   top = top;
   sound = sound;
-  gives = λ id. gives id ∙ ap (where_so (holds i p id)) (opens.gives id) ∙ standing_scores i p ts scheme factor id named;
+  gives = λ id. gives id ∙ ap (where_so (holds_in i p id)) (opens.gives id) ∙ standing_scores i p ts scheme factor id named;
   ceiling = omega (arith, less, opens.ceiling, bound);
 }

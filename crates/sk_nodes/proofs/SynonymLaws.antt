@@ -34,7 +34,7 @@ use Rattle.sk_index.specs.Indexed.{Indexed, AreNumbered, AreAllWith}
 use Rattle.sk_nodes.specs.declared.top.Top.{Top}
 use Rattle.sk_nodes.specs.Leaves.{AtMost}
 use Rattle.sk_nodes.specs.Shapes.{Shape, ended}
-use Rattle.sk_nodes.specs.Left.{rest, greatest_in}
+use Rattle.sk_nodes.specs.Left.{rest, greatest_held}
 use Rattle.sk_nodes.specs.Sound.{IsTop, Sound}
 use Rattle.sk_nodes.specs.Proximity.{numbered, AreThere}
 use Rattle.sk_nodes.specs.Opened.{score_of, joint_form, Opens}
@@ -222,7 +222,7 @@ capped_as i t u s g e f h top bound =
     record {
       head = subst (λ n. IsHead n u.weight (rest i s)) (sym e) (subst (λ w. IsHead t.head w (rest i s)) (sym f) capped.head);
       bound = λ id. subst (λ n. unwrap_or (rest i s id) 0 ≤ n) (sym h) (capped.bound id);
-      summed = λ lt. subst (λ n. n ≤ greatest_in s) (sym h) (capped.summed (omega (arith, e, lt)));
+      summed = λ lt. subst (λ n. n ≤ greatest_held s) (sym h) (capped.summed (omega (arith, e, lt)));
       closed = λ end. h ∙ capped.closed (sym e ∙ end);
     }
 

@@ -16,7 +16,7 @@ use Rattle.sk_decay.specs.Heads.{IsHead, NoneBelow}
 use Rattle.sk_decay.proofs.SideLaws.{paired-none}
 use Rattle.sk_decay.specs.Sides.{paired}
 use Rattle.sk_nodes.specs.declared.top.Top.{Top}
-use Rattle.sk_nodes.specs.Proximity.{holds}
+use Rattle.sk_nodes.specs.Proximity.{holds_in}
 use Rattle.sk_nodes.specs.Shapes.{Shape, ended, leaf, span, pair, odd, any, tested, Sides, no_sides, side}
 use Rattle.sk_nodes.specs.Left.{rest, rests, from_on}
 use Rattle.sk_nodes.specs.Sound.{IsTop, Sound, AreSound}
@@ -77,7 +77,7 @@ mutual
       ap (λ o. paired form o (rest i b id)) (rest-live i a sound.first_sound id none) ∙ ap (paired form None) (rest-live i b sound.second_sound id none) ∙ paired-none form
   rest-live i (odd ss) sound id none = none_odd (rests i ss id) (rests-live i ss sound.sides id none)
   rest-live i (any ss) sound id none = rests-live i ss sound.sides id none
-  rest-live i (tested p t s) sound id none = ap (where_so (holds i p id)) (rest-live i s sound.sound id none) ∙ where_none (holds i p id)
+  rest-live i (tested p t s) sound id none = ap (where_so (holds_in i p id)) (rest-live i s sound.sound id none) ∙ where_none (holds_in i p id)
 
   rests-live : (i : Indexed) (ss : Sides) → AreSound i ss → (id : ℕ) → document_at id i.live.documents ≡ None → sum_of_any (rests i ss id) ≡ None
   rests-live i no_sides sound id none = refl

@@ -5,7 +5,7 @@ use Rattle.std.proofs.lemmas.List.{length-append}
 use Rattle.sk_chunks.specs.Postings.{Postings, is_below}
 use Rattle.sk_lists.specs.declared.cursor.Cursor.{Cursor}
 use Rattle.sk_lists.specs.Lists.{Runs}
-use Rattle.sk_lists.specs.Seeks.{Passes}
+use Rattle.sk_lists.specs.Seeks.{PassesPostings}
 use Rattle.sk_lists.specs.Cursor.{unread, headed, left, IsHeadAt, IsOn}
 use Rattle.sk_nodes.specs.Leaves.{head_of}
 use Rattle.sk_lists.specs.Seeks.{count_to}
@@ -30,7 +30,7 @@ on_none : (c : Cursor) (runs : Runs) → IsOn c runs → c.head ≡ None → unr
 on_none c runs on e = subst (λ (h : Option (ℕ × ℕ)). IsHeadAt h c.run c.read runs) e on
 
 -- a cursor that was sought
-pub goes_on : (runs : Runs) (old new : Cursor) (target need_wdf : ℕ) → IsOn old runs → IsOn new runs → Passes target need_wdf (left old runs) (left new runs)
+pub goes_on : (runs : Runs) (old new : Cursor) (target need_wdf : ℕ) → IsOn old runs → IsOn new runs → PassesPostings target need_wdf (left old runs) (left new runs)
     → Advances (head_of (left old runs)) (length (unread old runs)) (head_of (left new runs)) (length (unread new runs))
 goes_on runs old new target need_wdf on on2 passes = goes old.head new.head (unread old runs) (unread new runs) passes.passed (on_none old runs on) (on_none new runs on2) passes.is
 

@@ -16,7 +16,7 @@ pub record Pays (spent spent_after most most_after unread readings : ℕ) : Type
   pub room : spent_after ≤ most_after
 
 -- Whether memory was there or not: each reading that is spent is counted, and none is taken back.
-pub record Counts (spent spent_after steps steps_after most_after : ℕ) : Type 0 where
+pub record CountsReadings (spent spent_after steps steps_after most_after : ℕ) : Type 0 where
   pub counted : steps_after + spent ≡ steps + spent_after
   pub later : spent ≤ spent_after
   pub small : most_after < 2 ^ 128

@@ -10,7 +10,7 @@ use Rattle.sk_nodes.specs.Sound.{AreSound}
 use Rattle.sk_nodes.specs.Left.{rest, rests, unread_in, greatest_sum}
 use Rattle.sk_nodes.specs.Flat.{rooms_to, AreFlat, AreNests, entered}
 use Rattle.sk_nodes.specs.Led.{follow_rooms, IsFollowing}
-use Rattle.sk_nodes.specs.Skips.{IsLight}
+use Rattle.sk_nodes.specs.Skips.{WeighsBelow}
 
 -- Sides of terms alone were moved on from the target without a need, with this spent before and after: what is spent and what is left up to a point together have not grown, nor where they follow a list what they may still read for it.
 pub record AreKept (i : Indexed) (target before after : ℕ) (old new : Sides) : Type 0 where
@@ -30,7 +30,7 @@ pub record AreMoved (i : Indexed) (target before after : ℕ) (old new : Sides) 
 -- The sides that lead were sought from an id on, under a need: what lies before the head weighs too little, and from that id on all gives what it gave. The head is not behind the last one, which was known before.
 pub record HaveLed (i : Indexed) (need from last head : ℕ) (old new : Sides) : Type 0 where
   pub same : (id : ℕ) → from ≤ id → rests i new id ≡ rests i old id
-  pub light : (id : ℕ) → id < head → IsLight need (sum_of_any (rests i new id))
+  pub light : (id : ℕ) → id < head → WeighsBelow need (sum_of_any (rests i new id))
   pub further : from ≤ head
   pub within : head ≤ last
 

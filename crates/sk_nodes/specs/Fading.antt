@@ -6,14 +6,14 @@ use Rattle.sk_lists.specs.Seeks.{count_to}
 use Rattle.sk_nodes.specs.declared.top.Top.{Top}
 use Rattle.sk_nodes.specs.Leaves.{entries_of, leaf_unread}
 use Rattle.sk_nodes.specs.Shapes.{Shape, ended, leaf, pair}
-use Rattle.sk_nodes.specs.Left.{greatest_in}
+use Rattle.sk_nodes.specs.Left.{greatest_held}
 use Rattle.sk_nodes.specs.Flat.{room_to}
 use Rattle.sk_nodes.specs.Led.{count_behind, IsLone, lead_head, lead_unread}
 
 -- How many entries a leaf has left behind a point.
-abbrev pub room_behind : Indexed → ℕ → Shape → ℕ
-room_behind i point (leaf l) = count_behind point (entries_of i l)
-room_behind i point _ = 0
+abbrev pub entries_behind : Indexed → ℕ → Shape → ℕ
+entries_behind i point (leaf l) = count_behind point (entries_of i l)
+entries_behind i point _ = 0
 
 -- A side is a leaf or nothing, and its head is kept beside it.
 pub record StandsOn (i : Indexed) (t : Top) (s : Shape) : Type 0 where
@@ -41,7 +41,7 @@ pair_room _ first point a b room = room + 255
 
 -- The fading list may read its entries up to the point, and 256 for each entry of the other behind it.
 abbrev pub both_room : Indexed → ℕ → Shape → Shape → ℕ
-both_room i point other fading = room_to i point fading + 256 * room_behind i point other
+both_room i point other fading = room_to i point fading + 256 * entries_behind i point other
 
 -- How much a node of two lists may still read: the other list all that it has unread. The other is the first side, or the leaf itself, where `first` is true.
 abbrev pub fading_room : Indexed → ℕ → Bool → Shape → ℕ
@@ -64,8 +64,8 @@ abbrev pub IsFading : Indexed → ℕ → Bool → Shape → Type 0
 IsFading i greatest first ended = Unit {0}
 IsFading i greatest true (leaf l) = Unit {0}
 IsFading i greatest false (leaf l) = l.greatest ≤ greatest
-IsFading i greatest true (pair form ta a tb b) = IsFadingForm form × (StandsOn i ta a × (StandsOn i tb b × (greatest_in b ≤ greatest)))
-IsFading i greatest false (pair form ta a tb b) = IsFadingForm form × (StandsOn i ta a × (StandsOn i tb b × (greatest_in a ≤ greatest)))
+IsFading i greatest true (pair form ta a tb b) = IsFadingForm form × (StandsOn i ta a × (StandsOn i tb b × (greatest_held b ≤ greatest)))
+IsFading i greatest false (pair form ta a tb b) = IsFadingForm form × (StandsOn i ta a × (StandsOn i tb b × (greatest_held a ≤ greatest)))
 IsFading i greatest first _ = ⊥
 
 -- Two sides with these heads may be sought from a target: neither has ended, where nothing is given without the other list; and no further than from the id behind the point otherwise.
@@ -82,17 +82,17 @@ MayFade point target first (pair form ta a tb b) = PairMayFade form first point 
 MayFade point target first _ = Unit {0}
 
 -- A leaf was moved on from the target, with this spent before and after, and its top is this.
-pub record Moves (i : Indexed) (target before after : ℕ) (old : Shape) (top : Top) (new : Shape) : Type 0 where
+pub record LeafMoves (i : Indexed) (target before after : ℕ) (old : Shape) (top : Top) (new : Shape) : Type 0 where
   pub stands : StandsOn i top new
   pub few : after ≤ before + 128
   pub paid : after + lead_unread i new ≤ before + lead_unread i old
   pub near : (point : ℕ) → target ≤ point + 1 → after + room_to i point new ≤ before + room_to i point old
   pub to : (point : ℕ) → room_to i point new ≤ room_to i point old
-  pub behind : (point : ℕ) → room_behind i point new ≤ room_behind i point old
-  pub passed : (point : ℕ) → point < lead_head i old → lead_head i old < target → 1 + room_behind i point new ≤ room_behind i point old
+  pub behind : (point : ℕ) → entries_behind i point new ≤ entries_behind i point old
+  pub passed : (point : ℕ) → point < lead_head i old → lead_head i old < target → 1 + entries_behind i point new ≤ entries_behind i point old
   pub still : target ≤ lead_head i old → (after ≡ before) × (lead_head i new ≡ lead_head i old)
   pub reached : target ≤ lead_head i new
-  pub greatest : greatest_in new ≤ greatest_in old
+  pub greatest : greatest_held new ≤ greatest_held old
 
 -- A node may be moved on from the target under the need: the target is at most the id behind the point, or nothing of the fading list is enough.
 abbrev pub MayLeave : ℕ → ℕ → ℕ → ℕ → Type 0

@@ -10,7 +10,7 @@ use Rattle.sk_lists.specs.Cursor.{unread, left, IsOn}
 use Rattle.sk_dict.specs.Terms.{term_at}
 use Rattle.sk_model.specs.Edits.{document_at}
 use Rattle.sk_model.specs.Weights.{weigh_by}
-use Rattle.sk_index.specs.Indexed.{Indexed, runs_in, postings, all_postings}
+use Rattle.sk_index.specs.Indexed.{Indexed, list_runs, postings, all_postings}
 use Rattle.sk_decay.specs.Heads.{IsHead}
 use Rattle.sk_nodes.specs.declared.top.Top.{Top}
 use Rattle.sk_nodes.specs.declared.leaf.Leaf.{Leaf}
@@ -28,8 +28,8 @@ IsThere (ListOf.Term n) terms = n < length terms
 
 -- The list in its pieces, as it is kept.
 abbrev pub runs_of : Indexed → ListOf → Runs
-runs_of i ListOf.All = runs_in i None
-runs_of i (ListOf.Term n) = runs_in i (Some n)
+runs_of i ListOf.All = list_runs i None
+runs_of i (ListOf.Term n) = list_runs i (Some n)
 
 -- The entries that are left to a leaf.
 abbrev pub entries_of : Indexed → Leaf → Postings
@@ -57,8 +57,8 @@ abbrev pub leaf_greatest : ℕ → Scheme → Postings → ℕ
 leaf_greatest factor scheme list = if nat_lt 0 (length list) then weigh_by factor scheme (greatest_wdf list) else 0
 
 -- Each wdf below this one weighs less than the need.
-abbrev pub AreLight : ℕ → Scheme → ℕ → ℕ → Type 0
-AreLight factor scheme need_wdf need = (w : ℕ) → w < need_wdf → weigh_by factor scheme w < need
+abbrev pub WeighBelow : ℕ → Scheme → ℕ → ℕ → Type 0
+WeighBelow factor scheme need_wdf need = (w : ℕ) → w < need_wdf → weigh_by factor scheme w < need
 
 -- No weight is above this one.
 abbrev pub AtMost : ℕ → (ℕ → Option ℕ) → Type 0
@@ -70,7 +70,7 @@ pub record IsLeafOn (i : Indexed) (l : Leaf) : Type 0 where
   pub factor : l.factor ≤ 65536
   pub on : IsOn l.cursor (runs_of i l.source)
   pub runs : AreRuns (runs_of i l.source)
-  pub light : AreLight l.factor l.scheme l.need_wdf l.need
+  pub light : WeighBelow l.factor l.scheme l.need_wdf l.need
   pub bound : AtMost l.greatest (leaf_rest i l)
   pub live : (id : ℕ) → document_at id i.live.documents ≡ None → leaf_rest i l id ≡ None
 

@@ -7,7 +7,7 @@ use Rattle.sk_decay.specs.Sides.{paired, greatest_under}
 use Rattle.sk_nodes.specs.Leaves.{leaf_rest, leaf_unread}
 use Rattle.sk_nodes.specs.Span.{span_rest, span_unread}
 use Rattle.sk_nodes.specs.Shapes.{Shape, ended, leaf, span, pair, odd, any, tested, Sides, no_sides, side}
-use Rattle.sk_nodes.specs.Proximity.{holds, entries_from}
+use Rattle.sk_nodes.specs.Proximity.{holds_in, entries_unread}
 
 abbrev mutual
   -- The weight that a node still gives at an id.
@@ -18,7 +18,7 @@ abbrev mutual
   rest i (pair form ta a tb b) id = paired form (rest i a id) (rest i b id)
   rest i (odd ss) id = combined Form.Xor (rests i ss id)
   rest i (any ss) id = combined Form.Or (rests i ss id)
-  rest i (tested p t s) id = where_so (holds i p id) (rest i s id)
+  rest i (tested p t s) id = where_so (holds_in i p id) (rest i s id)
 
   -- The weights that sides still give at an id.
   pub rests : Indexed → Sides → ℕ → List (Option ℕ)
@@ -34,7 +34,7 @@ abbrev mutual
   unread_of i (pair form ta a tb b) = unread_of i a + unread_of i b
   unread_of i (odd ss) = unread_in i ss
   unread_of i (any ss) = unread_in i ss
-  unread_of i (tested p t s) = unread_of i s + entries_from i p.next p.numbers.items
+  unread_of i (tested p t s) = unread_of i s + entries_unread i p.next p.numbers.items
 
   -- How many entries of their lists sides have not read.
   pub unread_in : Indexed → Sides → ℕ
@@ -47,14 +47,14 @@ greatest_sum no_sides = 0
 greatest_sum (side t s ss) = t.greatest + greatest_sum ss
 
 -- How much a node that has not ended can weigh.
-abbrev pub greatest_in : Shape → ℕ
-greatest_in ended = 0
-greatest_in (leaf l) = l.greatest
-greatest_in (span r) = 0
-greatest_in (pair form ta a tb b) = greatest_under form ta.greatest tb.greatest
-greatest_in (odd ss) = greatest_sum ss
-greatest_in (any ss) = greatest_sum ss
-greatest_in (tested p t s) = t.greatest
+abbrev pub greatest_held : Shape → ℕ
+greatest_held ended = 0
+greatest_held (leaf l) = l.greatest
+greatest_held (span r) = 0
+greatest_held (pair form ta a tb b) = greatest_under form ta.greatest tb.greatest
+greatest_held (odd ss) = greatest_sum ss
+greatest_held (any ss) = greatest_sum ss
+greatest_held (tested p t s) = t.greatest
 
 -- What is given from an id on.
 abbrev pub from_on : ℕ → (ℕ → Option ℕ) → ℕ → Option ℕ

@@ -9,11 +9,11 @@ use Rattle.sk_nodes.specs.Left.{rest, unread_of}
 use Rattle.sk_nodes.specs.Sound.{Lands}
 use Rattle.sk_nodes.specs.Flat.{room_to, IsFlat, IsPlain, MayGo, IsNest}
 use Rattle.sk_nodes.specs.Led.{IsLone, lead_head, lead_unread, follow_room, led_room, IsAtLead, IsLed, Advances, IsFollowing}
-use Rattle.sk_nodes.specs.Fading.{StandsOn, fading_room, IsFading, MayFade, Moves, FadesUnder}
+use Rattle.sk_nodes.specs.Fading.{StandsOn, fading_room, IsFading, MayFade, LeafMoves, FadesUnder}
 
 -- A node was moved on to a target under a need, with this spent and counted before and after: it lands there, weighs no more than `most`, is no more
 -- nodes than it was, and pays for what it read.
-pub record Sought (i : Indexed) (target need most : ℕ) (spent spent_after steps steps_after : ℕ) (before after : Shape) (t : Top) : Type 0 where
+pub record WasSought (i : Indexed) (target need most : ℕ) (spent spent_after steps steps_after : ℕ) (before after : Shape) (t : Top) : Type 0 where
   pub lands : Lands i target need before after t
   pub falls : t.greatest ≤ most
   pub smaller : size_of after ≤ size_of before
@@ -49,12 +49,12 @@ pub record Accounts (i : Indexed) (target need before after : ℕ) (old new : Sh
 pub record SeekAccounts (i : Indexed) (target need before after : ℕ) (old new : Shape) (top : Top) : Type 0 where
   pub all : Accounts i target need before after old new
   pub at : IsLed i old → IsAtLead i top new
-  pub moves : IsLone old → Moves i target before after old top new
+  pub moves : IsLone old → LeafMoves i target before after old top new
   pub fades : (point greatest : ℕ) (first : Bool) → Keeps (fading_account i point greatest first) target before after old new
 
 -- The same of a node that had a top before, and was replaced by what is enough under the need.
 pub record ReachAccounts (i : Indexed) (target need before after : ℕ) (old new : Shape) (was top : Top) : Type 0 where
   pub all : Accounts i target need before after old new
   pub at : IsLed i old → IsAtLead i was old → IsAtLead i top new
-  pub moves : StandsOn i was old → Moves i target before after old top new
+  pub moves : StandsOn i was old → LeafMoves i target before after old top new
   pub fades : FadesUnder i target need before after old new

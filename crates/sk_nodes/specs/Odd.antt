@@ -10,7 +10,7 @@ use Rattle.sk_nodes.specs.Shapes.{Sides, no_sides, side, odd}
 use Rattle.sk_nodes.specs.Left.{rest, from_on}
 
 -- One side was sought from the target on, by what holds of the others.
-pub record IsSought (old new : ℕ → Option ℕ) (target : ℕ) (A : Type 0) : Type 0 where
+pub record SideIsSought (old new : ℕ → Option ℕ) (target : ℕ) (A : Type 0) : Type 0 where
   pub first : Covers (from_on target old) new 0
   pub others : A
 
@@ -19,7 +19,7 @@ abbrev pub AreSought : Indexed → ℕ → Sides → Sides → Type 0
 AreSought i target no_sides no_sides = Unit {0}
 AreSought i target no_sides (side u r rs) = ⊥
 AreSought i target (side t s ss) no_sides = ⊥
-AreSought i target (side t s ss) (side u r rs) = IsSought (rest i s) (rest i r) target (AreSought i target ss rs)
+AreSought i target (side t s ss) (side u r rs) = SideIsSought (rest i s) (rest i r) target (AreSought i target ss rs)
 
 -- No side begins before.
 abbrev pub AreFrom : ℕ → Sides → Type 0

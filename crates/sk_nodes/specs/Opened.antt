@@ -85,9 +85,9 @@ abbrev mutual
   parts_size (Query.tree t ts) = query_size t + parts_size ts
 
 -- How many parts there are.
-abbrev pub count_in : Query.Trees → ℕ
-count_in Query.no_trees = 0
-count_in (Query.tree t ts) = 1 + count_in ts
+abbrev pub part_count : Query.Trees → ℕ
+part_count Query.no_trees = 0
+part_count (Query.tree t ts) = 1 + part_count ts
 
 -- A leaf can be opened on this index, with this spent, and so much of it allowed.
 pub record CanRead (i : Indexed) (spent most : ℕ) : Type 0 where
@@ -108,7 +108,7 @@ pub record IsPart (factor : ℕ) (query : Query.Tree) : Type 0 where
 
 -- Parts of which a node can be opened under a form and a factor.
 pub record AreParts (form : Form) (factor : ℕ) (ts : Query.Trees) : Type 0 where
-  pub some : 0 < count_in ts
+  pub some : 0 < part_count ts
   pub sound : are_sound factor ts ≡ true
   pub leaves : leaves_in ts ≤ 1024
 

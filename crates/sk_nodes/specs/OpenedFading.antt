@@ -9,24 +9,24 @@ use Rattle.sk_model.specs.Sharp.{up, past, decay_readings}
 use Rattle.sk_index.specs.Indexed.{Indexed}
 use Rattle.sk_nodes.specs.declared.top.Top.{Top}
 use Rattle.sk_nodes.specs.Shapes.{Shape}
-use Rattle.sk_nodes.specs.Left.{greatest_in}
+use Rattle.sk_nodes.specs.Left.{greatest_held}
 use Rattle.sk_nodes.specs.Flat.{room_to}
 use Rattle.sk_nodes.specs.Led.{lead_unread, count_behind}
-use Rattle.sk_nodes.specs.Fading.{room_behind, StandsOn, IsFading, fading_room}
+use Rattle.sk_nodes.specs.Fading.{entries_behind, StandsOn, IsFading, fading_room}
 
 -- A leaf over a list, or nothing, has no more left up to a point and behind it than the list; nothing of it weighs more than the greatest.
 pub record Begins (i : Indexed) (t : Top) (s : Shape) (list : Postings) (greatest : ℕ) : Type 0 where
   pub stands : StandsOn i t s
-  pub own : greatest_in s ≤ greatest
+  pub own : greatest_held s ≤ greatest
   pub to : (point : ℕ) → room_to i point s ≤ count_to point list
-  pub behind : (point : ℕ) → room_behind i point s ≤ count_behind point list
+  pub behind : (point : ℕ) → entries_behind i point s ≤ count_behind point list
 
 -- The leaf of a term, or nothing, was opened, with this spent before and after.
 pub record OpensAlone (i : Indexed) (t : Top) (s : Shape) (term : List ℕ) (greatest before after : ℕ) : Type 0 where
   pub stands : StandsOn i t s
-  pub own : greatest_in s ≤ greatest
+  pub own : greatest_held s ≤ greatest
   pub to : (point : ℕ) → room_to i point s ≤ up term point i.live.documents
-  pub behind : (point : ℕ) → room_behind i point s ≤ past term point i.live.documents
+  pub behind : (point : ℕ) → entries_behind i point s ≤ past term point i.live.documents
   pub few : after ≤ before + 1
   pub paid : after + lead_unread i s ≤ before + length_of term i.live.documents
 

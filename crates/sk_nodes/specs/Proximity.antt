@@ -22,17 +22,17 @@ stand Standing.Near window places = is_near window places
 stand Standing.Phrase window places = is_phrase window places
 
 -- The positions of the terms with these numbers in a document.
-abbrev pub positions_at : Indexed → List ℕ → ℕ → List (List ℕ)
-positions_at i ns id = map (λ n. term_positions (term_at i.terms n) (document_at id i.live.documents)) ns
+abbrev pub positions_in : Indexed → List ℕ → ℕ → List (List ℕ)
+positions_in i ns id = map (λ n. term_positions (term_at i.terms n) (document_at id i.live.documents)) ns
 
 -- Whether the terms stand so in a document.
-abbrev pub holds : Indexed → Proximity → ℕ → Bool
-holds i p id = stand p.standing p.window (positions_at i p.numbers.items id)
+abbrev pub holds_in : Indexed → Proximity → ℕ → Bool
+holds_in i p id = stand p.standing p.window (positions_in i p.numbers.items id)
 
 -- How many entries the lists of these terms have from an id on.
-abbrev pub entries_from : Indexed → ℕ → List ℕ → ℕ
-entries_from i next [] = 0
-entries_from i next (n ∷ ns) = length (from next (list_in i (ListOf.Term n))) + entries_from i next ns
+abbrev pub entries_unread : Indexed → ℕ → List ℕ → ℕ
+entries_unread i next [] = 0
+entries_unread i next (n ∷ ns) = length (from next (list_in i (ListOf.Term n))) + entries_unread i next ns
 
 -- The numbers were given for terms.
 abbrev pub AreThere : Indexed → List ℕ → Type 0

@@ -7,15 +7,15 @@ use Rattle.sk_nodes.specs.declared.top.Top.{Top}
 use Rattle.sk_nodes.specs.Leaves.{AtMost, IsLeafOn}
 use Rattle.sk_nodes.specs.Span.{IsSpanOn}
 use Rattle.sk_nodes.specs.declared.proximity.Proximity.{Proximity}
-use Rattle.sk_nodes.specs.Proximity.{holds, IsInAll, CanTest}
+use Rattle.sk_nodes.specs.Proximity.{holds_in, IsInAll, CanTest}
 use Rattle.sk_nodes.specs.Shapes.{Shape, ended, leaf, span, pair, odd, any, tested, Sides, no_sides, side, size_of}
-use Rattle.sk_nodes.specs.Left.{rest, from_on, unread_of, greatest_sum, greatest_in}
+use Rattle.sk_nodes.specs.Left.{rest, from_on, unread_of, greatest_sum, greatest_held}
 
 -- A node's head, and how much it can weigh, are those of what it still gives.
 pub record IsTop (i : Indexed) (t : Top) (s : Shape) : Type 0 where
   pub head : IsHead t.head t.weight (rest i s)
   pub bound : AtMost t.greatest (rest i s)
-  pub summed : t.head < 2 ^ 32 → t.greatest ≤ greatest_in s
+  pub summed : t.head < 2 ^ 32 → t.greatest ≤ greatest_held s
   pub closed : t.head ≡ 2 ^ 32 → t.greatest ≡ 0
 
 -- Two sides with their tops, by what holds of each.
@@ -27,7 +27,7 @@ pub record IsPair (i : Indexed) (ta : Top) (a : Shape) (tb : Top) (b : Shape) (A
   pub fits : ta.greatest + tb.greatest < 2 ^ 63
 
 -- A side with its top, by what holds of it and of the others.
-pub record IsFirst (i : Indexed) (t : Top) (s : Shape) (A B : Type 0) : Type 0 where
+pub record IsFirstSide (i : Indexed) (t : Top) (s : Shape) (A B : Type 0) : Type 0 where
   pub top : IsTop i t s
   pub sound : A
   pub others : B
@@ -45,7 +45,7 @@ pub record IsTested (i : Indexed) (p : Proximity) (t : Top) (s : Shape) (A : Typ
   pub within : (id w : ℕ) → rest i s id ≡ Some w → IsInAll i id p.numbers.items
   pub ahead : p.next ≤ t.head + 1
   pub small : p.next ≤ 2 ^ 32
-  pub known : t.head < p.next → holds i p t.head ≡ true
+  pub known : t.head < p.next → holds_in i p t.head ≡ true
 
 abbrev mutual
   -- All that is kept in a node is so.
@@ -61,7 +61,7 @@ abbrev mutual
   -- All that is kept in sides and beside them is so.
   pub AreSound : Indexed → Sides → Type 0
   AreSound i no_sides = Unit {0}
-  AreSound i (side t s ss) = IsFirst i t s (Sound i s) (AreSound i ss)
+  AreSound i (side t s ss) = IsFirstSide i t s (Sound i s) (AreSound i ss)
 
 -- A node was put in the place of another, and covers what that gave.
 pub record Replaces (i : Indexed) (need : ℕ) (old new : Shape) : Type 0 where

@@ -6,7 +6,7 @@ use Rattle.sk_nodes.specs.Shapes.{shape_of}
 use Rattle.sk_nodes.specs.Flat.{room_to, IsFlat, IsPlain, MayGo}
 
 -- A tree of terms alone: what it has spent, and what is left up to the point, is no more than this.
-pub record Stops (i : Indexed) (t : Tree) (point most : ℕ) : Type 0 where
+pub record PaysToStop (i : Indexed) (t : Tree) (point most : ℕ) : Type 0 where
   pub shape : IsFlat t.need (shape_of t.node) ⊎ IsPlain (shape_of t.node)
   pub account : t.spent + room_to i point (shape_of t.node) ≤ most
 

@@ -11,7 +11,7 @@ ghost use Rattle.sk_nodes.specs.Opened.{Gathers};
 ghost use Rattle.sk_nodes.specs.Flat.{IsNest, IsJoint, PairsNest};
 ghost use Rattle.sk_nodes.specs.Moved.{Accounts, SeekAccounts};
 ghost use Rattle.sk_nodes.specs.Odd.{followed_by};
-ghost use Rattle.sk_nodes.specs.Proximity.{holds, entries_from};
+ghost use Rattle.sk_nodes.specs.Proximity.{holds_in, entries_unread};
 
 use crate::moves::{seek_any, seek_odd, seek_pair, seek_tested};
 use crate::node::Node;
@@ -183,12 +183,12 @@ pub(crate) fn tested_of<L: Ledger>(
     steps: &mut Steps<L>,
 ) -> Result<(Top, Node), AllocError>
     requires tested { IsTested index.now test below (shape_of node) (Sound index.now (shape_of node)) }
-    requires room { spent.old + (unread_of index.now (shape_of node) + entries_from index.now test.next test.numbers.items) < 2 ^ 128 }
+    requires room { spent.old + (unread_of index.now (shape_of node) + entries_unread index.now test.next test.numbers.items) < 2 ^ 128 }
     ensures top { IfOk result (λ p. IsTop index.now p.0 (shape_of p.1)) }
     ensures sound { IfOk result (λ p. Sound index.now (shape_of p.1)) }
-    ensures gives { IfOk result (λ p. (id : ℕ) → rest index.now (shape_of p.1) id ≡ where_so (holds index.now test id) (rest index.now (shape_of node) id)) }
+    ensures gives { IfOk result (λ p. (id : ℕ) → rest index.now (shape_of p.1) id ≡ where_so (holds_in index.now test id) (rest index.now (shape_of node) id)) }
     ensures ceiling { IfOk result (λ p. p.0.greatest ≤ below.greatest) }
-    ensures paid { IfOk result (λ p. spent.new + unread_of index.now (shape_of p.1) ≤ spent.old + (unread_of index.now (shape_of node) + entries_from index.now test.next test.numbers.items)) }
+    ensures paid { IfOk result (λ p. spent.new + unread_of index.now (shape_of p.1) ≤ spent.old + (unread_of index.now (shape_of node) + entries_unread index.now test.next test.numbers.items)) }
     ensures counted { steps.new + spent.old ≡ steps.old + spent.new }
     ensures later { spent.old ≤ spent.new }
 {

@@ -6,7 +6,7 @@ ghost use Rattle.sk_lists.specs.Seeks.{count_to};
 ghost use Rattle.sk_model.specs.Covers.{Covers};
 ghost use Rattle.sk_index.specs.Indexed.{Indexed};
 ghost use Rattle.sk_nodes.specs.Accounts.{Spends};
-ghost use Rattle.sk_nodes.specs.Leaves.{list_in, runs_of, weighed, leaf_rest, leaf_unread, leaf_greatest, IsThere, entries_of, head_of, AtMost, IsLeafOn, AreLight, IsLeafTop};
+ghost use Rattle.sk_nodes.specs.Leaves.{list_in, runs_of, weighed, leaf_rest, leaf_unread, leaf_greatest, IsThere, entries_of, head_of, AtMost, IsLeafOn, WeighBelow, IsLeafTop};
 ghost use Rattle.sk_nodes.specs.Sound.{IsTop};
 ghost use Rattle.sk_nodes.specs.Left.{from_on};
 ghost use Rattle.sk_nodes.specs.Shapes.{leaf};
@@ -180,8 +180,8 @@ impl Leaf {
     /// The least wdf that weighs what is needed, worked out anew for a new need.
     fn wdf_for(&self, need: Weight) -> u32
         requires factor { self.now.factor ≤ 65536 }
-        requires light { AreLight self.now.factor self.now.scheme self.now.need_wdf self.now.need }
-        ensures { AreLight self.now.factor self.now.scheme result need }
+        requires light { WeighBelow self.now.factor self.now.scheme self.now.need_wdf self.now.need }
+        ensures { WeighBelow self.now.factor self.now.scheme result need }
     {
         if need == self.need {
             return self.need_wdf;

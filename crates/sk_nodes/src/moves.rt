@@ -3,12 +3,12 @@ ghost use Rattle.std.specs.Prelude.{◌≡◌, ◌≤◌, ◌<◌, ◌+◌, ◌^
 ghost use Rattle.sk_decay.specs.Sides.{greatest_under};
 ghost use Rattle.sk_nodes.specs.Accounts.{Spends};
 ghost use Rattle.sk_nodes.specs.Shapes.{pair, odd, any, tested, shape_of, sides_on, sizes_in};
-ghost use Rattle.sk_nodes.specs.Left.{unread_of, unread_in, greatest_sum, greatest_in};
+ghost use Rattle.sk_nodes.specs.Left.{unread_of, unread_in, greatest_sum, greatest_held};
 ghost use Rattle.sk_nodes.specs.Sound.{IsTop, IsPair, IsOdd, IsTested, Sound, AreSound};
-ghost use Rattle.sk_nodes.specs.Moved.{Sought, Accounts, SeekAccounts, ReachAccounts};
+ghost use Rattle.sk_nodes.specs.Moved.{WasSought, Accounts, SeekAccounts, ReachAccounts};
 ghost use Rattle.sk_nodes.specs.Odd.{AreSought, AreFrom};
 ghost use Rattle.sk_nodes.specs.Any.{AreMoved, HaveLed, AreWeighed, AreEnded};
-ghost use Rattle.sk_nodes.specs.Proximity.{entries_from};
+ghost use Rattle.sk_nodes.specs.Proximity.{entries_unread};
 
 use crate::any::{first_of, weight_at};
 use crate::node::{Node, settle};
@@ -39,7 +39,7 @@ pub(crate) fn reach<L: Ledger>(
     requires sound { Sound index.now (shape_of node.old) }
     requires target { target < 2 ^ 32 }
     requires room { spent.old + unread_of index.now (shape_of node.old) < 2 ^ 128 }
-    ensures sought { Sought index.now target need top.old.greatest spent.old spent.new steps.old steps.new (shape_of node.old) (shape_of node.new) top.new }
+    ensures sought { WasSought index.now target need top.old.greatest spent.old spent.new steps.old steps.new (shape_of node.old) (shape_of node.new) top.new }
     ensures accounts { ReachAccounts index.now target need spent.old spent.new (shape_of node.old) (shape_of node.new) top.old top.new }
 {
     if target <= top.head {
@@ -83,7 +83,7 @@ fn reach_inner<L: Ledger>(
     requires sound { Sound index.now (shape_of node.old) }
     requires target { target < 2 ^ 32 }
     requires room { spent.old + unread_of index.now (shape_of node.old) < 2 ^ 128 }
-    ensures sought { Sought index.now target need top.old.greatest spent.old spent.new steps.old steps.new (shape_of node.old) (shape_of node.new) top.new }
+    ensures sought { WasSought index.now target need top.old.greatest spent.old spent.new steps.old steps.new (shape_of node.old) (shape_of node.new) top.new }
     ensures accounts { ReachAccounts index.now target need spent.old spent.new (shape_of node.old) (shape_of node.new) top.old top.new }
 {
     let before = top.greatest;
@@ -107,7 +107,7 @@ fn seek<L: Ledger>(
     requires sound { Sound index.now (shape_of node.old) }
     requires target { target < 2 ^ 32 }
     requires room { spent.old + unread_of index.now (shape_of node.old) < 2 ^ 128 }
-    ensures sought { Sought index.now target need (greatest_in (shape_of node.old)) spent.old spent.new steps.old steps.new (shape_of node.old) (shape_of node.new) top.new }
+    ensures sought { WasSought index.now target need (greatest_held (shape_of node.old)) spent.old spent.new steps.old steps.new (shape_of node.old) (shape_of node.new) top.new }
     ensures accounts { SeekAccounts index.now target need spent.old spent.new (shape_of node.old) (shape_of node.new) top.new }
 {
     match node {
@@ -144,7 +144,7 @@ pub(crate) fn seek_pair<L: Ledger>(
     requires pair { IsPair index.now ta.old (shape_of a.old) tb.old (shape_of b.old) (Sound index.now (shape_of a.old)) (Sound index.now (shape_of b.old)) }
     requires target { target < 2 ^ 32 }
     requires room { spent.old + (unread_of index.now (shape_of a.old) + unread_of index.now (shape_of b.old)) < 2 ^ 128 }
-    ensures sought { Sought index.now target need (greatest_under form ta.old.greatest tb.old.greatest) spent.old spent.new steps.old steps.new (pair form ta.old (shape_of a.old) tb.old (shape_of b.old)) (pair form ta.new (shape_of a.new) tb.new (shape_of b.new)) top.new }
+    ensures sought { WasSought index.now target need (greatest_under form ta.old.greatest tb.old.greatest) spent.old spent.new steps.old steps.new (pair form ta.old (shape_of a.old) tb.old (shape_of b.old)) (pair form ta.new (shape_of a.new) tb.new (shape_of b.new)) top.new }
     ensures accounts { SeekAccounts index.now target need spent.old spent.new (pair form ta.old (shape_of a.old) tb.old (shape_of b.old)) (pair form ta.new (shape_of a.new) tb.new (shape_of b.new)) top.new }
 {
     let mut from = skip(form, a, b, index, target, need);
@@ -203,7 +203,7 @@ fn seek_sides<L: Ledger>(
     requires pair { IsPair index.now ta.old (shape_of a.old) tb.old (shape_of b.old) (Sound index.now (shape_of a.old)) (Sound index.now (shape_of b.old)) }
     requires target { target < 2 ^ 32 }
     requires room { spent.old + (unread_of index.now (shape_of a.old) + unread_of index.now (shape_of b.old)) < 2 ^ 128 }
-    ensures sought { Sought index.now target need (greatest_under form ta.old.greatest tb.old.greatest) spent.old spent.new steps.old steps.new (pair form ta.old (shape_of a.old) tb.old (shape_of b.old)) (pair form ta.new (shape_of a.new) tb.new (shape_of b.new)) top.new }
+    ensures sought { WasSought index.now target need (greatest_under form ta.old.greatest tb.old.greatest) spent.old spent.new steps.old steps.new (pair form ta.old (shape_of a.old) tb.old (shape_of b.old)) (pair form ta.new (shape_of a.new) tb.new (shape_of b.new)) top.new }
     ensures accounts { SeekAccounts index.now target need spent.old spent.new (pair form ta.old (shape_of a.old) tb.old (shape_of b.old)) (pair form ta.new (shape_of a.new) tb.new (shape_of b.new)) top.new }
 {
     match form {
@@ -264,7 +264,7 @@ pub(crate) fn seek_odd<L: Ledger>(
     requires sides { IsOdd (sides_on tops.old nodes.old) (AreSound index.now (sides_on tops.old nodes.old)) }
     requires target { target < 2 ^ 32 }
     requires room { spent.old + unread_in index.now (sides_on tops.old nodes.old) < 2 ^ 128 }
-    ensures { (need : ℕ) → Sought index.now target need (greatest_sum (sides_on tops.old nodes.old)) spent.old spent.new steps.old steps.new (odd (sides_on tops.old nodes.old)) (odd (sides_on tops.new nodes.new)) top.new }
+    ensures { (need : ℕ) → WasSought index.now target need (greatest_sum (sides_on tops.old nodes.old)) spent.old spent.new steps.old steps.new (odd (sides_on tops.old nodes.old)) (odd (sides_on tops.new nodes.new)) top.new }
 {
     let mut from = target;
     'all: loop {
@@ -296,7 +296,7 @@ pub(crate) fn seek_any<L: Ledger>(
     requires sides { IsOdd (sides_on tops.old nodes.old) (AreSound index.now (sides_on tops.old nodes.old)) }
     requires target { target < 2 ^ 32 }
     requires room { spent.old + unread_in index.now (sides_on tops.old nodes.old) < 2 ^ 128 }
-    ensures sought { Sought index.now target need (greatest_sum (sides_on tops.old nodes.old)) spent.old spent.new steps.old steps.new (any (sides_on tops.old nodes.old)) (any (sides_on tops.new nodes.new)) top.new }
+    ensures sought { WasSought index.now target need (greatest_sum (sides_on tops.old nodes.old)) spent.old spent.new steps.old steps.new (any (sides_on tops.old nodes.old)) (any (sides_on tops.new nodes.new)) top.new }
     ensures accounts { Accounts index.now target need spent.old spent.new (any (sides_on tops.old nodes.old)) (any (sides_on tops.new nodes.new)) }
 {
     if need == 0 {
@@ -320,7 +320,7 @@ fn seek_all<L: Ledger>(
     requires sides { IsOdd (sides_on tops.old nodes.old) (AreSound index.now (sides_on tops.old nodes.old)) }
     requires target { target < 2 ^ 32 }
     requires room { spent.old + unread_in index.now (sides_on tops.old nodes.old) < 2 ^ 128 }
-    ensures sought { (need : ℕ) → Sought index.now target need (greatest_sum (sides_on tops.old nodes.old)) spent.old spent.new steps.old steps.new (any (sides_on tops.old nodes.old)) (any (sides_on tops.new nodes.new)) top.new }
+    ensures sought { (need : ℕ) → WasSought index.now target need (greatest_sum (sides_on tops.old nodes.old)) spent.old spent.new steps.old steps.new (any (sides_on tops.old nodes.old)) (any (sides_on tops.new nodes.new)) top.new }
     ensures accounts { (need : ℕ) → Accounts index.now target need spent.old spent.new (any (sides_on tops.old nodes.old)) (any (sides_on tops.new nodes.new)) }
 {
     reach_all(tops, nodes, index, target, spent, steps);
@@ -347,7 +347,7 @@ fn seek_some<L: Ledger>(
     requires sides { IsOdd (sides_on tops.old nodes.old) (AreSound index.now (sides_on tops.old nodes.old)) }
     requires target { target < 2 ^ 32 }
     requires room { spent.old + unread_in index.now (sides_on tops.old nodes.old) < 2 ^ 128 }
-    ensures sought { Sought index.now target need (greatest_sum (sides_on tops.old nodes.old)) spent.old spent.new steps.old steps.new (any (sides_on tops.old nodes.old)) (any (sides_on tops.new nodes.new)) top.new }
+    ensures sought { WasSought index.now target need (greatest_sum (sides_on tops.old nodes.old)) spent.old spent.new steps.old steps.new (any (sides_on tops.old nodes.old)) (any (sides_on tops.new nodes.new)) top.new }
     ensures accounts { Accounts index.now target need spent.old spent.new (any (sides_on tops.old nodes.old)) (any (sides_on tops.new nodes.new)) }
 {
     let most = sum_of(tops, nodes);
@@ -557,8 +557,8 @@ pub(crate) fn seek_tested<L: Ledger>(
 )
     requires tested { IsTested index.now test.old below.old (shape_of node.old) (Sound index.now (shape_of node.old)) }
     requires target { target < 2 ^ 32 }
-    requires room { spent.old + (unread_of index.now (shape_of node.old) + entries_from index.now test.old.next test.old.numbers.items) < 2 ^ 128 }
-    ensures { Sought index.now target need below.old.greatest spent.old spent.new steps.old steps.new (tested test.old below.old (shape_of node.old)) (tested test.new below.new (shape_of node.new)) top.new }
+    requires room { spent.old + (unread_of index.now (shape_of node.old) + entries_unread index.now test.old.next test.old.numbers.items) < 2 ^ 128 }
+    ensures { WasSought index.now target need below.old.greatest spent.old spent.new steps.old steps.new (tested test.old below.old (shape_of node.old)) (tested test.new below.new (shape_of node.new)) top.new }
 {
     let mut from = target;
     'tests: loop {

@@ -9,7 +9,7 @@ ghost use Rattle.sk_query.specs.Fits.{is_window, are_given};
 ghost use Rattle.sk_model.specs.Bounds.{sum_in, ceil, ceils, ceil_of, term_ceil, terms_ceil, lengths_of};
 ghost use Rattle.sk_model.specs.Allowance.{leaf_readings, leaves_readings};
 ghost use Rattle.sk_model.specs.Sharp.{terms_in};
-ghost use Rattle.sk_nodes.specs.Accounts.{Pays, Counts};
+ghost use Rattle.sk_nodes.specs.Accounts.{Pays, CountsReadings};
 ghost use Rattle.sk_nodes.specs.Leaves.{IsThere, list_in, weighed, leaf_greatest};
 ghost use Rattle.sk_nodes.specs.Shapes.{shape_of, sides_on};
 ghost use Rattle.sk_nodes.specs.Left.{rest, unread_of, unread_in};
@@ -51,7 +51,7 @@ pub(crate) fn open_node<L: Ledger>(
     requires part { IsPart factor (query_view query.now) }
     ensures opens { IfOk result (λ p. Opens index.now p.0 (shape_of p.1) (score_of (query_view query.now) scheme factor) (ceil (query_view query.now) scheme factor index.now.live.documents)) }
     ensures pays { IfOk result (λ p. Pays spent.old spent.new most.old most.new (unread_of index.now (shape_of p.1)) (leaf_readings (query_view query.now) index.now.live.documents)) }
-    ensures counts { Counts spent.old spent.new steps.old steps.new most.new }
+    ensures counts { CountsReadings spent.old spent.new steps.old steps.new most.new }
     ensures accounts { IfOk result (λ p. OpensQuery index.now (query_view query.now) scheme factor p.0 (shape_of p.1) spent.old spent.new) }
 {
     if let Some((form, parts)) = parts_of(query) {
@@ -146,7 +146,7 @@ fn open_standing<L: Ledger>(
     requires leaves { length words.now ≤ 1024 }
     ensures opens { IfOk result (λ p. Opens index.now p.0 (shape_of p.1) (score_of (standing_query standing window words.now) scheme factor) (terms_ceil scheme factor words.now index.now.live.documents)) }
     ensures pays { IfOk result (λ p. Pays spent.old spent.new most.old most.new (unread_of index.now (shape_of p.1)) (lengths_of words.now index.now.live.documents + lengths_of words.now index.now.live.documents)) }
-    ensures counts { Counts spent.old spent.new steps.old steps.new most.new }
+    ensures counts { CountsReadings spent.old spent.new steps.old steps.new most.new }
 {
     let numbers = numbers_of(alloc, index, words)?;
     if numbers.len() < words.len() {
@@ -196,7 +196,7 @@ fn open_parts<L: Ledger>(
     requires parts { AreParts form factor (queries_view parts.now) }
     ensures opens { IfOk result (λ p. Opens index.now p.0 (shape_of p.1) (joint_score_of form (queries_view parts.now) scheme factor) (ceil_of form (ceils (queries_view parts.now) scheme factor index.now.live.documents))) }
     ensures pays { IfOk result (λ p. Pays spent.old spent.new most.old most.new (unread_of index.now (shape_of p.1)) (leaves_readings (queries_view parts.now) index.now.live.documents)) }
-    ensures counts { Counts spent.old spent.new steps.old steps.new most.new }
+    ensures counts { CountsReadings spent.old spent.new steps.old steps.new most.new }
     ensures accounts { IfOk result (λ p. OpensParts index.now form (queries_view parts.now) scheme factor p.0 (shape_of p.1) spent.old spent.new) }
 {
     if let Some(part) = only_part(parts) {
@@ -249,7 +249,7 @@ fn open_sides<L: Ledger>(
     ensures opens { IfOk result (λ p. OpensSides index.now (sides_on p.0.items p.1.items) (part_scores (queries_view parts.now) scheme factor) (sum_in (ceils (queries_view parts.now) scheme factor index.now.live.documents))) }
     ensures even { IfOk result (λ p. length p.0.items ≡ length p.1.items) }
     ensures pays { IfOk result (λ p. Pays spent.old spent.new most.old most.new (unread_in index.now (sides_on p.0.items p.1.items)) (leaves_readings (queries_view parts.now) index.now.live.documents)) }
-    ensures counts { Counts spent.old spent.new steps.old steps.new most.new }
+    ensures counts { CountsReadings spent.old spent.new steps.old steps.new most.new }
     ensures terms { IfOk result (λ p. (lists : List (List ℕ)) → terms_in (queries_view parts.now) ≡ Some lists → OpensTerms index.now (sides_on p.0.items p.1.items) lists spent.old spent.new) }
 {
     if let Some(part) = only_part(parts) {
@@ -279,7 +279,7 @@ fn open_all<L: Ledger>(
     requires can { CanRead index.now spent.old most.old }
     ensures opens { IfOk result (λ p. (factor : ℕ) → Opens index.now p.0 (shape_of p.1) (score_of QueryTree.all scheme factor) 0) }
     ensures pays { IfOk result (λ p. Pays spent.old spent.new most.old most.new (unread_of index.now (shape_of p.1)) (leaf_readings QueryTree.all index.now.live.documents)) }
-    ensures counts { Counts spent.old spent.new steps.old steps.new most.new }
+    ensures counts { CountsReadings spent.old spent.new steps.old steps.new most.new }
 {
     let (top, node) = open_leaf(index, ListOf::All, scheme, 0, most, spent, steps)?;
     Ok((top, node))
@@ -299,7 +299,7 @@ fn open_term<L: Ledger>(
     requires can { CanRead index.now spent.old most.old }
     ensures opens { IfOk result (λ p. Opens index.now p.0 (shape_of p.1) (score_of (QueryTree.term word.now) scheme factor) (term_ceil scheme factor word.now index.now.live.documents)) }
     ensures pays { IfOk result (λ p. Pays spent.old spent.new most.old most.new (unread_of index.now (shape_of p.1)) (length_of word.now index.now.live.documents)) }
-    ensures counts { Counts spent.old spent.new steps.old steps.new most.new }
+    ensures counts { CountsReadings spent.old spent.new steps.old steps.new most.new }
     ensures term { IfOk result (λ p. OpensTerm index.now p.0 (shape_of p.1) word.now (term_ceil scheme factor word.now index.now.live.documents) spent.old spent.new) }
 {
     match index.number_of(word.as_str().as_bytes()) {
@@ -327,7 +327,7 @@ pub(crate) fn open_numbered<L: Ledger>(
     ensures opens { IfOk result (λ p. Opens index.now p.0 (shape_of p.1) (score_of (QueryTree.term (term_at index.now.terms number)) scheme factor) (term_ceil scheme factor (term_at index.now.terms number) index.now.live.documents)) }
     ensures pays { IfOk result (λ p. Pays spent.old spent.new most.old most.new (unread_of index.now (shape_of p.1)) (length_of (term_at index.now.terms number) index.now.live.documents)) }
     ensures exact { IfOk result (λ p. most.new ≡ most.old + length_of (term_at index.now.terms number) index.now.live.documents) }
-    ensures counts { Counts spent.old spent.new steps.old steps.new most.new }
+    ensures counts { CountsReadings spent.old spent.new steps.old steps.new most.new }
     ensures term { IfOk result (λ p. OpensTerm index.now p.0 (shape_of p.1) (term_at index.now.terms number) (term_ceil scheme factor (term_at index.now.terms number) index.now.live.documents) spent.old spent.new) }
 {
     let (top, node) = open_leaf(
@@ -361,7 +361,7 @@ fn open_leaf<L: Ledger>(
     ensures ceiling { IfOk result (λ p. p.0.greatest ≤ leaf_greatest factor scheme (list_in index.now source)) }
     ensures pays { IfOk result (λ p. Pays spent.old spent.new most.old most.new (unread_of index.now (shape_of p.1)) (length (list_in index.now source))) }
     ensures exact { IfOk result (λ p. most.new ≡ most.old + length (list_in index.now source)) }
-    ensures counts { Counts spent.old spent.new steps.old steps.new most.new }
+    ensures counts { CountsReadings spent.old spent.new steps.old steps.new most.new }
     ensures list { IfOk result (λ p. OpensList index.now p.0 (shape_of p.1) (list_in index.now source) (leaf_greatest factor scheme (list_in index.now source)) spent.old spent.new) }
 {
     let length = list_length(index, source);

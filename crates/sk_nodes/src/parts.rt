@@ -8,7 +8,7 @@ ghost use Rattle.sk_query.specs.Fits.{leaves_in};
 ghost use Rattle.sk_model.specs.Sharp.{terms_in};
 ghost use Rattle.sk_nodes.specs.Parts.{Splits, Halves};
 ghost use Rattle.sk_nodes.specs.OpenedLed.{first_length, last_length, CanLead, SplitsOff, IsOrdered, SplitsLed};
-ghost use Rattle.sk_nodes.specs.Opened.{count_in, is_nest, others_of, AreParts};
+ghost use Rattle.sk_nodes.specs.Opened.{part_count, is_nest, others_of, AreParts};
 
 use sk_index::Index;
 use sk_query::{Form, Query};
@@ -33,7 +33,7 @@ pub(crate) fn parts_of(query: &Query) -> Option<(Form, &[Query])>
 
 /// The part, where there is one alone.
 pub(crate) fn only_part(parts: &[Query]) -> Option<&Query>
-    requires { 0 < count_in (queries_view parts.now) }
+    requires { 0 < part_count (queries_view parts.now) }
     ensures many { IfNone result (2 ≤ length parts.now) }
     ensures alone { IfSome result (λ part. queries_view parts.now ≡ QueryTree.tree (query_view part.now) QueryTree.no_trees) }
 {
@@ -47,7 +47,7 @@ pub(crate) fn only_part(parts: &[Query]) -> Option<&Query>
 /// Whether the parts make a nest of nodes of two sides.
 #[tactic(auto, using(crate::proofs::CountLaws::counted))]
 pub(crate) fn is_nest(form: Form, parts: &[Query]) -> bool
-    ensures { result ≡ is_nest form (count_in (queries_view parts.now)) }
+    ensures { result ≡ is_nest form (part_count (queries_view parts.now)) }
 {
     match form {
         Form::Xor => parts.len() <= 2,
@@ -83,7 +83,7 @@ pub(crate) fn split_parts<'a>(
 ) -> (&'a [Query], &'a [Query])
     requires leaves { leaves_in (queries_view parts.now) ≤ 1024 }
     requires many { 2 ≤ length parts.now }
-    requires nest { is_nest form (count_in (queries_view parts.now)) ≡ true }
+    requires nest { is_nest form (part_count (queries_view parts.now)) ≡ true }
     ensures splits { (factor : ℕ) → factor ≤ 65536 → AreParts form factor (queries_view parts.now) → Splits form factor (queries_view parts.now) (queries_view result.0.now) (queries_view result.1.now) }
     ensures led { (lists : List (List ℕ)) → CanLead form lists → terms_in (queries_view parts.now) ≡ Some lists → SplitsLed form lists index.now.live.documents (terms_in (queries_view result.0.now)) (terms_in (queries_view result.1.now)) }
 {
@@ -127,7 +127,7 @@ fn is_longer(index: &Index, parts: &[Query]) -> bool
 fn split_in_order(form: Form, parts: &[Query]) -> (&[Query], &[Query])
     requires leaves { leaves_in (queries_view parts.now) ≤ 1024 }
     requires many { 2 ≤ length parts.now }
-    requires nest { is_nest form (count_in (queries_view parts.now)) ≡ true }
+    requires nest { is_nest form (part_count (queries_view parts.now)) ≡ true }
     ensures splits { (factor : ℕ) → factor ≤ 65536 → AreParts form factor (queries_view parts.now) → Splits form factor (queries_view parts.now) (queries_view result.0.now) (queries_view result.1.now) }
     ensures led { (lists : List (List ℕ)) (docs : Docs) → CanLead form lists → IsOrdered form lists docs → terms_in (queries_view parts.now) ≡ Some lists → SplitsLed form lists docs (terms_in (queries_view result.0.now)) (terms_in (queries_view result.1.now)) }
 {

@@ -2,8 +2,8 @@
 ghost use Rattle.std.specs.Prelude.{◌≡◌, ◌≤◌, ◌<◌, ◌+◌, ◌^◌, true, false, max, length, Some};
 ghost use Rattle.sk_model.specs.Combining.{where_so};
 ghost use Rattle.sk_nodes.specs.Accounts.{Spends};
-ghost use Rattle.sk_nodes.specs.Skips.{IsLight};
-ghost use Rattle.sk_nodes.specs.Proximity.{stand, positions_at, holds, entries_from, AreThere, IsInAll, CanTest, IsSameTest};
+ghost use Rattle.sk_nodes.specs.Skips.{WeighsBelow};
+ghost use Rattle.sk_nodes.specs.Proximity.{stand, positions_in, holds_in, entries_unread, AreThere, IsInAll, CanTest, IsSameTest};
 
 use crate::top::Top;
 use sk_base::{DocId, Weight};
@@ -47,13 +47,13 @@ impl Proximity {
         requires test { CanTest index.now self.old }
         requires head { below.now.head < 2 ^ 32 }
         requires all { IsInAll index.now below.now.head self.old.numbers.items }
-        requires known { below.now.head < self.old.next → holds index.now self.old below.now.head ≡ true }
-        requires room { spent.old + entries_from index.now self.old.next self.old.numbers.items < 2 ^ 128 }
-        ensures holds { result ≡ true → holds index.now self.old below.now.head ≡ true }
-        ensures fails { result ≡ false → IsLight need (where_so (holds index.now self.old below.now.head) (Some below.now.weight)) }
+        requires known { below.now.head < self.old.next → holds_in index.now self.old below.now.head ≡ true }
+        requires room { spent.old + entries_unread index.now self.old.next self.old.numbers.items < 2 ^ 128 }
+        ensures holds_in { result ≡ true → holds_in index.now self.old below.now.head ≡ true }
+        ensures fails { result ≡ false → WeighsBelow need (where_so (holds_in index.now self.old below.now.head) (Some below.now.weight)) }
         ensures same { IsSameTest self.old self.new }
         ensures next { self.new.next ≤ max self.old.next (below.now.head + 1) }
-        ensures spends { Spends (entries_from index.now self.old.next self.old.numbers.items) (entries_from index.now self.new.next self.old.numbers.items) spent.old spent.new steps.old steps.new }
+        ensures spends { Spends (entries_unread index.now self.old.next self.old.numbers.items) (entries_unread index.now self.new.next self.old.numbers.items) spent.old spent.new steps.old steps.new }
     {
         if below.weight < need {
             return false;
@@ -73,12 +73,12 @@ impl Proximity {
         requires test { CanTest index.now self.old }
         requires head { head < 2 ^ 32 }
         requires all { IsInAll index.now head self.old.numbers.items }
-        requires known { head < self.old.next → holds index.now self.old head ≡ true }
-        requires room { spent.old + entries_from index.now self.old.next self.old.numbers.items < 2 ^ 128 }
-        ensures value { result ≡ holds index.now self.old head }
+        requires known { head < self.old.next → holds_in index.now self.old head ≡ true }
+        requires room { spent.old + entries_unread index.now self.old.next self.old.numbers.items < 2 ^ 128 }
+        ensures value { result ≡ holds_in index.now self.old head }
         ensures same { IsSameTest self.old self.new }
         ensures next { self.new.next ≡ max self.old.next (head + 1) }
-        ensures spends { Spends (entries_from index.now self.old.next self.old.numbers.items) (entries_from index.now self.new.next self.old.numbers.items) spent.old spent.new steps.old steps.new }
+        ensures spends { Spends (entries_unread index.now self.old.next self.old.numbers.items) (entries_unread index.now self.new.next self.old.numbers.items) spent.old spent.new steps.old steps.new }
     {
         if head < self.next {
             return true;
@@ -114,7 +114,7 @@ fn stand_so<L: Ledger>(
     requires marks { length numbers.now ≤ length marks.old }
     requires places { length numbers.now ≤ length places.old }
     requires there { AreThere index.now numbers.now }
-    ensures value { result ≡ stand standing window (positions_at index.now numbers.now id) }
+    ensures value { result ≡ stand standing window (positions_in index.now numbers.now id) }
     ensures cost { steps.new ≡ steps.old + length numbers.now }
 {
     let places = index.all_places(numbers, id, places, steps);

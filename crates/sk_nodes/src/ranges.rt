@@ -4,7 +4,7 @@ ghost use Rattle.sk_base.specs.Numbers.{slot_length_of};
 ghost use Rattle.sk_query.specs.Trees as QueryTree;
 ghost use Rattle.sk_query.specs.Trees.{limit_of};
 ghost use Rattle.sk_model.specs.Ranges.{end_of, is_crossed};
-ghost use Rattle.sk_nodes.specs.Accounts.{Pays, Counts};
+ghost use Rattle.sk_nodes.specs.Accounts.{Pays, CountsReadings};
 ghost use Rattle.sk_nodes.specs.Shapes.{shape_of};
 ghost use Rattle.sk_nodes.specs.Left.{unread_of};
 ghost use Rattle.sk_nodes.specs.Opened.{CanRead, score_of, Opens};
@@ -36,7 +36,7 @@ pub(crate) fn open_range<L: Ledger>(
     requires can { CanRead index.now spent.old most.old }
     ensures opens { IfOk result (λ p. (factor : ℕ) → Opens index.now p.0 (shape_of p.1) (score_of (QueryTree.range slot (limit_of lo.now) (limit_of hi.now)) scheme factor) 0) }
     ensures pays { IfOk result (λ p. Pays spent.old spent.new most.old most.new (unread_of index.now (shape_of p.1)) (slot_length_of slot index.now.live.documents)) }
-    ensures counts { Counts spent.old spent.new steps.old steps.new most.new }
+    ensures counts { CountsReadings spent.old spent.new steps.old steps.new most.new }
     ensures crossed { is_crossed (end_of (limit_of lo.now)) (end_of (limit_of hi.now)) ≡ true → steps.new ≡ steps.old }
 {
     if is_crossed(lo, hi) {

@@ -4,7 +4,7 @@ ghost use Rattle.sk_model.specs.Combining.{both};
 ghost use Rattle.sk_nodes.specs.Shapes.{shape_of};
 ghost use Rattle.sk_nodes.specs.Leaves.{leaf_rest, IsLeafOn};
 ghost use Rattle.sk_nodes.specs.Sound.{Sound};
-ghost use Rattle.sk_nodes.specs.Skips.{IsLight, Skips};
+ghost use Rattle.sk_nodes.specs.Skips.{WeighsBelow, SidesSkip};
 
 use crate::leaf::Leaf;
 use crate::node::Node;
@@ -20,7 +20,7 @@ pub(crate) fn skip(form: Form, a: &Node, b: &Node, index: &Index, from: Head, ne
     requires first { Sound index.now (shape_of a.now) }
     requires second { Sound index.now (shape_of b.now) }
     requires from { from < 2 ^ 32 }
-    ensures { Skips index.now form from need (shape_of a.now) (shape_of b.now) result }
+    ensures { SidesSkip index.now form from need (shape_of a.now) (shape_of b.now) result }
 {
     if need == 0 {
         return from;
@@ -37,7 +37,7 @@ fn skip_nodes(a: &Node, b: &Node, index: &Index, from: Head, need: Weight) -> He
     requires second { Sound index.now (shape_of b.now) }
     requires from { from < 2 ^ 32 }
     requires needed { need ≡ 0 → ⊥ }
-    ensures { Skips index.now Form.And from need (shape_of a.now) (shape_of b.now) result }
+    ensures { SidesSkip index.now Form.And from need (shape_of a.now) (shape_of b.now) result }
 {
     match a {
         Node::Leaf(a) => match b {
@@ -55,7 +55,7 @@ fn skip_leaves(a: &Leaf, b: &Leaf, index: &Index, mut from: Head, need: Weight) 
     requires from { from < 2 ^ 32 }
     ensures later { from ≤ result }
     ensures within { result < 2 ^ 32 }
-    ensures light { (id : ℕ) → from ≤ id → id < result → IsLight need (both (leaf_rest index.now a.now id) (leaf_rest index.now b.now id)) }
+    ensures light { (id : ℕ) → from ≤ id → id < result → WeighsBelow need (both (leaf_rest index.now a.now id) (leaf_rest index.now b.now id)) }
 {
     'heads: loop {
         let first = a.block_max(index, from);

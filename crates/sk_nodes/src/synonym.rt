@@ -11,7 +11,7 @@ ghost use Rattle.sk_model.specs.Documents.{Document};
 ghost use Rattle.sk_model.specs.Bounds.{ceil, lengths_of};
 ghost use Rattle.sk_model.specs.Allowance.{leaf_readings};
 ghost use Rattle.sk_decay.specs.Sides.{paired};
-ghost use Rattle.sk_nodes.specs.Accounts.{Pays, Counts};
+ghost use Rattle.sk_nodes.specs.Accounts.{Pays, CountsReadings};
 ghost use Rattle.sk_nodes.specs.Shapes.{shape_of};
 ghost use Rattle.sk_nodes.specs.Left.{unread_of};
 ghost use Rattle.sk_nodes.specs.Flat.{OpensNest, OpensFlat};
@@ -51,7 +51,7 @@ pub(crate) fn open_synonym<L: Ledger>(
     requires part { IsPart factor (query_view query.now) }
     ensures opens { IfOk result (λ p. Opens index.now p.0 (shape_of p.1) (score_of (query_view query.now) scheme factor) (ceil (query_view query.now) scheme factor index.now.live.documents)) }
     ensures pays { IfOk result (λ p. Pays spent.old spent.new most.old most.new (unread_of index.now (shape_of p.1)) (lengths_of words.now index.now.live.documents)) }
-    ensures counts { Counts spent.old spent.new steps.old steps.new most.new }
+    ensures counts { CountsReadings spent.old spent.new steps.old steps.new most.new }
     ensures flat { IfOk result (λ p. OpensFlat index.now (shape_of p.1) words.now spent.old spent.new) }
 {
     let numbers = numbers_of(alloc, index, words)?;
@@ -86,7 +86,7 @@ pub(crate) fn open_wildcard<L: Ledger>(
     requires part { IsPart factor (query_view query.now) }
     ensures opens { IfOk result (λ p. Opens index.now p.0 (shape_of p.1) (score_of (query_view query.now) scheme factor) (ceil (query_view query.now) scheme factor index.now.live.documents)) }
     ensures pays { IfOk result (λ p. Pays spent.old spent.new most.old most.new (unread_of index.now (shape_of p.1)) (leaf_readings (QueryTree.wildcard prefix.now) index.now.live.documents)) }
-    ensures counts { Counts spent.old spent.new steps.old steps.new most.new }
+    ensures counts { CountsReadings spent.old spent.new steps.old steps.new most.new }
     ensures flat { IfOk result (λ p. OpensFlat index.now (shape_of p.1) (terms_with prefix.now index.now.live.documents) spent.old spent.new) }
 {
     let numbers = index.with_prefix(prefix.as_str().as_bytes())?;
@@ -121,7 +121,7 @@ fn open_joint<L: Ledger>(
     requires can { CanOpen index.now factor spent.old most.old }
     ensures opens { IfOk result (λ p. Opens index.now p.0 (shape_of p.1) (score_of (synonym_of index.now numbers.now) scheme factor) (2 ^ 45)) }
     ensures pays { IfOk result (λ p. Pays spent.old spent.new most.old most.new (unread_of index.now (shape_of p.1)) (lengths_of (map (term_at index.now.terms) numbers.now) index.now.live.documents)) }
-    ensures counts { Counts spent.old spent.new steps.old steps.new most.new }
+    ensures counts { CountsReadings spent.old spent.new steps.old steps.new most.new }
     ensures nest { IfOk result (λ p. OpensNest index.now (joint_form scheme) (shape_of p.1) (map (term_at index.now.terms) numbers.now) spent.old spent.new) }
 {
     if numbers.is_empty() {
@@ -152,7 +152,7 @@ fn open_one<L: Ledger>(
     requires can { CanOpen index.now factor spent.old most.old }
     ensures opens { IfOk result (λ p. Opens index.now p.0 (shape_of p.1) (score_of (synonym_of index.now numbers.now) scheme factor) (2 ^ 45)) }
     ensures pays { IfOk result (λ p. Pays spent.old spent.new most.old most.new (unread_of index.now (shape_of p.1)) (lengths_of (map (term_at index.now.terms) numbers.now) index.now.live.documents)) }
-    ensures counts { Counts spent.old spent.new steps.old steps.new most.new }
+    ensures counts { CountsReadings spent.old spent.new steps.old steps.new most.new }
     ensures nest { IfOk result (λ p. (form : Form) → OpensNest index.now form (shape_of p.1) (map (term_at index.now.terms) numbers.now) spent.old spent.new) }
 {
     let number = numbers[0];

@@ -14,7 +14,7 @@ ghost use Rattle.sk_index.specs.Indexed.{Indexed};
 ghost use Rattle.sk_nodes.specs.Left.{from_on};
 ghost use Rattle.sk_nodes.specs.Leaves.{AtMost};
 ghost use Rattle.sk_nodes.specs.Built.{gives, left, scored, first_weight, IsTree, Built};
-ghost use Rattle.sk_nodes.specs.Stops.{Stops, MayMove};
+ghost use Rattle.sk_nodes.specs.Stops.{PaysToStop, MayMove};
 ghost use Rattle.sk_nodes.specs.Rare.{Rare};
 ghost use Rattle.sk_nodes.specs.Decays.{Decays, MayFall, DecaysBoth};
 
@@ -56,7 +56,7 @@ impl Tree {
         ensures need { IfOk result (λ tree. tree.need ≡ 0) }
 
         // Of terms alone it stops at any point: it read one entry of each list.
-        ensures stops { IfOk result (λ tree. (lists : List (List ℕ)) → flat_lists (query_view query.now) index.now.live.documents ≡ Some lists → (point : ℕ) → Stops index.now tree point (ups lists point index.now.live.documents)) }
+        ensures stops { IfOk result (λ tree. (lists : List (List ℕ)) → flat_lists (query_view query.now) index.now.live.documents ≡ Some lists → (point : ℕ) → PaysToStop index.now tree point (ups lists point index.now.live.documents)) }
 
         // Where a list leads, it reads the others with it.
         ensures rare { IfOk result (λ tree. (lists : List (List ℕ)) (m : ℕ) → rare_lists (query_view query.now) index.now.live.documents ≡ Some (lists, m) → Rare index.now tree (rare_readings lists m index.now.live.documents)) }
@@ -101,7 +101,7 @@ impl Tree {
         ensures need { self.new.need ≡ need }
 
         // It goes on to stop at a point up to which it may go.
-        ensures stops { (point most : ℕ) → Stops index.now self.old point most → MayMove point target need self.old.top.greatest (gives index.now self.old point) → Stops index.now self.new point most }
+        ensures stops { (point most : ℕ) → PaysToStop index.now self.old point most → MayMove point target need self.old.top.greatest (gives index.now self.old point) → PaysToStop index.now self.new point most }
         ensures rare { (most : ℕ) → Rare index.now self.old most → Rare index.now self.new most }
 
         // Of two lists of which one fades it reads no more than the account says, as long as that is not asked for behind the point.
@@ -158,7 +158,7 @@ impl Tree {
     pub fn spent(&self) -> u128
         ensures value { result ≡ self.now.spent }
         ensures within { (i : Indexed) (query : QueryTree.Tree) (scheme : Scheme) → Built self.now i query scheme → result ≤ leaf_readings query i.live.documents }
-        ensures stops { (i : Indexed) (point most : ℕ) → Stops i self.now point most → result ≤ most }
+        ensures stops { (i : Indexed) (point most : ℕ) → PaysToStop i self.now point most → result ≤ most }
         ensures rare { (i : Indexed) (most : ℕ) → Rare i self.now most → result ≤ most }
         ensures decays { (i : Indexed) (point greatest most : ℕ) → Decays i self.now point greatest most → result ≤ most }
     {
@@ -172,7 +172,7 @@ impl Tree {
         ensures built { (i : Indexed) (query : QueryTree.Tree) (scheme : Scheme) → Built self.old i query scheme → Built self.new i query scheme }
         ensures spent { self.new.spent ≡ self.old.spent }
         ensures need { self.new.need ≡ self.old.need }
-        ensures stops { (i : Indexed) (point most : ℕ) → Stops i self.old point most → Stops i self.new point most }
+        ensures stops { (i : Indexed) (point most : ℕ) → PaysToStop i self.old point most → PaysToStop i self.new point most }
         ensures rare { (i : Indexed) (most : ℕ) → Rare i self.old most → Rare i self.new most }
         ensures decays { (i : Indexed) (point greatest most : ℕ) → Decays i self.old point greatest most → Decays i self.new point greatest most }
     {

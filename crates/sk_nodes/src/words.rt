@@ -4,7 +4,7 @@ ghost use Rattle.sk_dict.specs.Terms.{term_at};
 ghost use Rattle.sk_index.specs.Indexed.{AreNumbered};
 ghost use Rattle.sk_query.specs.Trees.{queries_view};
 ghost use Rattle.sk_nodes.specs.Opened.{term_trees};
-ghost use Rattle.sk_nodes.specs.Proximity.{entries_from, numbered, AreThere, AreInOrder};
+ghost use Rattle.sk_nodes.specs.Proximity.{entries_unread, numbered, AreThere, AreInOrder};
 
 use crate::leaf::{ListOf, list_length};
 use sk_base::Text;
@@ -54,7 +54,7 @@ pub(crate) fn add_lengths(
 ) -> Result<(), AllocError>
     requires there { AreThere index.now numbers.now }
     ensures sorted { OnOk result (AreInOrder index.now numbers.now) }
-    ensures sum { OnOk result (most.new ≡ most.old + entries_from index.now 0 numbers.now) }
+    ensures sum { OnOk result (most.new ≡ most.old + entries_unread index.now 0 numbers.now) }
     ensures later { most.old ≤ most.new }
     ensures small { most.old < 2 ^ 128 → most.new < 2 ^ 128 }
 {

@@ -30,7 +30,7 @@ use Rattle.sk_heap.specs.declared.hit.Hit.{Hit}
 use Rattle.sk_heap.specs.Held.{ranks_of}
 use Rattle.sk_collapse.specs.Collapsed.{Collapsed, kept_in}
 use Rattle.sk_collapse.proofs.CollapseLaws.{knows_dropped}
-use Rattle.sk_page.specs.Walks.{held_by, IsFull, IsPassed, Ended}
+use Rattle.sk_page.specs.Walks.{held_by, IsFull, IsBehindPage, HasEnded}
 use Rattle.sk_page.specs.Pages.{CollapsesBy, Pages}
 use Rattle.sk_page.specs.Needs.{is_settled, is_whole}
 use Rattle.sk_page.specs.Hits.{dropped_of, ranked_of, kept_count}
@@ -126,7 +126,7 @@ module _ (query : Tree) (paging : Paging) (docs : Docs) (give : ℕ → Option �
     abbrev Settled : Type 0
     Settled =
         (ceiling < paging.options.cutoff)
-        ⊎ ((paging.options.cutoff ≤ ceiling) × (wanted paging ≤ page.seen) × IsFull paging docs saw × ((r : Rank) → r.weight ≤ ceiling → of.walk.last < r.id → IsPassed paging docs saw r))
+        ⊎ ((paging.options.cutoff ≤ ceiling) × (wanted paging ≤ page.seen) × IsFull paging docs saw × ((r : Rank) → r.weight ≤ ceiling → of.walk.last < r.id → IsBehindPage paging docs saw r))
 
     how : (weighed give docs ≡ []) ⊎ Settled
     how = step ended refl done
@@ -137,12 +137,12 @@ module _ (query : Tree) (paging : Paging) (docs : Docs) (give : ℕ → Option �
             inr (settled_is paging docs of.walk.last saw page.heap page.collapser pages (hits_sorted paging docs of.walk.last saw page.heap page.collapser pages) page.seen ceiling
             (subst (λ o. is_settled o page.seen page.heap ceiling ≡ true) of.options f))
 
-    end_by : (weighed give docs ≡ []) ⊎ Settled → Ended query paging docs saw
+    end_by : (weighed give docs ≡ []) ⊎ Settled → HasEnded query paging docs saw
     end_by (inl none) = ended_at_end query paging docs give need saw of.walk none
     end_by (inr (inl low)) = ended_below query paging docs give need saw of.walk ceiling most low
     end_by (inr (inr full)) = ended_settled query paging docs give need saw of.walk ceiling most (let many = full.1 in omega (arith, many, of.seen)) full.2 full.3
 
-    end : Ended query paging docs saw
+    end : HasEnded query paging docs saw
     end = end_by how
 
     -- as many were seen as are wanted, or all

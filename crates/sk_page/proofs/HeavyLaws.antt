@@ -12,7 +12,7 @@ use Rattle.sk_base.specs.Before.{is_before}
 use Rattle.sk_model.specs.Page.{best_first}
 use Rattle.sk_model.proofs.OrderLaws.{NoneBefore, Rises, rises_best_first, best_first_permutation}
 use Rattle.sk_heap.proofs.HeapLaws.{is_weighed, no_lighter, no_heavier}
-use Rattle.sk_page.specs.Shown.{is_behind, Shown}
+use Rattle.sk_page.specs.Shown.{is_behind_page, Shown}
 use Rattle.sk_page.proofs.ShownLaws.{shown_front}
 use Rattle.sk_page.proofs.FrontLaws.{ahead, front_best, held_ahead}
 
@@ -94,19 +94,19 @@ module _ (weight : ℕ) where
         by_first true e more = let rest = more (omega (arith, most, heavy_more x xs true e)) in (omega (arith, rest.0), (leb-true weight x.weight e, rest.1))
         by_first false e more = absurd (omega (arith, most, heavy_more x xs false e, none_heavy x xs r.0 (leb-false weight x.weight e)))
 
-    behind_light : (r : Rank) (held : List Rank) → is_behind order held r ≡ true → weight ≤ r.weight → AllHeavy weight held
+    behind_light : (r : Rank) (held : List Rank) → is_behind_page order held r ≡ true → weight ≤ r.weight → AllHeavy weight held
     behind_light r [] e most = tt
     behind_light r (h ∷ held) e most =
-        let both = and_parts (is_before order h r) (is_behind order held r) e in
+        let both = and_parts (is_before order h r) (is_behind_page order held r) e in
         let lower = no_lighter order.by order.falling h r w both.0 in
         (omega (arith, lower, most), behind_light r held both.1 most)
 
     -- a page is full of heavy ones, where so many were to be seen
-    pub filled : (k : ℕ) (found saw : List Rank) → Shown (is_behind order (take k (best_first order saw))) found saw → (found ≡ saw) ⊎ (k ≤ length (best_first order saw)) → k ≤ heavy weight found
+    pub filled : (k : ℕ) (found saw : List Rank) → Shown (is_behind_page order (take k (best_first order saw))) found saw → (found ≡ saw) ⊎ (k ≤ length (best_first order saw)) → k ≤ heavy weight found
         → (k ≤ length (best_first order saw)) × AllHeavy weight (take k (best_first order saw))
-    filled k found saw shown full most = by_seen (heavy_shown (is_behind order (take k (best_first order saw))) found saw shown) full
+    filled k found saw shown full most = by_seen (heavy_shown (is_behind_page order (take k (best_first order saw))) found saw shown) full
       where
-        by_seen : (heavy weight found ≤ heavy weight saw) ⊎ OneBehind (is_behind order (take k (best_first order saw))) → (found ≡ saw) ⊎ (k ≤ length (best_first order saw))
+        by_seen : (heavy weight found ≤ heavy weight saw) ⊎ OneBehind (is_behind_page order (take k (best_first order saw))) → (found ≡ saw) ⊎ (k ≤ length (best_first order saw))
             → (k ≤ length (best_first order saw)) × AllHeavy weight (take k (best_first order saw))
         by_seen (inl less) _ = top k (best_first order saw) (rises_best_first order saw) (omega (arith, less, most, heavy_best order saw))
         by_seen (inr one) (inl same) =
@@ -126,13 +126,13 @@ module _ (weight : ℕ) where
     take_long (suc k) (x ∷ xs) l = ap suc (take_long k xs (omega (arith, l)))
 
     -- a page that is full of heavy ones tells that so many were to be seen
-    pub full_of_heavy : (k : ℕ) (found saw : List Rank) → Shown (is_behind order (take k (best_first order saw))) found saw → k ≤ length (best_first order saw) → AllHeavy weight (take k (best_first order saw)) → k ≤ heavy weight found
+    pub full_of_heavy : (k : ℕ) (found saw : List Rank) → Shown (is_behind_page order (take k (best_first order saw))) found saw → k ≤ length (best_first order saw) → AllHeavy weight (take k (best_first order saw)) → k ≤ heavy weight found
     full_of_heavy k found saw shown long all =
         let best : List Rank = best_first order saw in
         let held : List Rank = take k best in
         let p : Rank → Bool = ahead order held in
         let fewer = heavy_filter p found in
-        let same : heavy weight (filter p found) ≡ heavy weight (filter p saw) = ap (heavy weight) (shown_front (is_behind order held) found saw shown) in
+        let same : heavy weight (filter p found) ≡ heavy weight (filter p saw) = ap (heavy weight) (shown_front (is_behind_page order held) found saw shown) in
         let ordered = heavy_best order (filter p saw) in
         let front : heavy weight (filter p best) ≡ heavy weight (best_first order (filter p saw)) = ap (heavy weight) (front_best order held saw) in
         let cut : heavy weight (filter p best) ≡ heavy weight (filter p (held ++ drop k best)) = ap (λ xs. heavy weight (filter p xs)) (sym (take-append-drop k best)) in

@@ -11,7 +11,7 @@ use Rattle.sk_model.specs.Counts.{wanted}
 use Rattle.sk_heap.specs.declared.hit.Hit.{Hit}
 use Rattle.sk_heap.specs.Held.{Held, need_of}
 use Rattle.sk_collapse.specs.Collapsed.{Collapsed}
-use Rattle.sk_page.specs.Walks.{IsFull, IsPassed, IsNeed}
+use Rattle.sk_page.specs.Walks.{IsFull, IsBehindPage, IsNeed}
 use Rattle.sk_page.specs.Pages.{Pages}
 use Rattle.sk_page.specs.Needs.{is_above, is_settled, need_at, need_for}
 use Rattle.sk_page.proofs.PageLaws.{page_is_full, page_passes, page_of_none}
@@ -39,12 +39,12 @@ module _ (paging : Paging) (docs : Docs) where
       either (inr l) = inr (h.0, λ r w above. h.1 r (omega (arith, w, l)) above)
   need_max saw last a b (inr h) (inr g) = inr (h.0, λ r w above. either r w above (one_of a b))
     where
-      either : (r : Rank) → r.weight < max a b → last < r.id → (a ≤ b) ⊎ (b < a) → IsPassed paging docs saw r
+      either : (r : Rank) → r.weight < max a b → last < r.id → (a ≤ b) ⊎ (b < a) → IsBehindPage paging docs saw r
       either r w above (inl l) = g.1 r (omega (arith, w, l)) above
       either r w above (inr l) = h.1 r (omega (arith, w, l)) above
 
   -- where what is behind the page stays behind it
-  pub need_on : (saw more : List Rank) (last later need : ℕ) → last ≤ later → (IsFull paging docs saw → IsFull paging docs more) → (IsFull paging docs saw → (r : Rank) → IsPassed paging docs saw r → IsPassed paging docs more r)
+  pub need_on : (saw more : List Rank) (last later need : ℕ) → last ≤ later → (IsFull paging docs saw → IsFull paging docs more) → (IsFull paging docs saw → (r : Rank) → IsBehindPage paging docs saw r → IsBehindPage paging docs more r)
       → IsNeed paging docs saw last need → IsNeed paging docs more later need
   need_on saw more last later need up full keeps (inl low) = inl low
   need_on saw more last later need up full keeps (inr h) = inr (full h.0, λ r w above. keeps h.0 r (h.1 r w (omega (arith, up, above))))
@@ -66,17 +66,17 @@ module _ (paging : Paging) (docs : Docs) where
         ]
 
     -- none can enter the page
-    above_passes : (o : Option ℕ) (ceiling : ℕ) → need_of held ≡ o → is_above o ceiling ≡ true → IsFull paging docs saw × ((r : Rank) → r.weight ≤ ceiling → last < r.id → IsPassed paging docs saw r)
+    above_passes : (o : Option ℕ) (ceiling : ℕ) → need_of held ≡ o → is_above o ceiling ≡ true → IsFull paging docs saw × ((r : Rank) → r.weight ≤ ceiling → last < r.id → IsBehindPage paging docs saw r)
     above_passes None ceiling e h = let both = page_of_none paging docs last saw held c pages e in (both.0, λ r w above. both.1 r)
     above_passes (Some n) ceiling e h =
         let more : ceiling < n = ltb-true ceiling n h in
         (page_is_full paging docs last saw held c pages n e (omega (arith, more)), λ r w above. page_passes paging docs last saw held c pages sorted n e r (omega (arith, w, more)) above)
 
     pub settled_is : (seen ceiling : ℕ) → is_settled paging.options seen held ceiling ≡ true
-        → (ceiling < paging.options.cutoff) ⊎ ((paging.options.cutoff ≤ ceiling) × (wanted paging ≤ seen) × IsFull paging docs saw × ((r : Rank) → r.weight ≤ ceiling → last < r.id → IsPassed paging docs saw r))
+        → (ceiling < paging.options.cutoff) ⊎ ((paging.options.cutoff ≤ ceiling) × (wanted paging ≤ seen) × IsFull paging docs saw × ((r : Rank) → r.weight ≤ ceiling → last < r.id → IsBehindPage paging docs saw r))
     settled_is seen ceiling h =
         elim (nat_lt ceiling paging.options.cutoff) as (λ b. nat_lt ceiling paging.options.cutoff ≡ b → (b || (nat_le (wanted paging) seen && is_above (need_of held) ceiling)) ≡ true
-        → (ceiling < paging.options.cutoff) ⊎ ((paging.options.cutoff ≤ ceiling) × (wanted paging ≤ seen) × IsFull paging docs saw × ((r : Rank) → r.weight ≤ ceiling → last < r.id → IsPassed paging docs saw r))) [
+        → (ceiling < paging.options.cutoff) ⊎ ((paging.options.cutoff ≤ ceiling) × (wanted paging ≤ seen) × IsFull paging docs saw × ((r : Rank) → r.weight ≤ ceiling → last < r.id → IsBehindPage paging docs saw r))) [
           | true ↦ λ e g. inl (ltb-true ceiling paging.options.cutoff e)
           | false ↦ λ e g.
               let b = both_true (nat_le (wanted paging) seen) (is_above (need_of held) ceiling) g in

@@ -17,7 +17,7 @@ use Rattle.sk_model.specs.Page.{place, best_first, kept_of, kept}
 use Rattle.sk_model.specs.Counts.{kept_by}
 use Rattle.sk_model.proofs.OrderLaws.{before_order, Rises, rises_best_first, best_first_permutation, sorted_is}
 use Rattle.sk_heap.specs.declared.hit.Hit.{Hit}
-use Rattle.sk_heap.specs.Held.{Held, ranks_of, placed, last_weight, need_behind, need_of, offered, without}
+use Rattle.sk_heap.specs.Held.{Held, ranks_of, placed_hit, last_weight, need_behind, need_of, offered, without_hit}
 use Rattle.sk_heap.proofs.HeapLaws.{full_by, ranks_placed, need_keeps_out}
 use Rattle.sk_collapse.specs.Collapsed.{Collapsed, kept_in}
 use Rattle.sk_collapse.specs.Verdicts.{Judges, without_rank}
@@ -26,9 +26,9 @@ use Rattle.sk_collapse.proofs.CollapseLaws.{distinct_from, differ_more, best_for
 use Rattle.sk_collapse.proofs.PlacedLaws.{distinct_best, take_placed}
 use Rattle.std.proofs.lemmas.Bool.{and_from, and_parts}
 use Rattle.sk_model.proofs.HeldLaws.{each_weaker}
-use Rattle.sk_page.specs.Shown.{is_behind}
-use Rattle.sk_page.specs.Walks.{page_end, held_by, IsFull, IsPassed}
-use Rattle.sk_page.specs.Pages.{CollapsesBy, judged, SeesBy, Offers, Pages}
+use Rattle.sk_page.specs.Shown.{is_behind_page}
+use Rattle.sk_page.specs.Walks.{page_end, held_by, IsFull, IsBehindPage}
+use Rattle.sk_page.specs.Pages.{CollapsesBy, held_by_verdict, SeesBy, Offers, Pages}
 use Rattle.sk_page.proofs.FrontLaws.{before_through}
 
 -- ---- lists
@@ -46,10 +46,10 @@ all_filter P p (x ∷ xs) h =
       | false ↦ all_filter P p xs h.1
     ]
 
-all_placed : (P : Hit → Type 0) (order : Order) (x : Hit) (ys : List Hit) → P x → AllByRecursion P ys → AllByRecursion P (placed order x ys)
+all_placed : (P : Hit → Type 0) (order : Order) (x : Hit) (ys : List Hit) → P x → AllByRecursion P ys → AllByRecursion P (placed_hit order x ys)
 all_placed P order x [] p h = (p, tt)
 all_placed P order x (y ∷ ys) p h =
-    elim (is_before order x.rank y.rank) as (λ b. AllByRecursion P (cond b (x ∷ y ∷ ys) (y ∷ placed order x ys))) [
+    elim (is_before order x.rank y.rank) as (λ b. AllByRecursion P (cond b (x ∷ y ∷ ys) (y ∷ placed_hit order x ys))) [
       | true ↦ (p, h)
       | false ↦ (h.0, all_placed P order x ys p h.1)
     ]
@@ -68,7 +68,7 @@ ranks_without id (h ∷ hits) =
     ]
 
 ranks_offered : (hit : Hit) (held : Held) → ranks_of (offered hit held).hits ≡ take held.most (place held.order hit.rank (ranks_of held.hits))
-ranks_offered hit held = ranks_take held.most (placed held.order hit held.hits) ∙ ap (take held.most) (ranks_placed held.order hit held.hits)
+ranks_offered hit held = ranks_take held.most (placed_hit held.order hit held.hits) ∙ ap (take held.most) (ranks_placed held.order hit held.hits)
 
 -- ---- one order
 
@@ -245,7 +245,7 @@ module _ (paging : Paging) (docs : Docs) where
       offered_is : (h : Held) → h.order ≡ paging.order → h.most ≡ page_end paging → ranks_of (offered hit h).hits ≡ take (page_end paging) (place paging.order x (ranks_of h.hits))
       offered_is h order most = ranks_offered hit h ∙ (λ i. take (most i) (place (order i) (is i) (ranks_of h.hits)))
 
-      hits_after : (v : Verdict) → Judges v paging.order key x Before After → ranks_of (judged v hit held).hits ≡ take (page_end paging) After
+      hits_after : (v : Verdict) → Judges v paging.order key x Before After → ranks_of (held_by_verdict v hit held).hits ≡ take (page_end paging) After
       hits_after Verdict.Keep j =
           offered_is held pages.order pages.most
           ∙ ap (λ rs. take (page_end paging) (place paging.order x rs)) pages.hits
@@ -253,7 +253,7 @@ module _ (paging : Paging) (docs : Docs) where
           ∙ ap (take (page_end paging)) (sym j)
       hits_after (Verdict.KeepFor id) j =
           let y : Rank = j.0 in
-          offered_is (without id held) pages.order pages.most
+          offered_is (without_hit id held) pages.order pages.most
           ∙ ap (λ rs. take (page_end paging) (place paging.order x rs)) (ranks_without id held.hits ∙ ap (without_rank id) pages.hits)
           ∙ sym (subst (λ n. take (page_end paging) (place paging.order x (without_rank n Before)) ≡ take (page_end paging) (place paging.order x (without_rank n (take (page_end paging) Before)))) j.1
           (best_for_kept paging.order (page_end paging) x y Before orders.0 orders.1 j.2 j.4))
@@ -262,31 +262,31 @@ module _ (paging : Paging) (docs : Docs) where
 
       module _ (P : Hit → Type 0) (own : P hit) where
         all_offered : (h : Held) → AllByRecursion P h.hits → AllByRecursion P (offered hit h).hits
-        all_offered h all = all_take P h.most (placed h.order hit h.hits) (all_placed P h.order hit h.hits own all)
+        all_offered h all = all_take P h.most (placed_hit h.order hit h.hits) (all_placed P h.order hit h.hits own all)
 
-        all_judged : (v : Verdict) → AllByRecursion P held.hits → AllByRecursion P (judged v hit held).hits
+        all_judged : (v : Verdict) → AllByRecursion P held.hits → AllByRecursion P (held_by_verdict v hit held).hits
         all_judged Verdict.Keep all = all_offered held all
-        all_judged (Verdict.KeepFor id) all = all_offered (without id held) (all_filter P (λ (h : Hit). not (h.rank.id == id)) held.hits all)
+        all_judged (Verdict.KeepFor id) all = all_offered (without_hit id held) (all_filter P (λ (h : Hit). not (h.rank.id == id)) held.hits all)
         all_judged Verdict.Drop all = all
 
-      same_order : (v : Verdict) → (judged v hit held).order ≡ held.order
+      same_order : (v : Verdict) → (held_by_verdict v hit held).order ≡ held.order
       same_order Verdict.Keep = refl
       same_order (Verdict.KeepFor id) = refl
       same_order Verdict.Drop = refl
 
-      same_most : (v : Verdict) → (judged v hit held).most ≡ held.most
+      same_most : (v : Verdict) → (held_by_verdict v hit held).most ≡ held.most
       same_most Verdict.Keep = refl
       same_most (Verdict.KeepFor id) = refl
       same_most Verdict.Drop = refl
 
-      same_room : (v : Verdict) → (judged v hit held).room ≡ held.room
+      same_room : (v : Verdict) → (held_by_verdict v hit held).room ≡ held.room
       same_room Verdict.Keep = refl
       same_room (Verdict.KeepFor id) = refl
       same_room Verdict.Drop = refl
 
       -- one match more
       pub page_more : (v : Verdict) (c2 : Option Collapsed) → hit.key ≡ key x → Judges v paging.order key x Before After → CollapsesBy paging.collapse paging.order key (x ∷ pages.newest) c2
-          → Pages paging docs x.id (saw ++ x ∷ []) (judged v hit held) c2
+          → Pages paging docs x.id (saw ++ x ∷ []) (held_by_verdict v hit held) c2
       page_more v c2 own j collapse = record {
         newest = x ∷ pages.newest;
         same = best_last paging.order pages.newest saw x pages.same differs;
@@ -306,20 +306,20 @@ module _ (paging : Paging) (docs : Docs) where
     newest_kept : kept_by paging docs saw ≡ Before
     newest_kept = ap (kept_of paging.collapse key) pages.same
 
-    leads_on : (v : Verdict) (r : Rank) → Judges v paging.order key x Before After → page_end paging ≤ length Before → is_behind paging.order (take (page_end paging) Before) r ≡ true → is_behind paging.order (take (page_end paging) After) r ≡ true
-    leads_on Verdict.Keep r j full h = subst (λ zs. is_behind paging.order (take (page_end paging) zs) r ≡ true) (sym j) (leads_more paging.order r (page_end paging) x Before full h)
+    leads_on : (v : Verdict) (r : Rank) → Judges v paging.order key x Before After → page_end paging ≤ length Before → is_behind_page paging.order (take (page_end paging) Before) r ≡ true → is_behind_page paging.order (take (page_end paging) After) r ≡ true
+    leads_on Verdict.Keep r j full h = subst (λ zs. is_behind_page paging.order (take (page_end paging) zs) r ≡ true) (sym j) (leads_more paging.order r (page_end paging) x Before full h)
     leads_on (Verdict.KeepFor id) r j full h =
         let y : Rank = j.0 in
-        subst (λ zs. is_behind paging.order (take (page_end paging) zs) r ≡ true) (sym j.5)
-        (subst (λ n. is_behind paging.order (take (page_end paging) (place paging.order x (without_rank n Before))) r ≡ true) j.1
+        subst (λ zs. is_behind_page paging.order (take (page_end paging) zs) r ≡ true) (sym j.5)
+        (subst (λ n. is_behind_page paging.order (take (page_end paging) (place paging.order x (without_rank n Before))) r ≡ true) j.1
         (leads_for paging.order r (page_end paging) x y Before full orders.0 orders.1 j.2 j.4 h))
-    leads_on Verdict.Drop r j full h = subst (λ zs. is_behind paging.order (take (page_end paging) zs) r ≡ true) (sym j) h
+    leads_on Verdict.Drop r j full h = subst (λ zs. is_behind_page paging.order (take (page_end paging) zs) r ≡ true) (sym j) h
 
-    pub page_keeps : (v : Verdict) → Judges v paging.order key x Before After → IsFull paging docs saw → (r : Rank) → IsPassed paging docs saw r → IsPassed paging docs (saw ++ x ∷ []) r
+    pub page_keeps : (v : Verdict) → Judges v paging.order key x Before After → IsFull paging docs saw → (r : Rank) → IsBehindPage paging docs saw r → IsBehindPage paging docs (saw ++ x ∷ []) r
     page_keeps v j full r h =
         let more : kept_by paging docs (saw ++ x ∷ []) ≡ After = ap (kept_of paging.collapse key) (best_last paging.order pages.newest saw x pages.same differs) in
-        subst (λ zs. is_behind paging.order (take (page_end paging) zs) r ≡ true) (sym more)
-        (leads_on v r j (subst (λ zs. page_end paging ≤ length zs) newest_kept full) (subst (λ zs. is_behind paging.order (take (page_end paging) zs) r ≡ true) newest_kept h))
+        subst (λ zs. is_behind_page paging.order (take (page_end paging) zs) r ≡ true) (sym more)
+        (leads_on v r j (subst (λ zs. page_end paging ≤ length zs) newest_kept full) (subst (λ zs. is_behind_page paging.order (take (page_end paging) zs) r ≡ true) newest_kept h))
 
     -- as many are kept with one match more
     pub page_full : (v : Verdict) → Judges v paging.order key x Before After → IsFull paging docs saw → IsFull paging docs (saw ++ x ∷ [])
@@ -369,7 +369,7 @@ module _ (paging : Paging) (docs : Docs) where
   module _ (last : ℕ) (saw : List Rank) (held held2 : Held) (c c2 : Option Collapsed) (hit : Hit) where
     pub record More (pages : Pages paging docs last saw held c) : Type 0 where
       pub pages2 : Pages paging docs hit.rank.id (saw ++ hit.rank ∷ []) held2 c2
-      pub keeps : IsFull paging docs saw → (r : Rank) → IsPassed paging docs saw r → IsPassed paging docs (saw ++ hit.rank ∷ []) r
+      pub keeps : IsFull paging docs saw → (r : Rank) → IsBehindPage paging docs saw r → IsBehindPage paging docs (saw ++ hit.rank ∷ []) r
       pub full : IsFull paging docs saw → IsFull paging docs (saw ++ hit.rank ∷ [])
 
     judged_is : (o : Option Collapse) (k : Rank → List ℕ) (newest : List Rank) (v : Verdict) (c c2 : Option Collapsed) → CollapsesBy o paging.order k newest c → SeesBy c c2 v hit → k hit.rank ≡ hit.key → All (λ (r : Rank). r.id ≢ hit.rank.id) newest
@@ -417,9 +417,9 @@ module _ (paging : Paging) (docs : Docs) where
     pub held_is : ranks_of held.hits ≡ held_by paging docs saw
     held_is = pages.hits ∙ ap (λ rs. take (page_end paging) (kept_of paging.collapse key rs)) (sym pages.same)
 
-    all_behind : (r : Rank) (hits : List Hit) → AllByRecursion (λ (h : Hit). is_before held.order h.rank r ≡ true) hits → is_behind held.order (ranks_of hits) r ≡ true
+    all_behind : (r : Rank) (hits : List Hit) → AllByRecursion (λ (h : Hit). is_before held.order h.rank r ≡ true) hits → is_behind_page held.order (ranks_of hits) r ≡ true
     all_behind r [] h = refl
-    all_behind r (x ∷ hits) h = and_from (is_before held.order x.rank r) (is_behind held.order (ranks_of hits) r) h.0 (all_behind r hits h.1)
+    all_behind r (x ∷ hits) h = and_from (is_before held.order x.rank r) (is_behind_page held.order (ranks_of hits) r) h.0 (all_behind r hits h.1)
 
     pub page_is_full : (n : ℕ) → need_of held ≡ Some n → 0 < n → IsFull paging docs saw
     page_is_full n e some =
@@ -429,11 +429,11 @@ module _ (paging : Paging) (docs : Docs) where
         let short : length (held_by paging docs saw) ≡ min (page_end paging) (length (kept_by paging docs saw)) = length-take (page_end paging) (kept_by paging docs saw) in
         omega (arith, most, ranks, same, short, pages.most)
 
-    pub page_passes : IsSortedBy (λ (x y : Hit). is_before held.order x.rank y.rank) held.hits → (n : ℕ) → need_of held ≡ Some n → (r : Rank) → r.weight < n → last < r.id → IsPassed paging docs saw r
+    pub page_passes : IsSortedBy (λ (x y : Hit). is_before held.order x.rank y.rank) held.hits → (n : ℕ) → need_of held ≡ Some n → (r : Rank) → r.weight < n → last < r.id → IsBehindPage paging docs saw r
     page_passes sorted n e r less above =
         let after = need_keeps_out held n r sorted e less (All-from_recursion (λ (h : Hit). h.rank.id < r.id) held.hits (each_weaker (λ (h : Hit). h.rank.id ≤ last) (λ (h : Hit). h.rank.id < r.id) (λ h l. omega (arith, l, above)) held.hits pages.under)) in
-        subst (λ (rs : List Rank). is_behind paging.order rs r ≡ true) held_is
-        (subst (λ (o : Order). is_behind o (ranks_of held.hits) r ≡ true) pages.order (all_behind r held.hits (recursion_from_All (λ (h : Hit). is_before held.order h.rank r ≡ true) held.hits after)))
+        subst (λ (rs : List Rank). is_behind_page paging.order rs r ≡ true) held_is
+        (subst (λ (o : Order). is_behind_page o (ranks_of held.hits) r ≡ true) pages.order (all_behind r held.hits (recursion_from_All (λ (h : Hit). is_before held.order h.rank r ≡ true) held.hits after)))
 
     none_most : need_of held ≡ None → held.most ≡ 0
     none_most e =
@@ -448,7 +448,7 @@ module _ (paging : Paging) (docs : Docs) where
         zero_is : (a : ℕ) → (a == 0) ≡ true → a ≡ 0
         zero_is a e = grind (arith, nat_tests)
 
-    pub page_of_none : need_of held ≡ None → IsFull paging docs saw × ((r : Rank) → IsPassed paging docs saw r)
+    pub page_of_none : need_of held ≡ None → IsFull paging docs saw × ((r : Rank) → IsBehindPage paging docs saw r)
     page_of_none e =
         let none : page_end paging ≡ 0 = sym pages.most ∙ none_most e in
-        (omega (arith, none), λ r. ap (λ n. is_behind paging.order (take n (kept_by paging docs saw)) r) none)
+        (omega (arith, none), λ r. ap (λ n. is_behind_page paging.order (take n (kept_by paging docs saw)) r) none)

@@ -29,13 +29,13 @@ use Rattle.sk_model.proofs.OrderLaws as OrderLaws
 use Rattle.sk_heap.specs.declared.hit.Hit.{Hit}
 use Rattle.sk_collapse.specs.Collapsed.{Collapsed, group_of}
 use Rattle.sk_collapse.proofs.CollapseLaws.{knows_differ}
-use Rattle.sk_page.specs.Shown.{is_behind}
-use Rattle.sk_page.specs.Walks.{held_by, IsFull, IsPassed, IsNeed, Walk}
+use Rattle.sk_page.specs.Shown.{is_behind_page}
+use Rattle.sk_page.specs.Walks.{held_by, IsFull, IsBehindPage, IsNeed, Walk}
 use Rattle.sk_page.specs.Pages.{CollapsesBy, Pages}
 use Rattle.sk_page.specs.Needs.{is_settled, need_for}
 use Rattle.sk_page.specs.Calm.{IsCalm}
-use Rattle.sk_page.specs.Hits.{value_at}
-use Rattle.sk_page.specs.Views.{Opens, PageOf, MaySee, Sees}
+use Rattle.sk_page.specs.Hits.{value_in_order}
+use Rattle.sk_page.specs.Views.{OpensPage, PageOf, MaySee, Sees}
 use Rattle.sk_page.specs.declared.page.Page.{Page}
 use Rattle.sk_page.proofs.ShownLaws.{shown_beside}
 use Rattle.sk_page.proofs.WalkLaws.{AtHead, weighed, weighed_behind, first_weight, taken, ranked, scores, found_step, the_head, walked, started, all_append}
@@ -113,7 +113,7 @@ small_there h (d ∷ docs) low document e = by_id (d.0 == h) refl (small_there h
 module _ (query : Tree) (paging : Paging) (docs : Docs) (give : ℕ → Option ℕ) where
   -- ---- a page that saw nothing
 
-  pub page_opened : RiseAbove 0 docs → AllByRecursion (λ (one : ℕ × Document). give one.0 ≡ scores query paging one) docs → (page : Page) → Opens paging page → PageOf page query paging docs give 0
+  pub page_opened : RiseAbove 0 docs → AllByRecursion (λ (one : ℕ × Document). give one.0 ≡ scores query paging one) docs → (page : Page) → OpensPage paging page → PageOf page query paging docs give 0
   page_opened rise same page opens =
       let walk : Walk query paging docs give 0 [] = started query paging docs give rise same in
       let pages : Pages paging docs walk.last [] page.heap page.collapser = page_later paging docs 0 walk.last [] page.heap page.collapser (omega arith) (page_start paging docs page.heap page.collapser opens.heap (opens.collapser (key_of paging.collapse docs))) in
@@ -157,7 +157,7 @@ module _ (query : Tree) (paging : Paging) (docs : Docs) (give : ℕ → Option �
     -- fewer were seen than there are
     seen_few : page.seen + 1 < 2 ^ 32
     seen_few =
-        let saw_few = (shown_beside (is_behind paging.order (held_by paging docs of.saw)) (λ _. []) (λ _ _ _. refl) (found_by query paging walk.before) of.saw walk.shown).long in
+        let saw_few = (shown_beside (is_behind_page paging.order (held_by paging docs of.saw)) (λ _. []) (λ _ _ _. refl) (found_by query paging walk.before) of.saw walk.shown).long in
         let found = found_few query paging walk.before in
         let all : length docs ≡ length (walk.before ++ walk.rest) = ap length walk.split in
         let both : length (walk.before ++ walk.rest) ≡ length walk.before + length walk.rest = length-append walk.before walk.rest in
@@ -226,7 +226,7 @@ module _ (query : Tree) (paging : Paging) (docs : Docs) (give : ℕ → Option �
       pub order : mid.order ≡ paging.order
       pub collapse : mid.collapse ≡ paging.collapse
       pub pages : Pages paging docs h saw2 mid.heap mid.collapser
-      pub keeps : IsFull paging docs of.saw → (r : Rank) → IsPassed paging docs of.saw r → IsPassed paging docs saw2 r
+      pub keeps : IsFull paging docs of.saw → (r : Rank) → IsBehindPage paging docs of.saw r → IsBehindPage paging docs saw2 r
       pub full : IsFull paging docs of.saw → IsFull paging docs saw2
       pub long : length of.saw ≤ length saw2
       pub seen : mid.seen ≡ length saw2
@@ -246,13 +246,13 @@ module _ (query : Tree) (paging : Paging) (docs : Docs) (give : ℕ → Option �
       read = of.read;
     }
 
-    value_there : (by : OrderBy) → value_at by (document_at h docs) ≡ value_by by at.one.1
-    value_there by = ap (value_at by) there
+    value_there : (by : OrderBy) → value_in_order by (document_at h docs) ≡ value_by by at.one.1
+    value_there by = ap (value_in_order by) there
 
     pub looked_at : (mid : Page) → paging.options.cutoff ≤ w → Sees docs h w page mid → (saw2 : List Rank) × Looked mid saw2
     looked_at mid heavy_enough sees =
         let hit : Hit = sees.hit in
-        let rank_is : hit.rank ≡ ranked query paging at.one w = sees.rank ∙ (λ j. record { weight = w; value = (ap (λ (o : Order). value_at o.by (document_at h docs)) of.order ∙ value_there paging.order.by) j; id = sym at.id j }) in
+        let rank_is : hit.rank ≡ ranked query paging at.one w = sees.rank ∙ (λ j. record { weight = w; value = (ap (λ (o : Order). value_in_order o.by (document_at h docs)) of.order ∙ value_there paging.order.by) j; id = sym at.id j }) in
         let id_is : hit.rank.id ≡ h = ap (λ (r : Rank). r.id) sees.rank in
         let own_key : hit.key ≡ key_of paging.collapse docs hit.rank = sees.key ∙ (λ j. key_for (of.collapse j) (document_at (sym id_is j) docs)) in
         let more = page_offered paging docs walk.last of.saw page.heap mid.heap page.collapser mid.collapser hit of.pages (omega (arith, at.higher, id_is)) own_key sees.offers in

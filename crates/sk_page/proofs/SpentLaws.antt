@@ -12,7 +12,7 @@ use Rattle.sk_model.specs.Documents.{Document}
 use Rattle.sk_model.specs.Matches.{found_by}
 use Rattle.sk_model.specs.Sharp.{up, ups, sharp}
 use Rattle.sk_report.proofs.ReportLaws.{within_sharp}
-use Rattle.sk_page.specs.Shown.{is_behind}
+use Rattle.sk_page.specs.Shown.{is_behind_page}
 use Rattle.sk_page.specs.Tells.{IsSpent}
 use Rattle.sk_page.specs.Views.{PageOf}
 use Rattle.sk_page.specs.Walks.{held_by}
@@ -45,7 +45,7 @@ ups_none (t ∷ lists) docs rise = omega (arith, up_none t 0 docs rise, ups_none
 module _ (query : Tree) (paging : Paging) (docs : Docs) (give : ℕ → Option ℕ) (need : ℕ) (page : Page) (of : PageOf page query paging docs give need) where
   saw_few : length of.saw ≤ length (found_by query paging docs)
   saw_few =
-      let beside = (shown_beside (is_behind paging.order (held_by paging docs of.saw)) (λ _. []) (λ _ _ _. refl) (found_by query paging of.walk.before) of.saw of.walk.shown).long in
+      let beside = (shown_beside (is_behind_page paging.order (held_by paging docs of.saw)) (λ _. []) (λ _ _ _. refl) (found_by query paging of.walk.before) of.saw of.walk.shown).long in
       let all : length (found_by query paging docs) ≡ length (found_by query paging of.walk.before ++ found_by query paging of.walk.rest) =
       ap length (ap (found_by query paging) of.walk.split ∙ found_append query paging of.walk.before of.walk.rest) in
       omega (arith, beside, all, length-append (found_by query paging of.walk.before) (found_by query paging of.walk.rest))

@@ -28,7 +28,7 @@ use Rattle.sk_heap.specs.Held.{Held, ranks_of, need_of, need_behind, last_weight
 use Rattle.sk_heap.proofs.HeapLaws.{is_weighed, Heavy, last_heavy, all_heavy}
 use Rattle.sk_collapse.specs.Collapsed.{Collapsed}
 use Rattle.sk_model.specs.Scores.{score}
-use Rattle.sk_page.specs.Shown.{is_behind, Shown}
+use Rattle.sk_page.specs.Shown.{is_behind_page, Shown}
 use Rattle.sk_page.specs.Walks.{page_end, held_by, IsFull, Walk}
 use Rattle.sk_page.specs.Pages.{Pages}
 use Rattle.sk_page.specs.Needs.{is_above, is_settled, need_at, need_for}
@@ -283,7 +283,7 @@ module _ (paging : Paging) (docs : Docs) (by : paging.order.by ≡ OrderBy.Relev
         above true l = omega (arith, l)
         above false l = omega (arith, l)
 
-    pub need_low : (weight : ℕ) → 1 ≤ page_end paging → (found : List Rank) → Shown (is_behind paging.order (held_by paging docs saw)) found saw → heavy (settling_weight paging weight) found < page_end paging
+    pub need_low : (weight : ℕ) → 1 ≤ page_end paging → (found : List Rank) → Shown (is_behind_page paging.order (held_by paging docs saw)) found saw → heavy (settling_weight paging weight) found < page_end paging
         → (n : ℕ) × (need_of held ≡ Some n) × (n ≤ settling_weight paging weight)
     need_low weight some found shown few = by_full (nat_lt (length held.hits) held.most) refl
       where
@@ -295,7 +295,7 @@ module _ (paging : Paging) (docs : Docs) (by : paging.order.by ≡ OrderBy.Relev
         by_lightest false e long = leb-false (settling_weight paging weight) lightest e
         by_lightest true e long =
             let all = of_hits lightest (settling_weight paging weight) held.hits (leb-true (settling_weight paging weight) lightest e) (all_heavy held.order (by_weight held.order.by held_by_weight) held.hits sorted) in
-            let many = full_of_heavy (settling_weight paging weight) paging.order (by_weight paging.order.by by) (page_end paging) found saw (subst (λ rs. Shown (is_behind paging.order rs) found saw) (held_flat saw) shown) (omega (arith, hits_long, long)) (subst (AllHeavy (settling_weight paging weight)) on_page all) in
+            let many = full_of_heavy (settling_weight paging weight) paging.order (by_weight paging.order.by by) (page_end paging) found saw (subst (λ rs. Shown (is_behind_page paging.order rs) found saw) (held_flat saw) shown) (omega (arith, hits_long, long)) (subst (AllHeavy (settling_weight paging weight)) on_page all) in
             absurd (omega (arith, many, few))
 
         by_full : (b : Bool) → nat_lt (length held.hits) held.most ≡ b → (n : ℕ) × (need_of held ≡ Some n) × (n ≤ settling_weight paging weight)
@@ -320,7 +320,7 @@ module _ (query : Tree) (paging : Paging) (docs : Docs) (by : paging.order.by �
   found_is = ap (found_by query paging) walk.split ∙ found_append query paging walk.before walk.rest
 
   saw_long : length saw ≤ length front
-  saw_long = let long = (shown_beside (is_behind paging.order (held_by paging docs saw)) (λ _. []) (λ _ _ _. refl) front saw walk.shown).long in omega (arith, long)
+  saw_long = let long = (shown_beside (is_behind_page paging.order (held_by paging docs saw)) (λ _. []) (λ _ _ _. refl) front saw walk.shown).long in omega (arith, long)
 
   -- what is given at the point, where little was asked for
   pub given_there : (point : ℕ) → IsCalm query paging docs point walk.last need → walk.last < point → point < last_id → (w : ℕ) × (give point ≡ Some w) × (scored_at query paging docs point ≡ Some w) × (need ≤ w)
@@ -438,7 +438,7 @@ module _ (query : Tree) (paging : Paging) (docs : Docs) (by : paging.order.by �
               let same : length (take (wanted paging) front) ≡ length (take (wanted paging) saw) = ap length walk.first in
               omega (arith, same, many, length-take (wanted paging) front, length-take (wanted paging) saw)
 
-          full : (need ≤ paging.options.cutoff) ⊎ (IsFull paging docs saw × ((r : Rank) → r.weight < need → walk.last < r.id → is_behind paging.order (held_by paging docs saw) r ≡ true)) → (front ≡ saw) ⊎ (page_end paging ≤ length (best_first paging.order saw))
+          full : (need ≤ paging.options.cutoff) ⊎ (IsFull paging docs saw × ((r : Rank) → r.weight < need → walk.last < r.id → is_behind_page paging.order (held_by paging docs saw) r ≡ true)) → (front ≡ saw) ⊎ (page_end paging ≤ length (best_first paging.order saw))
           full (inl low) = inl (walk.exact low)
           full (inr both) = inr (subst (λ rs. page_end paging ≤ length rs) (kept_flat paging docs by flat saw) both.0)
 
@@ -452,7 +452,7 @@ module _ (query : Tree) (paging : Paging) (docs : Docs) (by : paging.order.by �
               none_is_some g = cc
           by_size false e n f =
               let some = not_zero (page_end paging) e in
-              let all = filled (settling_weight paging weight) paging.order (by_weight paging docs by flat paging.order.by by) (page_end paging) front saw (subst (λ rs. Shown (is_behind paging.order rs) front saw) (held_flat paging docs by flat saw) walk.shown) (full walk.right) heavy_many in
+              let all = filled (settling_weight paging weight) paging.order (by_weight paging docs by flat paging.order.by by) (page_end paging) front saw (subst (λ rs. Shown (is_behind_page paging.order rs) front saw) (held_flat paging docs by flat saw) walk.shown) (full walk.right) heavy_many in
               let high = need_high paging docs by flat walk.last saw held c pages sorted weight some all.0 all.1 in
               let same = some_is high.0 n (sym high.1 ∙ f) in
               let more = high.2 in

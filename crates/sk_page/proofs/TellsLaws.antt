@@ -26,8 +26,8 @@ use Rattle.sk_model.specs.Reports.{page_of, IsHit}
 use Rattle.sk_report.specs.Reports.{ReportsFor}
 use Rattle.sk_model.proofs.CountLaws.{found_within}
 use Rattle.sk_model.proofs.KeptLaws.{kept_alike, kept_front, kept_others, dropped_front, kept_few, kept_each}
-use Rattle.sk_page.specs.Walks.{page_end, held_by, IsFull, Ended}
-use Rattle.sk_page.specs.Tells.{TellsHit, IsUpper, Tells}
+use Rattle.sk_page.specs.Walks.{page_end, held_by, IsFull, HasEnded}
+use Rattle.sk_page.specs.Tells.{TellsHit, IsUpper, TellsReport}
 use Rattle.sk_page.proofs.ShownLaws.{Beside, shown_beside}
 use Rattle.sk_page.proofs.FrontLaws.{front_alike}
 use Rattle.sk_page.proofs.SharpLaws.{within_stop, within_rare, within_decay}
@@ -59,7 +59,7 @@ more_values (OrderBy.Value key) m n h = h
 more_values (OrderBy.ValueThenRelevance key) m n h = h
 more_values (OrderBy.RelevanceThenValue key) m n h = h
 
-module _ (query : Tree) (paging : Paging) (docs : Docs) (saw : List Rank) (end : Ended query paging docs saw) where
+module _ (query : Tree) (paging : Paging) (docs : Docs) (saw : List Rank) (end : HasEnded query paging docs saw) where
   abbrev key : Rank → List ℕ
   key = key_of paging.collapse docs
 
@@ -187,7 +187,7 @@ module _ (query : Tree) (paging : Paging) (docs : Docs) (saw : List Rank) (end :
     hits_told ranks hits h.1,
   )
 
-  pub told : (above : ℕ) (report : Report) → is_sound above query ≡ true → Tells query paging docs saw report → ReportsFor query paging docs report
+  pub told : (above : ℕ) (report : Report) → is_sound above query ≡ true → TellsReport query paging docs saw report → ReportsFor query paging docs report
   told above report sound tells =
       let n = numbers in
       let fewer : length saw ≤ length all = omega (arith, n.all_long) in

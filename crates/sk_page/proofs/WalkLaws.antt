@@ -17,8 +17,8 @@ use Rattle.sk_model.specs.Documents.{Document}
 use Rattle.sk_model.specs.Matches.{value_for, rank_of, matches, at_least, found_by}
 use Rattle.sk_model.specs.Scores.{score}
 use Rattle.sk_model.proofs.CoverLaws.{covers_then}
-use Rattle.sk_page.specs.Shown.{is_behind, Shown}
-use Rattle.sk_page.specs.Walks.{held_by, IsFull, IsPassed, IsNeed, Walk, Ended}
+use Rattle.sk_page.specs.Shown.{is_behind_page, Shown}
+use Rattle.sk_page.specs.Walks.{held_by, IsFull, IsBehindPage, IsNeed, Walk, HasEnded}
 use Rattle.sk_page.proofs.ShownLaws.{shown_same, shown_append, shown_weaker, shown_beside}
 
 -- ---- tests and lists
@@ -251,7 +251,7 @@ module _ (query : Tree) (paging : Paging) (docs : Docs) where
 
   module _ (give : ℕ → Option ℕ) (need : ℕ) (seen : List Rank) (walk : Walk query paging docs give need seen) where
     -- below the need nothing that is a match enters the page
-    passes : IsFull paging docs seen × ((r : Rank) → r.weight < need → walk.last < r.id → IsPassed paging docs seen r) → (r : Rank) → r.weight < need → paging.options.cutoff ≤ r.weight → walk.last < r.id → IsPassed paging docs seen r
+    passes : IsFull paging docs seen × ((r : Rank) → r.weight < need → walk.last < r.id → IsBehindPage paging docs seen r) → (r : Rank) → r.weight < need → paging.options.cutoff ≤ r.weight → walk.last < r.id → IsBehindPage paging docs seen r
     passes full r less most above = full.1 r less above
 
     -- the documents up to the head
@@ -295,12 +295,12 @@ module _ (query : Tree) (paging : Paging) (docs : Docs) where
           ∙ ap (λ rs. rs ++ (found_by query paging at.skipped ++ taken query paging at.one (scores query paging at.one))) (walk.exact low)
           ∙ ap (λ rs. seen ++ rs) (nothing_shown query paging (found_by query paging at.skipped ++ taken query paging at.one (scores query paging at.one)) more (between (λ _. false) (no_need query paging (λ _. false) walk.last need low)))
 
-      shown_on : (is : Rank → Bool) → IsNeed paging docs seen walk.last need → (IsFull paging docs seen → (r : Rank) → IsPassed paging docs seen r → is r ≡ true) → Shown is (found_by query paging up_to) (seen ++ more)
+      shown_on : (is : Rank → Bool) → IsNeed paging docs seen walk.last need → (IsFull paging docs seen → (r : Rank) → IsBehindPage paging docs seen r → is r ≡ true) → Shown is (found_by query paging up_to) (seen ++ more)
       shown_on is (inl low) keeps = subst (λ rs. Shown is rs (seen ++ more)) (sym (seen_exactly low)) (shown_same is (seen ++ more))
       shown_on is (inr full) keeps =
           subst (λ rs. Shown is rs (seen ++ more)) (sym found_up_to)
           (shown_append is (found_by query paging walk.before) seen (found_by query paging at.skipped ++ taken query paging at.one (scores query paging at.one)) more
-          (shown_weaker (is_behind paging.order (held_by paging docs seen)) is (keeps full.0) (found_by query paging walk.before) seen walk.shown)
+          (shown_weaker (is_behind_page paging.order (held_by paging docs seen)) is (keeps full.0) (found_by query paging walk.before) seen walk.shown)
           (between is (λ r less most above. keeps full.0 r (full.1 r less above))))
 
       enough : (length seen < wanted paging) ⊎ (wanted paging ≤ length seen)
@@ -316,7 +316,7 @@ module _ (query : Tree) (paging : Paging) (docs : Docs) where
       first_on : (length seen < wanted paging) ⊎ (wanted paging ≤ length seen) → take (wanted paging) (found_by query paging up_to) ≡ take (wanted paging) (seen ++ more)
       first_on (inl few) = ap (take (wanted paging)) (seen_exactly (walk.few few))
       first_on (inr many) =
-          let long = (shown_beside (is_behind paging.order (held_by paging docs seen)) (λ _. []) (λ _ _ _. refl) (found_by query paging walk.before) seen walk.shown).long in
+          let long = (shown_beside (is_behind_page paging.order (held_by paging docs seen)) (λ _. []) (λ _ _ _. refl) (found_by query paging walk.before) seen walk.shown).long in
           ap (take (wanted paging)) found_up_to
           ∙ take-append-le (wanted paging) (found_by query paging walk.before) (found_by query paging at.skipped ++ taken query paging at.one (scores query paging at.one)) (omega (arith, many, long))
           ∙ walk.first
@@ -375,7 +375,7 @@ module _ (query : Tree) (paging : Paging) (docs : Docs) where
         under_more false = tt
 
         walked_here : need ≤ need2
-            → (IsFull paging docs seen → (r : Rank) → IsPassed paging docs seen r → IsPassed paging docs (seen ++ more) r)
+            → (IsFull paging docs seen → (r : Rank) → IsBehindPage paging docs seen r → IsBehindPage paging docs (seen ++ more) r)
             → (length (seen ++ more) < wanted paging → need2 ≤ paging.options.cutoff)
             → IsNeed paging docs (seen ++ more) head need2
             → Walk query paging docs give2 need2 (seen ++ more)
@@ -384,7 +384,7 @@ module _ (query : Tree) (paging : Paging) (docs : Docs) where
           before = up_to;
           rest = at.later;
           split = splits;
-          shown = shown_on (is_behind paging.order (held_by paging docs (seen ++ more))) walk.right keeps;
+          shown = shown_on (is_behind_page paging.order (held_by paging docs (seen ++ more))) walk.right keeps;
           first = first_on enough;
           exact = λ low. seen_exactly (omega (arith, low, rise));
           few = few;
@@ -401,13 +401,13 @@ module _ (query : Tree) (paging : Paging) (docs : Docs) where
 
         -- it saw these, and stands at the head
         pub walked : (saw : List Rank) → seen ++ more ≡ saw → need ≤ need2
-            → (IsFull paging docs seen → (r : Rank) → IsPassed paging docs seen r → IsPassed paging docs saw r)
+            → (IsFull paging docs seen → (r : Rank) → IsBehindPage paging docs seen r → IsBehindPage paging docs saw r)
             → (length saw < wanted paging → need2 ≤ paging.options.cutoff)
             → IsNeed paging docs saw head need2
             → (walk2 : Walk query paging docs give2 need2 saw) × (walk2.last ≡ head)
         unfolding walked_here
         walked saw is = subst (λ (all : List Rank). need ≤ need2
-            → (IsFull paging docs seen → (r : Rank) → IsPassed paging docs seen r → IsPassed paging docs all r)
+            → (IsFull paging docs seen → (r : Rank) → IsBehindPage paging docs seen r → IsBehindPage paging docs all r)
             → (length all < wanted paging → need2 ≤ paging.options.cutoff)
             → IsNeed paging docs all head need2
             → (walk2 : Walk query paging docs give2 need2 all) × (walk2.last ≡ head)) is (λ rise keeps few right. (walked_here rise keeps few right, refl))
@@ -419,28 +419,28 @@ module _ (query : Tree) (paging : Paging) (docs : Docs) where
 
     -- where what is left is passed over
     end_with : (full : (paging.options.cutoff < need) → IsFull paging docs seen)
-        → Shown (is_behind paging.order (held_by paging docs seen)) (found_by query paging walk.rest) []
+        → Shown (is_behind_page paging.order (held_by paging docs seen)) (found_by query paging walk.rest) []
         → (need ≤ paging.options.cutoff → (found_by query paging walk.rest ≡ []) ⊎ (wanted paging ≤ length seen × IsFull paging docs seen))
-        → Ended query paging docs seen
+        → HasEnded query paging docs seen
     end_with full rest none = ends (nat_le need paging.options.cutoff) refl
       where
         all_of : List Rank
         all_of = found_by query paging walk.before ++ found_by query paging walk.rest
 
-        shown_all : Shown (is_behind paging.order (held_by paging docs seen)) (found_by query paging docs) seen
+        shown_all : Shown (is_behind_page paging.order (held_by paging docs seen)) (found_by query paging docs) seen
         shown_all =
-            subst (λ rs. Shown (is_behind paging.order (held_by paging docs seen)) rs seen) (sym whole)
-            (subst (Shown (is_behind paging.order (held_by paging docs seen)) all_of) (append-nil seen)
-            (shown_append (is_behind paging.order (held_by paging docs seen)) (found_by query paging walk.before) seen (found_by query paging walk.rest) [] walk.shown rest))
+            subst (λ rs. Shown (is_behind_page paging.order (held_by paging docs seen)) rs seen) (sym whole)
+            (subst (Shown (is_behind_page paging.order (held_by paging docs seen)) all_of) (append-nil seen)
+            (shown_append (is_behind_page paging.order (held_by paging docs seen)) (found_by query paging walk.before) seen (found_by query paging walk.rest) [] walk.shown rest))
 
         long_all : length seen ≤ length (found_by query paging docs)
         long_all =
-            let long = (shown_beside (is_behind paging.order (held_by paging docs seen)) (λ _. []) (λ _ _ _. refl) (found_by query paging docs) seen shown_all).long in
+            let long = (shown_beside (is_behind_page paging.order (held_by paging docs seen)) (λ _. []) (λ _ _ _. refl) (found_by query paging docs) seen shown_all).long in
             omega (arith, long)
 
         long_before : length seen ≤ length (found_by query paging walk.before)
         long_before =
-            let long = (shown_beside (is_behind paging.order (held_by paging docs seen)) (λ _. []) (λ _ _ _. refl) (found_by query paging walk.before) seen walk.shown).long in
+            let long = (shown_beside (is_behind_page paging.order (held_by paging docs seen)) (λ _. []) (λ _ _ _. refl) (found_by query paging walk.before) seen walk.shown).long in
             omega (arith, long)
 
         first_many : wanted paging ≤ length seen → take (wanted paging) (found_by query paging docs) ≡ take (wanted paging) seen
@@ -459,17 +459,17 @@ module _ (query : Tree) (paging : Paging) (docs : Docs) where
               | false ↦ λ e. let low = walk.few (leb-false (wanted paging) (length seen) e) in absurd (omega (arith, low, high))
             ] refl
 
-        all_there : found_by query paging docs ≡ seen → Ended query paging docs seen
+        all_there : found_by query paging docs ≡ seen → HasEnded query paging docs seen
         all_there same = record { shown = shown_all; first = ap (take (wanted paging)) same; full = inl same; exact = λ _. same }
 
-        some_there : wanted paging ≤ length seen → IsFull paging docs seen → Ended query paging docs seen
+        some_there : wanted paging ≤ length seen → IsFull paging docs seen → HasEnded query paging docs seen
         some_there many full = record { shown = shown_all; first = first_many many; full = inr full; exact = λ few. absurd (omega (arith, few, many, long_all)) }
 
-        either : need ≤ paging.options.cutoff → (found_by query paging walk.rest ≡ []) ⊎ (wanted paging ≤ length seen × IsFull paging docs seen) → Ended query paging docs seen
+        either : need ≤ paging.options.cutoff → (found_by query paging walk.rest ≡ []) ⊎ (wanted paging ≤ length seen × IsFull paging docs seen) → HasEnded query paging docs seen
         either low (inl none) = all_there (all_exactly low none)
         either low (inr both) = some_there both.0 both.1
 
-        ends : (b : Bool) → nat_le need paging.options.cutoff ≡ b → Ended query paging docs seen
+        ends : (b : Bool) → nat_le need paging.options.cutoff ≡ b → HasEnded query paging docs seen
         ends true e = let low = leb-true need paging.options.cutoff e in either low (none low)
         ends false e = let high = leb-false need paging.options.cutoff e in some_there (many_of high) (full high)
 
@@ -477,7 +477,7 @@ module _ (query : Tree) (paging : Paging) (docs : Docs) where
     full_of (inl low) high = absurd (omega (arith, low, high))
     full_of (inr full) high = full.0
 
-    passes_of : IsNeed paging docs seen walk.last need → (r : Rank) → r.weight < need → paging.options.cutoff ≤ r.weight → walk.last < r.id → is_behind paging.order (held_by paging docs seen) r ≡ true
+    passes_of : IsNeed paging docs seen walk.last need → (r : Rank) → r.weight < need → paging.options.cutoff ≤ r.weight → walk.last < r.id → is_behind_page paging.order (held_by paging docs seen) r ≡ true
     passes_of (inl low) r less most above = absurd (omega (arith, low, less, most))
     passes_of (inr full) r less most above = full.1 r less above
 
@@ -495,10 +495,10 @@ module _ (query : Tree) (paging : Paging) (docs : Docs) where
         (passed query paging (λ _. false) give walk.last need walk.rest (no_need query paging (λ _. false) walk.last need low)
         (above_all walk.last walk.rest (omega arith) walk.rises) (quiet_rest none) walk.covers)
 
-    pub ended_at_end : weighed give docs ≡ [] → Ended query paging docs seen
+    pub ended_at_end : weighed give docs ≡ [] → HasEnded query paging docs seen
     ended_at_end none =
         end_with (full_of walk.right)
-        (passed query paging (is_behind paging.order (held_by paging docs seen)) give walk.last need walk.rest (passes_of walk.right)
+        (passed query paging (is_behind_page paging.order (held_by paging docs seen)) give walk.last need walk.rest (passes_of walk.right)
         (above_all walk.last walk.rest (omega arith) walk.rises) (quiet_rest none) walk.covers)
         (λ low. inl (rest_exactly none low))
 
@@ -537,10 +537,10 @@ module _ (query : Tree) (paging : Paging) (docs : Docs) where
             (shown_append is (taken query paging d (scores query paging d)) [] (found_by query paging ds) [] (taken_any d (scores query paging d) above.0 covers.0) (all_under ds above.1 covers.1))
 
       -- nothing can weigh as much as the cutoff
-      pub ended_below : ceiling < paging.options.cutoff → Ended query paging docs seen
+      pub ended_below : ceiling < paging.options.cutoff → HasEnded query paging docs seen
       ended_below low =
           end_with (full_of walk.right)
-          (all_under (is_behind paging.order (held_by paging docs seen)) (passes_of walk.right) (λ r at cut above. absurd (omega (arith, low, at, cut)))
+          (all_under (is_behind_page paging.order (held_by paging docs seen)) (passes_of walk.right) (λ r at cut above. absurd (omega (arith, low, at, cut)))
           walk.rest (above_all walk.last walk.rest (omega arith) walk.rises) walk.covers)
           (λ free. inl (nothing_shown query paging (found_by query paging walk.rest) []
           (all_under (λ _. false) (no_need query paging (λ _. false) walk.last need free) (λ r at cut above. absurd (omega (arith, low, at, cut)))
@@ -558,9 +558,9 @@ module _ (query : Tree) (paging : Paging) (docs : Docs) where
           ∙ walk.exact free
 
       -- enough was seen, and nothing can enter the page
-      pub ended_settled : wanted paging ≤ length seen → IsFull paging docs seen → ((r : Rank) → r.weight ≤ ceiling → walk.last < r.id → IsPassed paging docs seen r) → Ended query paging docs seen
+      pub ended_settled : wanted paging ≤ length seen → IsFull paging docs seen → ((r : Rank) → r.weight ≤ ceiling → walk.last < r.id → IsBehindPage paging docs seen r) → HasEnded query paging docs seen
       ended_settled many full under =
           end_with (full_of walk.right)
-          (all_under (is_behind paging.order (held_by paging docs seen)) (passes_of walk.right) (λ r at cut above. under r at above)
+          (all_under (is_behind_page paging.order (held_by paging docs seen)) (passes_of walk.right) (λ r at cut above. under r at above)
           walk.rest (above_all walk.last walk.rest (omega arith) walk.rises) walk.covers)
           (λ free. inr (many, full))

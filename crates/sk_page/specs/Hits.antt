@@ -12,14 +12,14 @@ use Rattle.sk_heap.specs.declared.hit.Hit.{Hit}
 use Rattle.sk_collapse.specs.Collapsed.{Collapsed, group_of}
 
 -- The value of a document in a slot, and the empty one where it is not there.
-abbrev pub value_there : ℕ → Option Document → List ℕ
-value_there slot None = []
-value_there slot (Some document) = value_in slot document.values
+abbrev pub value_in_slot : ℕ → Option Document → List ℕ
+value_in_slot slot None = []
+value_in_slot slot (Some document) = value_in slot document.values
 
 -- The value that an order reads of a document, and the empty one where it is not there.
-abbrev pub value_at : OrderBy → Option Document → List ℕ
-value_at by None = []
-value_at by (Some document) = value_by by document
+abbrev pub value_in_order : OrderBy → Option Document → List ℕ
+value_in_order by None = []
+value_in_order by (Some document) = value_by by document
 
 -- How many of a key are dropped: none where nothing is collapsed.
 abbrev pub dropped_of : Option Collapsed → List ℕ → ℕ

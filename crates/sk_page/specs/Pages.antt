@@ -10,7 +10,7 @@ use Rattle.sk_base.specs.Numbers.{Docs}
 use Rattle.sk_model.specs.Matches.{key_of}
 use Rattle.sk_model.specs.Page.{best_first}
 use Rattle.sk_heap.specs.declared.hit.Hit.{Hit}
-use Rattle.sk_heap.specs.Held.{Held, ranks_of, offered, without}
+use Rattle.sk_heap.specs.Held.{Held, ranks_of, offered, without_hit}
 use Rattle.sk_collapse.specs.Collapsed.{Collapsed, Knows}
 use Rattle.sk_collapse.specs.Verdicts.{KnowsMore}
 use Rattle.sk_collapse.specs.declared.verdict.Verdict.{Verdict}
@@ -24,10 +24,10 @@ CollapsesBy (Some collapse) order key ranks None = ⊥
 CollapsesBy (Some collapse) order key ranks (Some c) = (c.order ≡ order) × (c.most ≡ collapse.max) × Knows c key ranks
 
 -- What a heap holds after a match was judged.
-abbrev pub judged : Verdict → Hit → Held → Held
-judged Verdict.Keep hit held = offered hit held
-judged (Verdict.KeepFor id) hit held = offered hit (without id held)
-judged Verdict.Drop hit held = held
+abbrev pub held_by_verdict : Verdict → Hit → Held → Held
+held_by_verdict Verdict.Keep hit held = offered hit held
+held_by_verdict (Verdict.KeepFor id) hit held = offered hit (without_hit id held)
+held_by_verdict Verdict.Drop hit held = held
 
 -- What a collapser made of a match, if there is one: it knows the match too, and its verdict is what became of the kept ones.
 abbrev pub SeesBy : Option Collapsed → Option Collapsed → Verdict → Hit → Type 0
@@ -39,7 +39,7 @@ SeesBy (Some c) (Some d) verdict hit = (d.order ≡ c.order) × (d.most ≡ c.mo
 -- A match was offered to a heap, as the collapser judged.
 pub record Offers (held held2 : Held) (c c2 : Option Collapsed) (hit : Hit) : Type 0 where
   pub verdict : Verdict
-  pub heap : held2 ≡ judged verdict hit held
+  pub heap : held2 ≡ held_by_verdict verdict hit held
   pub sees : SeesBy c c2 verdict hit
 
 -- Of the matches that were seen, none behind this id, the heap holds the kept ones up to the end of the page, each with its key.

@@ -7,8 +7,8 @@ use Rattle.sk_base.specs.declared.rank.Order.{Order}
 use Rattle.sk_base.specs.Before.{is_before}
 
 -- Each of these comes before the match.
-abbrev pub is_behind : Order → List Rank → Rank → Bool
-is_behind order held r = list_all (λ h. is_before order h r) held
+abbrev pub is_behind_page : Order → List Rank → Rank → Bool
+is_behind_page order held r = list_all (λ h. is_before order h r) held
 
 -- The second list is what was seen of the first, in order: what was passed over is behind, and what was seen with another weight is so with either.
 abbrev pub Shown : (Rank → Bool) → List Rank → List Rank → Type 0

@@ -41,7 +41,7 @@ pub record IsSpent (query : Tree) (paging : Paging) (docs : Docs) (spent : ℕ) 
       → (spent ≤ decay_readings a b (decay_point query (term b) paging docs) docs 0) × (spent ≤ decay_readings b a (decay_point query (term a) paging docs) docs 0)
 
 -- The report of a search that saw these matches: the page of them, what they say of the number of all, and the readings: of lists, of keys and values, and of payloads.
-pub record Tells (query : Tree) (paging : Paging) (docs : Docs) (seen : List Rank) (report : Report) : Type 0 where
+pub record TellsReport (query : Tree) (paging : Paging) (docs : Docs) (seen : List Rank) (report : Report) : Type 0 where
   pub hits : AllZip (TellsHit paging docs seen) (drop paging.options.first (held_by paging docs seen)) report.hits
   pub lower : report.lower ≡ length (kept_by paging docs seen)
   pub upper : IsUpper query paging docs seen report.upper

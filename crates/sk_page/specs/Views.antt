@@ -16,12 +16,12 @@ use Rattle.sk_collapse.specs.Collapsed.{group_of}
 use Rattle.sk_page.specs.Walks.{page_end, Walk}
 use Rattle.sk_page.specs.Pages.{CollapsesBy, Offers, Pages}
 use Rattle.sk_page.specs.Calm.{IsCalm}
-use Rattle.sk_page.specs.Hits.{value_at, ranked_of, kept_count}
+use Rattle.sk_page.specs.Hits.{value_in_order, ranked_of, kept_count}
 use Rattle.sk_page.specs.declared.page.Page.{Page}
 use Rattle.sk_page.specs.declared.page.Bounds.{Bounds}
 
 -- A page of this find that saw nothing.
-pub record Opens (paging : Paging) (page : Page) : Type 0 where
+pub record OpensPage (paging : Paging) (page : Page) : Type 0 where
   pub options : page.options ≡ paging.options
   pub order : page.order ≡ paging.order
   pub collapse : page.collapse ≡ paging.collapse
@@ -55,7 +55,7 @@ pub record MaySee (page : Page) (id weight : ℕ) : Type 0 where
 -- It saw a document with this weight: as a hit with its value and its key it was offered to the heap.
 pub record Sees (docs : Docs) (id weight : ℕ) (old new : Page) : Type 0 where
   pub hit : Hit
-  pub rank : hit.rank ≡ record { weight = weight; value = value_at old.order.by (document_at id docs); id = id }
+  pub rank : hit.rank ≡ record { weight = weight; value = value_in_order old.order.by (document_at id docs); id = id }
   pub key : hit.key ≡ key_for old.collapse (document_at id docs)
   pub offers : Offers old.heap new.heap old.collapser new.collapser hit
   pub seen : new.seen ≡ old.seen + 1

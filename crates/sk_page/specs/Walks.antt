@@ -11,7 +11,7 @@ use Rattle.sk_model.specs.Covers.{CoversAt}
 use Rattle.sk_model.specs.Counts.{wanted, kept_by}
 use Rattle.sk_model.specs.Matches.{found_by}
 use Rattle.sk_model.specs.Scores.{score}
-use Rattle.sk_page.specs.Shown.{is_behind, Shown}
+use Rattle.sk_page.specs.Shown.{is_behind_page, Shown}
 
 -- How many of the kept matches a page needs, with those before it.
 abbrev pub page_end : Paging → ℕ
@@ -26,13 +26,13 @@ abbrev pub IsFull : Paging → Docs → List Rank → Type 0
 IsFull paging docs seen = page_end paging ≤ length (kept_by paging docs seen)
 
 -- Each match up to the end of the page comes before this one.
-abbrev pub IsPassed : Paging → Docs → List Rank → Rank → Type 0
-IsPassed paging docs seen r = is_behind paging.order (held_by paging docs seen) r ≡ true
+abbrev pub IsBehindPage : Paging → Docs → List Rank → Rank → Type 0
+IsBehindPage paging docs seen r = is_behind_page paging.order (held_by paging docs seen) r ≡ true
 
 -- Behind this id, what weighs less than the need is no match, or comes behind the page.
 abbrev pub IsNeed : Paging → Docs → List Rank → ℕ → ℕ → Type 0
 IsNeed paging docs seen last need =
-    (need ≤ paging.options.cutoff) ⊎ (IsFull paging docs seen × ((r : Rank) → r.weight < need → last < r.id → IsPassed paging docs seen r))
+    (need ≤ paging.options.cutoff) ⊎ (IsFull paging docs seen × ((r : Rank) → r.weight < need → last < r.id → IsBehindPage paging docs seen r))
 
 -- A search saw these matches among the documents up to an id; behind it, what it is still given covers what the query scores, under the need.
 pub record Walk (query : Tree) (paging : Paging) (docs : Docs) (give : ℕ → Option ℕ) (need : ℕ) (seen : List Rank) : Type 0 where
@@ -40,7 +40,7 @@ pub record Walk (query : Tree) (paging : Paging) (docs : Docs) (give : ℕ → O
   pub before : Docs
   pub rest : Docs
   pub split : docs ≡ before ++ rest
-  pub shown : Shown (is_behind paging.order (held_by paging docs seen)) (found_by query paging before) seen
+  pub shown : Shown (is_behind_page paging.order (held_by paging docs seen)) (found_by query paging before) seen
   pub first : take (wanted paging) (found_by query paging before) ≡ take (wanted paging) seen
   pub exact : need ≤ paging.options.cutoff → found_by query paging before ≡ seen
   pub few : length seen < wanted paging → need ≤ paging.options.cutoff
@@ -52,8 +52,8 @@ pub record Walk (query : Tree) (paging : Paging) (docs : Docs) (give : ℕ → O
   pub right : IsNeed paging docs seen last need
 
 -- What a search is sure of at its end: what it did not see, or not as it is, comes behind the page; it saw the first matches, and all where there are fewer than it wanted to see.
-pub record Ended (query : Tree) (paging : Paging) (docs : Docs) (seen : List Rank) : Type 0 where
-  pub shown : Shown (is_behind paging.order (held_by paging docs seen)) (found_by query paging docs) seen
+pub record HasEnded (query : Tree) (paging : Paging) (docs : Docs) (seen : List Rank) : Type 0 where
+  pub shown : Shown (is_behind_page paging.order (held_by paging docs seen)) (found_by query paging docs) seen
   pub first : take (wanted paging) (found_by query paging docs) ≡ take (wanted paging) seen
   pub full : (found_by query paging docs ≡ seen) ⊎ IsFull paging docs seen
   pub exact : length (found_by query paging docs) < wanted paging → found_by query paging docs ≡ seen

@@ -7,7 +7,7 @@ ghost use Rattle.sk_model.specs.Allowance.{key_readings, value_readings};
 ghost use Rattle.sk_page.specs.Hits.{kept_count};
 ghost use Rattle.sk_page.specs.Needs.{is_settled, is_whole, need_for, wanted_by};
 ghost use Rattle.sk_page.specs.Pages.{CollapsesBy};
-ghost use Rattle.sk_page.specs.Views.{Opens, MaySee, Sees, MayReport, Reports};
+ghost use Rattle.sk_page.specs.Views.{OpensPage, MaySee, Sees, MayReport, Reports};
 
 use crate::hits::hits_of;
 use crate::offer::show;
@@ -47,7 +47,7 @@ impl Page {
     /// A page that saw nothing. It has all the room for hits that it ever needs.
     pub fn open(alloc: Global, paging: &Paging) -> Result<Page, AllocError>
         requires { FitsPaging paging.now }
-        ensures { IfOk result (Opens paging.now) }
+        ensures { IfOk result (OpensPage paging.now) }
     {
         let options = paging.options;
         Ok(Page {

@@ -5,7 +5,7 @@ ghost use Rattle.sk_base.specs.Numbers.{Docs};
 ghost use Rattle.sk_model.specs.Allowance.{key_readings, value_readings};
 ghost use Rattle.sk_model.specs.Edits.{document_at};
 ghost use Rattle.sk_model.specs.Matches.{key_for};
-ghost use Rattle.sk_page.specs.Hits.{value_there, value_at};
+ghost use Rattle.sk_page.specs.Hits.{value_in_slot, value_in_order};
 
 use sk_base::{Collapse, DocId, OrderBy};
 use sk_steps::Steps;
@@ -18,7 +18,7 @@ pub trait Reader {
 
     /// The document's value in the slot, empty where it has none.
     fn value<L: Ledger>(&self, slot: u32, id: DocId, steps: &mut Steps<L>) -> &[u8]
-        ensures value { result.now ≡ value_there slot (document_at id (documents self.now)) }
+        ensures value { result.now ≡ value_in_slot slot (document_at id (documents self.now)) }
         ensures cost { steps.new ≡ steps.old + 1 };
 
     /// The document's payload, none where it is not live.
@@ -34,7 +34,7 @@ pub(crate) fn value_of<'a, R: Reader, L: Ledger>(
     id: DocId,
     steps: &mut Steps<L>,
 ) -> &'a [u8]
-    ensures value { result.now ≡ value_at by (document_at id (R.documents reader.now)) }
+    ensures value { result.now ≡ value_in_order by (document_at id (R.documents reader.now)) }
     ensures cost { steps.new ≡ steps.old + value_readings by 1 }
 {
     let key = match by {

@@ -8,7 +8,7 @@ use Rattle.sk_grammar.specs.declared.token.Kind.{Kind}
 use Rattle.sk_grammar.specs.declared.token.Token.{Token}
 use Rattle.sk_grammar.specs.Brackets.{no_nests}
 use Rattle.sk_grammar.specs.Faults.{is_stray, is_unclosed, lacks_operand, is_bad_near, is_bad_range, fault_at, fault_behind, kinds_of}
-use Rattle.sk_parser.specs.Sound.{AreSound}
+use Rattle.sk_parser.specs.Sound.{HaveSoundRanges}
 use Rattle.sk_parser.specs.Stack.{Inside, finished}
 
 range_sound : (schema : Schema) (before : List Kind) (k : Kind) (behind : List Kind) → fault_at schema before k behind ≡ None → is_bad_range schema k ≡ false
@@ -20,7 +20,7 @@ range_sound schema before k behind e =
     (past (is_bad_range schema k) FaultKind.BadRange _ d.1).0
 
 -- Tokens without a fault have no range that can't be read.
-pub sound_of : (schema : Schema) (before : List Kind) (ts : List Token) → fault_behind schema before ts ≡ None → AreSound schema ts
+pub sound_of : (schema : Schema) (before : List Kind) (ts : List Token) → fault_behind schema before ts ≡ None → HaveSoundRanges schema ts
 sound_of schema before [] e = tt
 sound_of schema before (t ∷ ts) e =
     let parts = or_none (fault_at schema before (Token.kind t) (kinds_of ts)) (Token.from t) (fault_behind schema (Token.kind t ∷ before) ts) e in

@@ -4,7 +4,7 @@ use Rattle.sk_grammar.specs.declared.token.Kind.{Kind}
 use Rattle.sk_grammar.specs.Parts.{Part, operator}
 use Rattle.sk_grammar.specs.Faults.{is_not}
 use Rattle.sk_grammar.specs.Runs.{Unit, unit_of, mark_behind, units}
-use Rattle.sk_grammar.specs.Meaning.{is_and, at, in_front, split, Run, in_run, runs, runs_in}
+use Rattle.sk_grammar.specs.Meaning.{is_and, at, in_front, split, Run, in_run, runs, xor_runs}
 use Rattle.sk_parser.specs.Views.{run_of}
 use Rattle.sk_grammar.specs.declared.token.Mark.{Mark}
 
@@ -71,7 +71,7 @@ run_lists : (made : List Run) (run : Run) (R : List Run) → made ++ (run ∷ R)
 run_lists made run R = sym (simp append_assoc)
 
 abbrev pub RunsSoFar : List Part → List Run → List Part → Bool → Bool → List Part → Type 0
-RunsSoFar all made held fresh negative rest = made ++ put_run held (runs fresh negative rest) ≡ runs_in all
+RunsSoFar all made held fresh negative rest = made ++ put_run held (runs fresh negative rest) ≡ xor_runs all
 
 -- A run that ends.
 ended : (made : List Run) (held : List Part) (negative : Bool) (R : List Run) → (made ++ run_of negative held ∷ []) ++ put_run [] R ≡ made ++ put_run held (run_of negative [] ∷ R)
@@ -118,7 +118,7 @@ runs_more all made held fresh negative p rest e f h =
     ap (λ R. made ++ R) (sym (run_more held p (runs false negative rest))) ∙ ap (λ (d : Bool). made ++ put_run held (next_runs false d fresh negative p rest)) (sym f)
     ∙ ap (λ (b : Bool). made ++ put_run held (next_runs b (at is_and p) fresh negative p rest)) (sym e) ∙ h
 
-pub runs_end : (all : List Part) (made : List Run) (held : List Part) (fresh negative : Bool) → RunsSoFar all made held fresh negative [] → made ++ run_of negative held ∷ [] ≡ runs_in all
+pub runs_end : (all : List Part) (made : List Run) (held : List Part) (fresh negative : Bool) → RunsSoFar all made held fresh negative [] → made ++ run_of negative held ∷ [] ≡ xor_runs all
 runs_end all made held fresh negative h = ap (λ xs. made ++ run_of negative xs ∷ []) (sym (append-nil held)) ∙ h
 
 -- The units of a part more.

@@ -5,7 +5,7 @@ use Rattle.std.proofs.lemmas.List.{length-reverse, reverse-reverse}
 use Rattle.sk_base.specs.declared.find.Join.{Join}
 use Rattle.sk_query.specs.Trees.{Tree}
 use Rattle.sk_grammar.specs.Parts.{Part, unit}
-use Rattle.sk_grammar.specs.Runs.{Unit, is_hated, queries_of, base_of, groups_after, filtered, without, units_tree, run_tree}
+use Rattle.sk_grammar.specs.Runs.{Unit, is_hated, queries_of, base_of, groups_after, filtered, excluding, units_tree, run_tree}
 use Rattle.sk_grammar.specs.Meaning.{Run, run_trees, parts_tree, closed_part}
 use Rattle.sk_parser.specs.Base.{leads, follows, base_from}
 
@@ -39,7 +39,7 @@ base_is Join.And us = refl
 
 -- Units that are there.
 pub units_some : (join : Join) (us : List Unit) → (length us == 0) ≡ false
-    → without (filtered (base_of join us) (groups_after [] us)) (queries_of is_hated us) ≡ units_tree join us
+    → excluding (filtered (base_of join us) (groups_after [] us)) (queries_of is_hated us) ≡ units_tree join us
 units_some join [] e = absurd (cc)
 units_some join (u ∷ us) e = refl
 

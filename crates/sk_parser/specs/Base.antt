@@ -3,7 +3,7 @@ use Rattle.std.specs.Prelude.{Bool, false, List}
 use Rattle.sk_base.specs.declared.find.Join.{Join}
 use Rattle.sk_query.specs.Trees.{Tree}
 use Rattle.sk_grammar.specs.declared.token.Mark.{Mark}
-use Rattle.sk_grammar.specs.Runs.{Unit, loves, is_loved, is_plain, is_wanted, loved_and_plain, all_of}
+use Rattle.sk_grammar.specs.Runs.{Unit, loves, is_loved, is_optional, is_wanted, loved_and_plain, all_of}
 
 -- A mark that puts a unit before the plain ones: it counts only where a document need not have all.
 abbrev pub leads_mark : Join → Mark → Bool
@@ -16,7 +16,7 @@ leads Join.Or = is_loved
 leads Join.And = λ u. false
 
 abbrev pub follows : Join → Unit → Bool
-follows Join.Or = is_plain
+follows Join.Or = is_optional
 follows Join.And = is_wanted
 
 -- The query of both.

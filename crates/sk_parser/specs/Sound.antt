@@ -10,9 +10,9 @@ use Rattle.sk_grammar.specs.Meaning.{nest_parts}
 use Rattle.sk_grammar.specs.Parts.{Part, chained}
 
 -- No range has a bound that can't be read.
-abbrev pub AreSound : Schema → List Token → Type 0
-AreSound schema [] = Unit {0}
-AreSound schema (t ∷ ts) = (is_bad_range schema (Token.kind t) ≡ false) × AreSound schema ts
+abbrev pub HaveSoundRanges : Schema → List Token → Type 0
+HaveSoundRanges schema [] = Unit {0}
+HaveSoundRanges schema (t ∷ ts) = (is_bad_range schema (Token.kind t) ≡ false) × HaveSoundRanges schema ts
 
 -- The parts of tokens outside all brackets, the last of which stands first.
 abbrev pub outside_of : Schema → Join → List Kind → List Part

@@ -7,7 +7,7 @@ use Rattle.sk_grammar.specs.declared.token.Kind.{Kind}
 use Rattle.sk_grammar.specs.Parts.{chain, unit, chosen, empty, link, operator}
 use Rattle.sk_grammar.specs.Bounds.{halves}
 use Rattle.sk_grammar.specs.Parts.{Part as PartMeant, limit_in, slot_of}
-use Rattle.sk_grammar.specs.Runs.{Unit as UnitMeant, Group as GroupMeant, added}
+use Rattle.sk_grammar.specs.Runs.{Unit as UnitMeant, FilterGroup as GroupMeant, added}
 use Rattle.sk_grammar.specs.Meaning.{Run as RunMeant, is_or, is_xor}
 use Rattle.sk_parser.specs.declared.part.Part.{Part}
 use Rattle.sk_parser.specs.declared.unit.Unit.{Unit}

@@ -2,9 +2,9 @@
 ghost use Rattle.std.specs.Prelude.{◌≡◌, ◌∷◌, List, IfOk, map, option_map};
 ghost use Rattle.sk_query.specs.Trees.{query_view};
 ghost use Rattle.sk_query.specs.declared.form.Form.TheVariants as Form;
-ghost use Rattle.sk_grammar.specs.Runs.{joined, without, added, filtered, group_tree};
+ghost use Rattle.sk_grammar.specs.Runs.{joined, excluding, added, filtered, group_tree};
 ghost use Rattle.sk_parser.specs.Views.{group_view, added_or};
-ghost use Rattle.sk_grammar.specs.Runs.{Group as GroupMeant};
+ghost use Rattle.sk_grammar.specs.Runs.{FilterGroup as GroupMeant};
 
 use sk_query::{Form, Queries, Query};
 use std::alloc::{AllocError, Global};
@@ -31,7 +31,7 @@ pub(crate) fn joined(form: Form, queries: Queries) -> Query
 
 /// A query with others taken away, if there are any.
 pub(crate) fn without(base: Query, others: Queries) -> Result<Query, AllocError>
-    ensures { IfOk result (λ q. query_view q ≡ without (query_view base) (map query_view others.items)) }
+    ensures { IfOk result (λ q. query_view q ≡ excluding (query_view base) (map query_view others.items)) }
 {
     if others.is_empty() {
         return Ok(base);

@@ -4,7 +4,7 @@ ghost use Rattle.sk_base.specs.declared.schema.Schema.{Schema};
 ghost use Rattle.sk_query.specs.Trees.{query_view};
 ghost use Rattle.sk_grammar.specs.Faults.{kinds_of};
 ghost use Rattle.sk_grammar.specs.Meaning.{parts_tree, tree_in};
-ghost use Rattle.sk_parser.specs.Sound.{AreSound, nothing_behind};
+ghost use Rattle.sk_parser.specs.Sound.{HaveSoundRanges, nothing_behind};
 ghost use Rattle.sk_parser.specs.Stack.{ends_as};
 
 use crate::stack::{Level, Stack, close, is_stray, step};
@@ -32,7 +32,7 @@ pub(crate) fn tree_in(
     join: Join,
     tokens: &[Token],
 ) -> Result<Query, AllocError>
-    requires { AreSound schema.now tokens.now }
+    requires { HaveSoundRanges schema.now tokens.now }
     ensures { IfOk result (λ q. query_view q ≡ tree_in schema.now join (kinds_of tokens.now)) }
 {
     let mut stack = Stack {

@@ -1,6 +1,6 @@
 //! Splits parts at their operators.
 ghost use Rattle.std.specs.Prelude.{◌≡◌, [], ◌∷◌, ◌++◌, IfOk, OnOk, map};
-ghost use Rattle.sk_grammar.specs.Meaning.{is_and, is_or, is_xor, at, split, runs, runs_in};
+ghost use Rattle.sk_grammar.specs.Meaning.{is_and, is_or, is_xor, at, split, runs, xor_runs};
 ghost use Rattle.sk_grammar.specs.Faults.{is_not};
 ghost use Rattle.sk_parser.specs.Views.{part_view, parts_view, run_view, run_of, border_test, segments_view};
 
@@ -84,7 +84,7 @@ fn close(
 
 /// The runs between AND and NOT.
 pub(crate) fn runs_in(alloc: Global, parts: Vec<Part>) -> Result<Vec<Run>, AllocError>
-    ensures { IfOk result (λ v. map run_view v.items ≡ runs_in (parts_view parts.items)) }
+    ensures { IfOk result (λ v. map run_view v.items ≡ xor_runs (parts_view parts.items)) }
 {
     let mut made = Vec::new(alloc);
     let mut held = Vec::new(alloc);

@@ -1,11 +1,8 @@
 -- Which query trees fit.
 use Rattle.std.specs.Prelude.{ℕ, ◌+◌, ◌*◌, ◌&&◌, max, nat_le, nat_lt, not, Bool, true, false, if◌then◌else◌, List, [], ◌∷◌, length, Option, Some, None, bytes_eq}
 use Rattle.std.specs.List.{list_all, list_any}
+use Rattle.sk_base.specs.Terms.{is_given}
 use Rattle.sk_query.specs.Trees.{Tree, nothing, all, term, wildcard, parts, near, phrase, synonym, scale, range, Trees, no_trees, tree}
-
--- A string that is not empty.
-abbrev pub is_given : List ℕ → Bool
-is_given text = nat_lt 0 (length text)
 
 -- At least one string, and none empty.
 abbrev pub are_given : List (List ℕ) → Bool

@@ -3,7 +3,8 @@ ghost use Rattle.std.specs.Prelude.{◌≡◌, ◌&&◌, nat_le, bytes_eq};
 ghost use Rattle.std.specs.List.{list_all, list_any};
 ghost use Rattle.sk_base.specs.Rooms.{room_behind};
 ghost use Rattle.sk_query.specs.Trees.{query_view, queries_view};
-ghost use Rattle.sk_query.specs.Fits.{fits_tree, is_given, are_given, are_different, is_window, is_factor, is_slot, product_of, has_parts, is_sound, are_sound, leaves_of, leaves_in, depth_of, depth_in};
+ghost use Rattle.sk_query.specs.Fits.{fits_tree, are_given, are_different, is_window, is_factor, is_slot, product_of, has_parts, is_sound, are_sound, leaves_of, leaves_in, depth_of, depth_in};
+ghost use Rattle.sk_base.specs.Terms.{is_given};
 
 use crate::Query;
 use sk_base::{MOST_LEAVES, Text};

@@ -9,7 +9,7 @@ use Rattle.sk_query.specs.declared.form.Form.{Form}
 use Rattle.sk_query.specs.Trees.{Limit, unbounded, Tree, nothing, all, term, wildcard, parts, near, phrase, synonym, scale, range, Trees, no_trees, tree, name_of}
 use Rattle.sk_query.specs.Trees.{number as number_limit, bytes as bytes_limit}
 use Rattle.sk_query.specs.Fits.{is_window, is_factor, is_slot, is_sound, are_sound, depth_of, depth_in, fits_tree}
-use Rattle.sk_query_json.specs.Reading.{number_if, windowed, limit_of_value, parts_named, read_tree, read_named, read_trees, fitting, tree_of}
+use Rattle.sk_query_json.specs.Reading.{number_if, window_and_texts, limit_of_value, parts_named, read_tree, read_named, read_trees, fitting, tree_of}
 use Rattle.sk_query_json.specs.Writing.{strings_of, json_of_limit, json_of, values_of}
 
 pub form_named : (form : Form) → parts_named (name_of form) ≡ Some form
@@ -37,7 +37,7 @@ pair : {A B C : Type 0} (f : A → B → C) (x : A) (y : B) (o : Option A) (p : 
     → option_and_then (λ a. option_map (f a) p) o ≡ Some (f x y)
 pair f x y o p e h = λ i. option_and_then (λ a. option_map (f a) (h i)) (e i)
 
-window_back : (w : ℕ) (texts : List (List ℕ)) → is_window w ≡ true → windowed (item (number (unsigned w)) (strings_of texts)) ≡ Some (w, texts)
+window_back : (w : ℕ) (texts : List (List ℕ)) → is_window w ≡ true → window_and_texts (item (number (unsigned w)) (strings_of texts)) ≡ Some (w, texts)
 window_back w texts h = pair {C = ℕ × List (List ℕ)} (λ a b. (a, b)) w texts _ _ (number_back is_window w h) (texts_back texts)
 
 parts_back : (form : Form) (ts : Trees) → read_trees (values_of ts) ≡ Some ts → read_tree (json_of (parts form ts)) ≡ Some (parts form ts)

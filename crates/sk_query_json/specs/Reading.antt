@@ -14,9 +14,9 @@ abbrev pub number_if : (ℕ → Bool) → Data → Option ℕ
 number_if test d = option_and_then (λ n. if test n then Some n else None) (whole_number d)
 
 -- A window and strings.
-abbrev pub windowed : Items → Option (ℕ × List (List ℕ))
-windowed no_items = None
-windowed (item w ds) = option_and_then (λ window. option_map (λ texts. (window, texts)) (texts_of ds)) (number_if is_window w)
+abbrev pub window_and_texts : Items → Option (ℕ × List (List ℕ))
+window_and_texts no_items = None
+window_and_texts (item w ds) = option_and_then (λ window. option_map (λ texts. (window, texts)) (texts_of ds)) (number_if is_window w)
 
 -- An end of a range: null, a number of 64 bits, or a string.
 abbrev pub limit_of_value : Data → Option Limit
@@ -50,8 +50,8 @@ empty_named name =
 -- The forms that an array of numbers, strings and ends makes.
 abbrev pub filled_named : List ℕ → Items → Option Tree
 filled_named name ds =
-    if bytes_eq name (codes "near") then option_map (λ p. near p.0 p.1) (windowed ds)
-    else (if bytes_eq name (codes "phrase") then option_map (λ p. phrase p.0 p.1) (windowed ds)
+    if bytes_eq name (codes "near") then option_map (λ p. near p.0 p.1) (window_and_texts ds)
+    else (if bytes_eq name (codes "phrase") then option_map (λ p. phrase p.0 p.1) (window_and_texts ds)
     else (if bytes_eq name (codes "synonym") then option_map synonym (texts_of ds)
     else (if bytes_eq name (codes "range") then range_of ds
     else None)))

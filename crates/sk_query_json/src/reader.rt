@@ -8,7 +8,7 @@ ghost use Rattle.serde_json.specs.View.{view, items_view, members_view};
 ghost use Rattle.sk_json.specs.Values.{texts_of};
 ghost use Rattle.sk_query.specs.Trees.{limit_of, query_view, queries_view};
 ghost use Rattle.sk_query.specs.Fits.{is_window, is_factor, is_slot, fits_tree};
-ghost use Rattle.sk_query_json.specs.Reading.{number_if, windowed, limit_of_value, range_of, string_named, empty_named, filled_named, leaf_named, parts_named, read_tree, read_member, read_named, scaled, read_trees, tree_of};
+ghost use Rattle.sk_query_json.specs.Reading.{number_if, window_and_texts, limit_of_value, range_of, string_named, empty_named, filled_named, leaf_named, parts_named, read_tree, read_member, read_named, scaled, read_trees, tree_of};
 
 use crate::TreeFault;
 use serde_json::{Map, Value};
@@ -202,8 +202,8 @@ fn filled_named(alloc: Global, name: &str, items: &[Value]) -> Result<Query, Tre
 
 /// A window and strings.
 fn windowed(alloc: Global, items: &[Value]) -> Result<(u32, Texts), TreeFault>
-    ensures ok { IfOk result (λ p. windowed (items_view items.now) ≡ Some p) }
-    ensures shape { result ≡ Err TreeFault.Shape → windowed (items_view items.now) ≡ None }
+    ensures ok { IfOk result (λ p. window_and_texts (items_view items.now) ≡ Some p) }
+    ensures shape { result ≡ Err TreeFault.Shape → window_and_texts (items_view items.now) ≡ None }
 {
     match items {
         [] => Err(TreeFault::Shape),

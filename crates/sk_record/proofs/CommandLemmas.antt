@@ -16,8 +16,8 @@ use Rattle.sk_base.specs.Commands.{FitsQuestion, command_over, question_over}
 use Rattle.sk_base.specs.Fields.{IsSchema, are_fields}
 use Rattle.sk_base.specs.Finds.{FitsAsk, FitsPaging, FitsFind, ask_over}
 use Rattle.sk_base.specs.Records.{FitsEdit}
-use Rattle.sk_record.specs.Shapes.{Collapsed, Wanted, Shape, schema, add, replace, replace_by, delete, delete_by, seek, show}
-use Rattle.sk_record.specs.FieldRules.{record_of, term_of, replaced_by, slot_named, order_of, collapse_of, paging_of, find_of, command_of}
+use Rattle.sk_record.specs.Shapes.{CollapsedOn, Wanted, Shape, schema, add, replace, replace_by, delete, delete_by, seek, show}
+use Rattle.sk_record.specs.FieldRules.{record_of, term_by_filter, replaced_by, slot_named, order_of, collapse_of, paging_of, find_of, command_of}
 use Rattle.sk_record.specs.Outcome.{MayCome}
 use Rattle.sk_record.proofs.Choices.{some_is, chained, mapped}
 use Rattle.sk_record.proofs.EntryLemmas.{record_fits}
@@ -26,7 +26,7 @@ use Rattle.sk_record.proofs.ShapeLemmas.{FitsWanted, FitsShape}
 abbrev KeepsOne : Option Collapse → Type 0
 KeepsOne o = IfSome o (λ c. 1 ≤ c.max)
 
-collapse_keeps : (fields : List Field) (collapsed : Option Collapsed) (collapse : Option Collapse) → IfSome collapsed (λ c. 1 ≤ c.max)
+collapse_keeps : (fields : List Field) (collapsed : Option CollapsedOn) (collapse : Option Collapse) → IfSome collapsed (λ c. 1 ≤ c.max)
     → collapse_of fields collapsed ≡ Some collapse → KeepsOne collapse
 collapse_keeps fields None collapse keeps e = subst KeepsOne (some_is None collapse e) tt
 collapse_keeps fields (Some collapsed) collapse keeps e =
@@ -55,12 +55,12 @@ module _ (accepted : Schema) (is : are_fields accepted.fields ≡ true) where
       mapped Comes (λ it. Command.Edit (Edit.Replace id it)) (record_of accepted.fields given) command (λ it made. (fits.0, record_fits accepted.fields given it is fits.1 made)) e
   shape_comes (replace_by pair given) command fits e =
       mapped Comes (λ it. Command.Edit it) (replaced_by accepted.fields pair given) command
-      (λ edit made. chained (FitsEdit accepted) (λ term. option_map (λ it. Edit.ReplaceBy term it) (record_of accepted.fields given)) (term_of accepted.fields pair) edit
+      (λ edit made. chained (FitsEdit accepted) (λ term. option_map (λ it. Edit.ReplaceBy term it) (record_of accepted.fields given)) (term_by_filter accepted.fields pair) edit
       (λ term found. mapped (FitsEdit accepted) (λ it. Edit.ReplaceBy term it) (record_of accepted.fields given) edit
       (λ it there. record_fits accepted.fields given it is fits there)) made)
       e
   shape_comes (delete id) command fits e = subst Comes (some_is (Command.Edit (Edit.Delete id)) command e) fits
-  shape_comes (delete_by pair) command fits e = mapped Comes (λ term. Command.Edit (Edit.DeleteBy term)) (term_of accepted.fields pair) command (λ term found. tt) e
+  shape_comes (delete_by pair) command fits e = mapped Comes (λ term. Command.Edit (Edit.DeleteBy term)) (term_by_filter accepted.fields pair) command (λ term found. tt) e
   shape_comes (seek wanted) command fits e =
       mapped Comes (λ find. Command.Ask (Question.Find find)) (find_of accepted.fields wanted) command (λ find made. find_fits accepted.fields wanted find fits made) e
   shape_comes (show text join) command fits e = subst Comes (some_is (Command.Ask (Question.Show text join)) command e) fits

@@ -16,7 +16,7 @@ use Rattle.sk_base.specs.Fields.{is_field, are_fields, are_apart}
 use Rattle.sk_base.specs.Records.{fits_kind, fits_field, fits_entry, bytes_of_texts, bytes_of_value, bytes_of_values, most_bytes, FitsValues}
 use Rattle.sk_json.specs.Values.{whole_number, texts_of, bytes_in, bytes_in_items}
 use Rattle.sk_record.specs.Shapes.{Given}
-use Rattle.sk_record.specs.FieldRules.{filter_texts, told_value, member_value, with_entry, entries_from, names_fields, entries_of, record_of}
+use Rattle.sk_record.specs.FieldRules.{filter_texts, told_value, member_value, with_entry, record_entries_from, names_fields, record_entries, record_of}
 use Rattle.sk_record.proofs.Choices.{some_is, chained, mapped, guarded}
 use Rattle.sk_record.proofs.ByteLemmas.{bytes_at, named_bytes, named_hold}
 
@@ -105,12 +105,12 @@ with_value fields field place more o None entries at is fit = with_none fields p
 with_value fields field place more o (Some value) entries at is fit = with_one fields field place (bytes_at o) more value entries at (member_fits field.kind o value is) fit
 
 entries_fit : (fields left : List Field) (place : ℕ) (values : Data) (entries : List Entry) → ((k : ℕ) → slice_get fields (k + place) ≡ slice_get left k)
-    → entries_from place left values ≡ Some entries → EntriesFit fields place (named_bytes left values) entries
+    → record_entries_from place left values ≡ Some entries → EntriesFit fields place (named_bytes left values) entries
 entries_fit fields [] place values entries at e = subst (EntriesFit fields place 0) (some_is [] entries e) (none_fit fields place)
 entries_fit fields (field ∷ left) place values entries at e =
-    chained (EntriesFit fields place (named_bytes (field ∷ left) values)) (λ value. option_map (with_entry place value) (entries_from (suc place) left values))
+    chained (EntriesFit fields place (named_bytes (field ∷ left) values)) (λ value. option_map (with_entry place value) (record_entries_from (suc place) left values))
     (member_value field.kind (get field.name values)) entries
-    (λ value is. mapped (EntriesFit fields place (named_bytes (field ∷ left) values)) (with_entry place value) (entries_from (suc place) left values) entries
+    (λ value is. mapped (EntriesFit fields place (named_bytes (field ∷ left) values)) (with_entry place value) (record_entries_from (suc place) left values) entries
     (λ more made. with_value fields field place (named_bytes left values) (get field.name values) value more (here (at 0)) is
     (entries_fit fields left (suc place) values more (λ k. ap (slice_get fields) (next k) ∙ at (suc k)) made)))
     e
@@ -124,9 +124,9 @@ entries_fit fields (field ∷ left) place values entries at e =
     next : (k : ℕ) → k + suc place ≡ suc k + place
     next k = omega arith
 
-values_fit : (fields : List Field) (values : Data) (entries : List Entry) → are_fields fields ≡ true → bytes_in values ≤ most_bytes → entries_of fields values ≡ Some entries → FitsValues fields entries
+values_fit : (fields : List Field) (values : Data) (entries : List Entry) → are_fields fields ≡ true → bytes_in values ≤ most_bytes → record_entries fields values ≡ Some entries → FitsValues fields entries
 values_fit fields values entries is short =
-    guarded (FitsValues fields) (names_fields fields values) (entries_from 0 fields values) entries
+    guarded (FitsValues fields) (names_fields fields values) (record_entries_from 0 fields values) entries
     (λ named made. let fit = entries_fit fields fields 0 values entries (λ k. ap (slice_get fields) (whole k)) made in
     let held = named_hold fields values (second_so (list_all is_field fields) (are_apart fields) is) in
     let small = fit.small in
@@ -137,5 +137,5 @@ values_fit fields values entries is short =
 
 pub record_fits : (fields : List Field) (given : Given) (it : Record) → are_fields fields ≡ true → bytes_in given.values ≤ most_bytes → record_of fields given ≡ Some it → FitsValues fields it.values
 record_fits fields given it is short =
-    mapped (λ (r : Record). FitsValues fields r.values) (λ entries. record { values = entries; payload = given.payload }) (entries_of fields given.values) it
+    mapped (λ (r : Record). FitsValues fields r.values) (λ entries. record { values = entries; payload = given.payload }) (record_entries fields given.values) it
     (λ entries made. values_fit fields given.values entries is short made)

@@ -10,9 +10,9 @@ use Rattle.sk_base.specs.declared.find.Options.{Options}
 use Rattle.sk_base.specs.Finds.{FitsAsk}
 use Rattle.sk_base.specs.Records.{most_bytes}
 use Rattle.sk_json.specs.Values.{has, has_only, text_at, whole_number, between, optional_text, optional_number, bytes_in}
-use Rattle.sk_record.specs.Shapes.{Given, Collapsed, Wanted, Shape, schema, add, replace, replace_by, delete, delete_by, seek, show}
+use Rattle.sk_record.specs.Shapes.{Given, CollapsedOn, Wanted, Shape, schema, add, replace, replace_by, delete, delete_by, seek, show}
 use Rattle.sk_record.specs.Options.{query_at, join_at, scheme_at, page_at, check_at, cutoff_at, falling_at, sorted_at, collapsed_on, collapsed_by, collapsed_at, options_at, wanted_at, option_names, find_row, tree_row}
-use Rattle.sk_record.specs.Rows.{values_of, given_at, id_at, pair_at, add_row, replace_row, replace_by_row, delete_row, delete_by_row, show_row, later_shape}
+use Rattle.sk_record.specs.Rows.{values_object, given_at, id_member, pair_at, add_row, replace_row, replace_by_row, delete_row, delete_by_row, show_row, later_shape}
 use Rattle.sk_record.proofs.Choices.{some_is, chained, mapped, guarded, either}
 
 -- the query, the page and the collapsing are in their ranges
@@ -37,7 +37,7 @@ between_least least most n m =
     guarded (λ k. least ≤ k) (nat_le least n && nat_le n most) (Some n) m
     (λ both is. subst (λ k. least ≤ k) (some_is n m is) (leb-true least n (first_so (nat_le least n) (nat_le n most) both)))
 
-values_short : (d values : Data) → values_of d ≡ Some values → bytes_in values ≤ most_bytes
+values_short : (d values : Data) → values_object d ≡ Some values → bytes_in values ≤ most_bytes
 values_short d values =
     guarded (λ v. bytes_in v ≤ most_bytes) (is_some (as_object d) && nat_le (bytes_in d) most_bytes) (Some d) values
     (λ both is. subst (λ v. bytes_in v ≤ most_bytes) (some_is d values is) (leb-true (bytes_in d) most_bytes (second_so (is_some (as_object d)) (nat_le (bytes_in d) most_bytes) both)))
@@ -45,11 +45,11 @@ values_short d values =
 given_short : (name : List ℕ) (d : Data) (given : Given) → given_at name d ≡ Some given → bytes_in given.values ≤ most_bytes
 given_short name d given =
     chained (λ (g : Given). bytes_in g.values ≤ most_bytes) (λ values. option_map (λ payload. record { values = values; payload = payload }) (optional_text (codes "data") d))
-    (option_and_then values_of (get name d)) given
+    (option_and_then values_object (get name d)) given
     (λ values is. mapped (λ (g : Given). bytes_in g.values ≤ most_bytes) (λ payload. record { values = values; payload = payload }) (optional_text (codes "data") d) given
-    (λ payload text. chained (λ v. bytes_in v ≤ most_bytes) values_of (get name d) values (λ member there short. values_short member values short) is))
+    (λ payload text. chained (λ v. bytes_in v ≤ most_bytes) values_object (get name d) values (λ member there short. values_short member values short) is))
 
-id_from_one : (name : List ℕ) (d : Data) (id : ℕ) → id_at name d ≡ Some id → 1 ≤ id
+id_from_one : (name : List ℕ) (d : Data) (id : ℕ) → id_member name d ≡ Some id → 1 ≤ id
 id_from_one name d id =
     chained (λ n. 1 ≤ n) (between 1 4294967295) (option_and_then whole_number (get name d)) id (λ n is e. between_least 1 4294967295 n id e)
 
@@ -71,10 +71,10 @@ page_fits d page =
 abbrev WithinHits : Options → Type 0
 WithinHits options = options.first + options.size ≤ 100000
 
-abbrev KeepsOne : Option Collapsed → Type 0
+abbrev KeepsOne : Option CollapsedOn → Type 0
 KeepsOne o = IfSome o (λ c. 1 ≤ c.max)
 
-collapsed_keeps_by : (d : Data) (o : Option Data) (collapsed : Option Collapsed) → collapsed_by d o ≡ Some collapsed → KeepsOne collapsed
+collapsed_keeps_by : (d : Data) (o : Option Data) (collapsed : Option CollapsedOn) → collapsed_by d o ≡ Some collapsed → KeepsOne collapsed
 collapsed_keeps_by d None collapsed = either KeepsOne (has (codes "max") d) None (Some None) collapsed (λ e. cc) (λ e. subst KeepsOne (some_is None collapsed e) tt)
 collapsed_keeps_by d (Some value) collapsed =
     chained KeepsOne (collapsed_on d) (as_str value) collapsed
@@ -117,7 +117,7 @@ add_fits d shape =
 replace_fits : (d : Data) (shape : Shape) → replace_row d ≡ Some shape → FitsShape shape
 replace_fits d shape =
     guarded FitsShape (has_only (codes "replace" ∷ codes "with" ∷ codes "data" ∷ []) d) _ shape
-    (λ only. chained FitsShape _ (id_at (codes "replace") d) shape
+    (λ only. chained FitsShape _ (id_member (codes "replace") d) shape
     (λ id is. mapped FitsShape (replace id) (given_at (codes "with") d) shape (λ given it. (id_from_one (codes "replace") d id is, given_short (codes "with") d given it))))
 
 replace_by_fits : (d : Data) (shape : Shape) → replace_by_row d ≡ Some shape → FitsShape shape
@@ -129,7 +129,7 @@ replace_by_fits d shape =
 delete_fits : (d : Data) (shape : Shape) → delete_row d ≡ Some shape → FitsShape shape
 delete_fits d shape =
     guarded FitsShape (has_only (codes "delete" ∷ []) d) _ shape
-    (λ only. mapped FitsShape delete (id_at (codes "delete") d) shape (λ id is. id_from_one (codes "delete") d id is))
+    (λ only. mapped FitsShape delete (id_member (codes "delete") d) shape (λ id is. id_from_one (codes "delete") d id is))
 
 delete_by_fits : (d : Data) (shape : Shape) → delete_by_row d ≡ Some shape → FitsShape shape
 delete_by_fits d shape =

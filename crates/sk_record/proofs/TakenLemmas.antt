@@ -19,10 +19,10 @@ use Rattle.sk_base.specs.declared.record.FieldValue.{FieldValue}
 use Rattle.sk_base.specs.declared.schema.Field.{Field}
 use Rattle.sk_base.specs.Fields.{clash, kinds_clash, are_apart}
 use Rattle.sk_json.specs.Values.{all_names, optional, optional_text, two_texts}
-use Rattle.sk_record.specs.FieldRules.{field_named, member_value, with_entry, entries_from, names_fields}
-use Rattle.sk_record.specs.Rows.{values_of, given_at, pair_at}
+use Rattle.sk_record.specs.FieldRules.{field_named, member_value, with_entry, record_entries_from, names_fields}
+use Rattle.sk_record.specs.Rows.{values_object, given_at, pair_at}
 use Rattle.sk_record.specs.Shapes.{Given}
-use Rattle.sk_record.specs.Taken.{without_members, without}
+use Rattle.sk_record.specs.Taken.{without_members, without_member}
 use Rattle.sk_record.proofs.Choices.{first_false}
 use Rattle.sk_record.proofs.ByteLemmas.{other_member}
 
@@ -116,7 +116,7 @@ stays name q (member k d ms) unlike = by (bytes_eq name k) refl (stays name q ms
         ∙ ap (λ r. match_ordering (slice_cmp nat_cmp q k) r (Some d) r) same
 
 -- the member that was taken is not found
-get-taken : (name : List ℕ) (d : Data) → get name (without name d) ≡ None
+get-taken : (name : List ℕ) (d : Data) → get name (without_member name d) ≡ None
 get-taken name null = refl
 get-taken name (boolean b) = refl
 get-taken name (number n) = refl
@@ -125,7 +125,7 @@ get-taken name (array ds) = refl
 get-taken name (object ms) = gone name ms
 
 -- under another name is found what was found before
-get-other : (name q : List ℕ) (d : Data) → bytes_eq name q ≡ false → get q (without name d) ≡ get q d
+get-other : (name q : List ℕ) (d : Data) → bytes_eq name q ≡ false → get q (without_member name d) ≡ get q d
 get-other name q null unlike = refl
 get-other name q (boolean b) unlike = refl
 get-other name q (number n) unlike = refl
@@ -135,7 +135,7 @@ get-other name q (object ms) unlike = stays name q ms unlike
 
 -- ---- what is left for a row
 
-no_values : (o : Option Data) (payload : List ℕ) → Some payload ≡ optional [] as_str o → option_and_then values_of o ≡ None
+no_values : (o : Option Data) (payload : List ℕ) → Some payload ≡ optional [] as_str o → option_and_then values_object o ≡ None
 no_values None payload e = refl
 no_values (Some null) payload e = cc
 no_values (Some (boolean b)) payload e = cc
@@ -146,39 +146,39 @@ no_values (Some (object ms)) payload e = cc
 
 -- the values object is found behind the payload
 values_left : (name : List ℕ) (d : Data) (payload : List ℕ) → Some payload ≡ optional_text (codes "data") d
-    → option_and_then values_of (get name (without (codes "data") d)) ≡ option_and_then values_of (get name d)
+    → option_and_then values_object (get name (without_member (codes "data") d)) ≡ option_and_then values_object (get name d)
 values_left name d payload e = by (bytes_eq (codes "data") name) refl
   where
-    by : (b : Bool) → bytes_eq (codes "data") name ≡ b → option_and_then values_of (get name (without (codes "data") d)) ≡ option_and_then values_of (get name d)
+    by : (b : Bool) → bytes_eq (codes "data") name ≡ b → option_and_then values_object (get name (without_member (codes "data") d)) ≡ option_and_then values_object (get name d)
     by true is =
         let same : codes "data" ≡ name = (bytes_eq-Decides (codes "data") name).0 is in
-        ap (option_and_then values_of) (ap (λ n. get n (without (codes "data") d)) (sym same) ∙ get-taken (codes "data") d)
-        ∙ sym (ap (λ n. option_and_then values_of (get n d)) (sym same) ∙ no_values (get (codes "data") d) payload e)
-    by false is = ap (option_and_then values_of) (get-other (codes "data") name d is)
+        ap (option_and_then values_object) (ap (λ n. get n (without_member (codes "data") d)) (sym same) ∙ get-taken (codes "data") d)
+        ∙ sym (ap (λ n. option_and_then values_object (get n d)) (sym same) ∙ no_values (get (codes "data") d) payload e)
+    by false is = ap (option_and_then values_object) (get-other (codes "data") name d is)
 
 -- the values object and the payload, as they are taken
-pub given_taken : (name : List ℕ) (d left : Data) (payload : List ℕ) (values : Option Data) → Some payload ≡ optional_text (codes "data") d → left ≡ without (codes "data") d
-    → values ≡ option_and_then values_of (get name left) → option_map (λ v. record { values = v; payload = payload }) values ≡ given_at name d
+pub given_taken : (name : List ℕ) (d left : Data) (payload : List ℕ) (values : Option Data) → Some payload ≡ optional_text (codes "data") d → left ≡ without_member (codes "data") d
+    → values ≡ option_and_then values_object (get name left) → option_map (λ v. record { values = v; payload = payload }) values ≡ given_at name d
 given_taken name d left payload values e is are =
     with_payload values
     ∙ (λ i. option_and_then (λ v. option_map (λ text. record { values = v; payload = text }) (e i))
-    ((are ∙ ap (λ x. option_and_then values_of (get name x)) is ∙ values_left name d payload e) i))
+    ((are ∙ ap (λ x. option_and_then values_object (get name x)) is ∙ values_left name d payload e) i))
   where
     with_payload : (o : Option Data) → ◌≡◌ {A = Option Given} (option_map (λ v. record { values = v; payload = payload }) o) (option_and_then (λ v. Some (record { values = v; payload = payload })) o)
     with_payload None = refl
     with_payload (Some v) = refl
 
 -- the pair is found behind the values object
-pub pair_left : (d left : Data) → left ≡ without (codes "with") (without (codes "data") d) → pair_at (codes "replace_by") left ≡ pair_at (codes "replace_by") d
+pub pair_left : (d left : Data) → left ≡ without_member (codes "with") (without_member (codes "data") d) → pair_at (codes "replace_by") left ≡ pair_at (codes "replace_by") d
 pair_left d left is =
     ap (pair_at (codes "replace_by")) is
-    ∙ ap (option_and_then two_texts) (get-other (codes "with") (codes "replace_by") (without (codes "data") d) refl ∙ get-other (codes "data") (codes "replace_by") d refl)
+    ∙ ap (option_and_then two_texts) (get-other (codes "with") (codes "replace_by") (without_member (codes "data") d) refl ∙ get-other (codes "data") (codes "replace_by") d refl)
 
 -- ---- what is left for the other fields
 
 -- the other fields give what they gave
 entries_left : (f : Field) (more : List Field) (place : ℕ) (d : Data) → list_all (λ other. not (clash f other)) more ≡ true
-    → entries_from place more (without f.name d) ≡ entries_from place more d
+    → record_entries_from place more (without_member f.name d) ≡ record_entries_from place more d
 entries_left f [] place d others = refl
 entries_left f (g ∷ more) place d others =
     let unlike : bytes_eq f.name g.name ≡ false = first_false (bytes_eq f.name g.name) (kinds_clash f.kind g.kind) (first_so (not (clash f g)) (list_all (λ other. not (clash f other)) more) others) in
@@ -211,7 +211,7 @@ names_among f more (member k d ms) = by (bytes_eq f.name k) refl (names_among f 
         ∙ left false is
 
 -- each member names a field where each that is left names one of the others
-names_left : (f : Field) (more : List Field) (d : Data) → names_fields (f ∷ more) d ≡ names_fields more (without f.name d)
+names_left : (f : Field) (more : List Field) (d : Data) → names_fields (f ∷ more) d ≡ names_fields more (without_member f.name d)
 names_left f more null = refl
 names_left f more (boolean b) = refl
 names_left f more (number n) = refl
@@ -233,24 +233,24 @@ module _ (f : Field) (rest : List Field) (place : ℕ) (old : Data) (entries : L
       joined (Some v) = refl
 
   entries_more : list_all (λ other. not (clash f other)) rest ≡ true → Some value ≡ member_value f.kind (get f.name old)
-      → option_map (λ es. behind ++ es) (entries_from (suc place) rest (without f.name old)) ≡ option_map (λ es. entries ++ es) (entries_from place (f ∷ rest) old)
+      → option_map (λ es. behind ++ es) (record_entries_from (suc place) rest (without_member f.name old)) ≡ option_map (λ es. entries ++ es) (record_entries_from place (f ∷ rest) old)
   entries_more others is =
       ap (option_map (λ es. behind ++ es)) (entries_left f rest (suc place) old others)
-      ∙ one_more (entries_from (suc place) rest old)
-      ∙ ap (λ o. option_map (λ es. entries ++ es) (option_and_then (λ v. option_map (with_entry place v) (entries_from (suc place) rest old)) o)) is
+      ∙ one_more (record_entries_from (suc place) rest old)
+      ∙ ap (λ o. option_map (λ es. entries ++ es) (option_and_then (λ v. option_map (with_entry place v) (record_entries_from (suc place) rest old)) o)) is
 
 -- what the loop over the fields keeps
 abbrev pub Keeps : List Field → Data → List Field → ℕ → Data → List FieldEntry → Type 0
 Keeps fields all rest place left entries =
-    (option_map (λ es. entries ++ es) (entries_from place rest left) ≡ entries_from 0 fields all)
+    (option_map (λ es. entries ++ es) (record_entries_from place rest left) ≡ record_entries_from 0 fields all)
     × (names_fields rest left ≡ names_fields fields all)
     × (are_apart rest ≡ true)
 
 pub keeps_more : (fields : List Field) (all : Data) (f : Field) (rest : List Field) (place : ℕ) (old left : Data) (entries more : List FieldEntry) (value : Option FieldValue)
-    → left ≡ without f.name old → Some value ≡ member_value f.kind (get f.name old) → more ≡ entries ++ with_entry place value []
+    → left ≡ without_member f.name old → Some value ≡ member_value f.kind (get f.name old) → more ≡ entries ++ with_entry place value []
     → Keeps fields all (f ∷ rest) place old entries → Keeps fields all rest (suc place) left more
 keeps_more fields all f rest place old left entries more value is there are kept = (
-  (λ i. option_map (λ es. are i ++ es) (entries_from (suc place) rest (is i)))
+  (λ i. option_map (λ es. are i ++ es) (record_entries_from (suc place) rest (is i)))
       ∙ entries_more f rest place old entries value (first_so (list_all (λ other. not (clash f other)) rest) (are_apart rest) kept.2) there
       ∙ kept.0,
   ap (names_fields rest) is ∙ sym (names_left f rest old) ∙ kept.1,

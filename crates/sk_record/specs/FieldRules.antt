@@ -20,7 +20,7 @@ use Rattle.sk_base.specs.Fields.{are_fields, kind_slot}
 use Rattle.sk_base.specs.Terms.{prefixed}
 use Rattle.sk_record.specs.declared.row.Sort.{Sort}
 use Rattle.sk_json.specs.Values.{all_names, whole_number, texts_of}
-use Rattle.sk_record.specs.Shapes.{Given, Sorted, by_relevance, by_field, Collapsed, Wanted, Shape, schema, add, replace, replace_by, delete, delete_by, seek, show}
+use Rattle.sk_record.specs.Shapes.{Given, Sorted, by_relevance, by_field, CollapsedOn, Wanted, Shape, schema, add, replace, replace_by, delete, delete_by, seek, show}
 
 -- The field with this name.
 abbrev pub field_named : List Field → List ℕ → Option Field
@@ -58,10 +58,10 @@ with_entry place None entries = entries
 with_entry place (Some value) entries = record { field = place; value = value } ∷ entries
 
 -- The entries of a values object for these fields, in their order, the first of them at this place.
-abbrev pub entries_from : ℕ → List Field → Data → Option (List Entry)
-entries_from place [] values = Some []
-entries_from place (field ∷ more) values =
-    option_and_then (λ value. option_map (with_entry place value) (entries_from (suc place) more values)) (member_value field.kind (get field.name values))
+abbrev pub record_entries_from : ℕ → List Field → Data → Option (List Entry)
+record_entries_from place [] values = Some []
+record_entries_from place (field ∷ more) values =
+    option_and_then (λ value. option_map (with_entry place value) (record_entries_from (suc place) more values)) (member_value field.kind (get field.name values))
 
 -- The value is an object, and each of its members names a field.
 abbrev pub names_fields : List Field → Data → Bool
@@ -73,12 +73,12 @@ names_fields fields (string s) = false
 names_fields fields (array ds) = false
 
 -- The entries of a values object.
-abbrev pub entries_of : List Field → Data → Option (List Entry)
-entries_of fields values = if names_fields fields values then entries_from 0 fields values else None
+abbrev pub record_entries : List Field → Data → Option (List Entry)
+record_entries fields values = if names_fields fields values then record_entries_from 0 fields values else None
 
 -- The record of a values object and a payload.
 abbrev pub record_of : List Field → Given → Option Record
-record_of fields given = option_map (λ entries. record { values = entries; payload = given.payload }) (entries_of fields given.values)
+record_of fields given = option_map (λ entries. record { values = entries; payload = given.payload }) (record_entries fields given.values)
 
 -- The prefix of a filter.
 abbrev pub filter_prefix : FieldKind → Option (List ℕ)
@@ -90,8 +90,8 @@ abbrev pub prefix_named : List Field → List ℕ → Option (List ℕ)
 prefix_named fields name = option_and_then (λ field. filter_prefix field.kind) (field_named fields name)
 
 -- The term of a text of the named filter.
-abbrev pub term_of : List Field → List ℕ × List ℕ → Option (List ℕ)
-term_of fields pair = option_map (λ prefix. prefixed prefix pair.1) (prefix_named fields pair.0)
+abbrev pub term_by_filter : List Field → List ℕ × List ℕ → Option (List ℕ)
+term_by_filter fields pair = option_map (λ prefix. prefixed prefix pair.1) (prefix_named fields pair.0)
 
 -- The slot of the named number or word.
 abbrev pub slot_named : List Field → List ℕ → Option ℕ
@@ -109,7 +109,7 @@ order_of fields by_relevance = Some OrderBy.Relevance
 order_of fields (by_field sort field reverse) = option_map (λ slot. keyed sort (record { slot = slot; reverse = reverse })) (slot_named fields field)
 
 -- The collapsing, with the slot of its field.
-abbrev pub collapse_of : List Field → Option Collapsed → Option (Option Collapse)
+abbrev pub collapse_of : List Field → Option CollapsedOn → Option (Option Collapse)
 collapse_of fields None = Some None
 collapse_of fields (Some collapsed) = option_map (λ slot. Some (record { slot = slot; max = collapsed.max })) (slot_named fields collapsed.field)
 
@@ -126,7 +126,7 @@ find_of fields wanted = option_map (λ paging. record { ask = wanted.ask; paging
 
 -- The edit that puts a record in the place of all documents with a term, where the field and the record keep the rules.
 abbrev pub replaced_by : List Field → List ℕ × List ℕ → Given → Option Edit
-replaced_by fields pair given = option_and_then (λ term. option_map (λ it. Edit.ReplaceBy term it) (record_of fields given)) (term_of fields pair)
+replaced_by fields pair given = option_and_then (λ term. option_map (λ it. Edit.ReplaceBy term it) (record_of fields given)) (term_by_filter fields pair)
 
 -- What a shape says under the fields that were accepted; a schema stands by itself.
 abbrev pub command_of : List Field → Shape → Option (Command Data)
@@ -135,6 +135,6 @@ command_of fields (add given) = option_map (λ it. Command.Edit (Edit.Add it)) (
 command_of fields (replace id given) = option_map (λ it. Command.Edit (Edit.Replace id it)) (record_of fields given)
 command_of fields (replace_by pair given) = option_map (λ it. Command.Edit it) (replaced_by fields pair given)
 command_of fields (delete id) = Some (Command.Edit (Edit.Delete id))
-command_of fields (delete_by pair) = option_map (λ term. Command.Edit (Edit.DeleteBy term)) (term_of fields pair)
+command_of fields (delete_by pair) = option_map (λ term. Command.Edit (Edit.DeleteBy term)) (term_by_filter fields pair)
 command_of fields (seek wanted) = option_map (λ find. Command.Ask (Question.Find find)) (find_of fields wanted)
 command_of fields (show text join) = Some (Command.Ask (Question.Show text join))

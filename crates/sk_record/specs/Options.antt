@@ -11,7 +11,7 @@ use Rattle.sk_base.specs.Finds.{default_options}
 use Rattle.sk_base.specs.Records.{most_bytes}
 use Rattle.sk_record.specs.declared.row.Sort.{Sort}
 use Rattle.sk_json.specs.Values.{has, has_only, text_at, between, optional, optional_number, optional_flag}
-use Rattle.sk_record.specs.Shapes.{Sorted, by_relevance, by_field, Collapsed, Wanted}
+use Rattle.sk_record.specs.Shapes.{Sorted, by_relevance, by_field, CollapsedOn, Wanted}
 
 -- The query text at a member, which is not too long.
 abbrev pub query_at : List ℕ → Data → Option (List ℕ)
@@ -94,21 +94,21 @@ abbrev pub sorted_at : Data → Option Sorted
 sorted_at d = sorted_by d (get (codes "order") d)
 
 -- No collapsing, and then no number either.
-abbrev pub not_collapsed : Data → Option (Option Collapsed)
+abbrev pub not_collapsed : Data → Option (Option CollapsedOn)
 not_collapsed d = if has (codes "max") d then None else Some None
 
 -- Collapsing on this field: 1 to 100,000 are kept of each value, and 1 where nothing is said.
-abbrev pub collapsed_on : Data → List ℕ → Option (Option Collapsed)
+abbrev pub collapsed_on : Data → List ℕ → Option (Option CollapsedOn)
 collapsed_on d field =
     option_map (λ max. Some (record { field = field; max = max })) (option_and_then (between 1 100000) (optional_number (codes "max") 1 d))
 
 -- The collapsing that a member gives.
-abbrev pub collapsed_by : Data → Option Data → Option (Option Collapsed)
+abbrev pub collapsed_by : Data → Option Data → Option (Option CollapsedOn)
 collapsed_by d None = not_collapsed d
 collapsed_by d (Some value) = option_and_then (collapsed_on d) (as_str value)
 
 -- The collapsing.
-abbrev pub collapsed_at : Data → Option (Option Collapsed)
+abbrev pub collapsed_at : Data → Option (Option CollapsedOn)
 collapsed_at d = collapsed_by d (get (codes "collapse") d)
 
 -- The options that name no field, each as it is by default where nothing is said.

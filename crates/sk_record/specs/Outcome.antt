@@ -21,14 +21,14 @@ command_or_broken None = Err LineFault.BadField
 command_or_broken (Some command) = Ok command
 
 -- The shape is asked for first, and then the rules on fields.
-abbrev pub judged : List Field → Option Shape → Result (Command Data) LineFault
-judged fields None = Err LineFault.BadShape
-judged fields (Some shape) = command_or_broken (command_of fields shape)
+abbrev pub command_by_shape : List Field → Option Shape → Result (Command Data) LineFault
+command_by_shape fields None = Err LineFault.BadShape
+command_by_shape fields (Some shape) = command_or_broken (command_of fields shape)
 
 -- What a value gives, under the schema that was accepted before, if any.
 abbrev pub value_outcome : Option Schema → Data → Result (Command Data) LineFault
-value_outcome None d = if has (codes "schema") d then judged [] (row_shape d) else Err LineFault.NoSchema
-value_outcome (Some schema) d = if has (codes "schema") d then Err LineFault.SchemaAgain else judged schema.fields (row_shape d)
+value_outcome None d = if has (codes "schema") d then command_by_shape [] (row_shape d) else Err LineFault.NoSchema
+value_outcome (Some schema) d = if has (codes "schema") d then Err LineFault.SchemaAgain else command_by_shape schema.fields (row_shape d)
 
 -- What a line gives that is read as this value.
 abbrev pub outcome : Option Schema → Option Data → Result (Command Data) LineFault
@@ -36,10 +36,10 @@ outcome schema None = Err LineFault.NotJson
 outcome schema (Some d) = value_outcome schema d
 
 -- The answer is the outcome, a tree by the value that it stands for. Memory may run out at any time.
-abbrev pub ReadsAs : Result (Command Data) LineFault → Result (Command Value) LineFault → Type 0
-ReadsAs outcome (Ok command) = outcome ≡ Ok (command_over view command)
-ReadsAs outcome (Err LineFault.NoMemory) = Unit {0}
-ReadsAs outcome (Err fault) = outcome ≡ Err fault
+abbrev pub CommandReadsAs : Result (Command Data) LineFault → Result (Command Value) LineFault → Type 0
+CommandReadsAs outcome (Ok command) = outcome ≡ Ok (command_over view command)
+CommandReadsAs outcome (Err LineFault.NoMemory) = Unit {0}
+CommandReadsAs outcome (Err fault) = outcome ≡ Err fault
 
 -- Before a schema was accepted a command can only bring one; afterwards an edit fits it, and what is asked keeps its
 -- bounds.

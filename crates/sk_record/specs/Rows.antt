@@ -10,18 +10,18 @@ use Rattle.sk_record.specs.SchemaFields.{schema_row}
 use Rattle.sk_record.specs.Options.{query_at, join_at, find_row, tree_row}
 
 -- A values object: any object whose strings are not too long in all.
-abbrev pub values_of : Data → Option Data
-values_of d = if is_some (as_object d) && nat_le (bytes_in d) most_bytes then Some d else None
+abbrev pub values_object : Data → Option Data
+values_object d = if is_some (as_object d) && nat_le (bytes_in d) most_bytes then Some d else None
 
 -- The values object at a member, and the payload, which is empty where nothing is said.
 abbrev pub given_at : List ℕ → Data → Option Given
 given_at name d =
     option_and_then (λ values. option_map (λ payload. record { values = values; payload = payload }) (optional_text (codes "data") d))
-    (option_and_then values_of (get name d))
+    (option_and_then values_object (get name d))
 
 -- The id at a member: 1 to 4,294,967,295.
-abbrev pub id_at : List ℕ → Data → Option ℕ
-id_at name d = option_and_then (between 1 4294967295) (option_and_then whole_number (get name d))
+abbrev pub id_member : List ℕ → Data → Option ℕ
+id_member name d = option_and_then (between 1 4294967295) (option_and_then whole_number (get name d))
 
 -- The name of a field and a text, at a member.
 abbrev pub pair_at : List ℕ → Data → Option (List ℕ × List ℕ)
@@ -35,7 +35,7 @@ add_row d = if has_only (codes "add" ∷ codes "data" ∷ []) d then option_map 
 abbrev pub replace_row : Data → Option Shape
 replace_row d =
     if has_only (codes "replace" ∷ codes "with" ∷ codes "data" ∷ []) d then
-    option_and_then (λ id. option_map (replace id) (given_at (codes "with") d)) (id_at (codes "replace") d)
+    option_and_then (λ id. option_map (replace id) (given_at (codes "with") d)) (id_member (codes "replace") d)
     else None
 
 -- A record in the place of those with a term.
@@ -47,7 +47,7 @@ replace_by_row d =
 
 -- The end of an id.
 abbrev pub delete_row : Data → Option Shape
-delete_row d = if has_only (codes "delete" ∷ []) d then option_map delete (id_at (codes "delete") d) else None
+delete_row d = if has_only (codes "delete" ∷ []) d then option_map delete (id_member (codes "delete") d) else None
 
 -- The end of those with a term.
 abbrev pub delete_by_row : Data → Option Shape

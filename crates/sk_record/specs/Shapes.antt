@@ -18,7 +18,7 @@ pub data Sorted : Type 0 where
   by_field : Sort → List ℕ → Bool → Sorted
 
 -- The named field that is collapsed on, and how many are kept of each value.
-pub record Collapsed : Type 0 where
+pub record CollapsedOn : Type 0 where
   pub field : List ℕ
   pub max : ℕ
 
@@ -28,7 +28,7 @@ pub record Wanted : Type 0 where
   pub options : Options
   pub sorted : Sorted
   pub falling : Bool
-  pub collapsed : Option Collapsed
+  pub collapsed : Option CollapsedOn
 
 -- The rows. A field and a text are those of `replace_by` and `delete_by`.
 pub data Shape : Type 0 where

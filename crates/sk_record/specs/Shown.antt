@@ -10,7 +10,7 @@ use Rattle.sk_record.specs.declared.row.CollapseRow.{CollapseRow}
 use Rattle.sk_record.specs.declared.row.FindRow.{FindRow}
 use Rattle.sk_record.specs.declared.row.TextRow.{TextRow}
 use Rattle.sk_record.specs.declared.row.Row.{Row}
-use Rattle.sk_record.specs.Shapes.{Given, Sorted, by_relevance, by_field, Collapsed, Wanted, Shape, add, replace, replace_by, delete, delete_by, seek, show}
+use Rattle.sk_record.specs.Shapes.{Given, Sorted, by_relevance, by_field, CollapsedOn, Wanted, Shape, add, replace, replace_by, delete, delete_by, seek, show}
 
 -- A field's name and a text.
 abbrev pub pair_shown : TextRow → List ℕ × List ℕ
@@ -31,7 +31,7 @@ sorted_shown OrderRow.Relevance = by_relevance
 sorted_shown (OrderRow.By sort field reverse) = by_field sort field.now reverse
 
 -- A collapsing.
-abbrev pub collapsed_shown : CollapseRow → Collapsed
+abbrev pub collapsed_shown : CollapseRow → CollapsedOn
 collapsed_shown row = record { field = row.field.now; max = row.max }
 
 -- A find.

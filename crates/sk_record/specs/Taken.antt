@@ -8,10 +8,10 @@ without_members name no_members = no_members
 without_members name (member key d more) = if bytes_eq name key then without_members name more else member key d (without_members name more)
 
 -- The value without its member of this name.
-abbrev pub without : List ℕ → Data → Data
-without name (object members) = object (without_members name members)
-without name null = null
-without name (boolean b) = boolean b
-without name (number n) = number n
-without name (string s) = string s
-without name (array ds) = array ds
+abbrev pub without_member : List ℕ → Data → Data
+without_member name (object members) = object (without_members name members)
+without_member name null = null
+without_member name (boolean b) = boolean b
+without_member name (number n) = number n
+without_member name (string s) = string s
+without_member name (array ds) = array ds

@@ -5,7 +5,7 @@ ghost use Rattle.sk_base.specs.Fields.{are_fields};
 ghost use Rattle.sk_base.specs.Finds.{ask_over, find_over};
 ghost use Rattle.sk_base.specs.Commands.{command_over};
 ghost use Rattle.sk_record.specs.Shown.{pair_shown, given_shown, ask_shown, sorted_shown, collapsed_shown, wanted_shown, shape_shown};
-ghost use Rattle.sk_record.specs.FieldRules.{field_named, filter_texts, told_value, member_value, with_entry, entries_of, record_of, prefix_named, filter_prefix, term_of, slot_named, keyed, order_of, collapse_of, paging_of, find_of, replaced_by, command_of};
+ghost use Rattle.sk_record.specs.FieldRules.{field_named, filter_texts, told_value, member_value, with_entry, record_entries, record_of, prefix_named, filter_prefix, term_by_filter, slot_named, keyed, order_of, collapse_of, paging_of, find_of, replaced_by, command_of};
 
 use crate::row::{AskRow, CollapseRow, FindRow, OrderRow, RecordRow, Row, Sort, TextRow};
 use crate::taken::{into_texts, take_member, text_of};
@@ -82,7 +82,7 @@ fn field_named<'a>(fields: &'a [Field], name: &str) -> Option<&'a Field>
 
 /// The term of a text of the named filter.
 fn term_of(alloc: Global, fields: &[Field], pair: TextRow<'_>) -> Result<Option<Term>, AllocError>
-    ensures { IfOk result (λ t. t ≡ term_of fields.now (pair_shown pair.entry)) }
+    ensures { IfOk result (λ t. t ≡ term_by_filter fields.now (pair_shown pair.entry)) }
 {
     match prefix_named(fields, pair.field) {
         Some(prefix) => {
@@ -217,7 +217,7 @@ fn entries_of(
     mut values: Value,
 ) -> Result<Option<Entries>, AllocError>
     requires { are_fields fields.now ≡ true }
-    ensures { IfOk result (λ e. e ≡ entries_of fields.now (view values)) }
+    ensures { IfOk result (λ e. e ≡ record_entries fields.now (view values)) }
 {
     let mut entries = Items::new(alloc);
     'fields: for place in 0..fields.len() {

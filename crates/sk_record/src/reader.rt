@@ -3,7 +3,7 @@ ghost use Rattle.std.specs.Prelude.{IfOk, Some, None};
 ghost use Rattle.std.specs.Option.{option_copied};
 ghost use Rattle.serde_json.specs.View.{view};
 ghost use Rattle.sk_record.specs.Lines.{line_value};
-ghost use Rattle.sk_record.specs.Outcome.{outcome, value_outcome, ReadsAs, MayCome};
+ghost use Rattle.sk_record.specs.Outcome.{outcome, value_outcome, CommandReadsAs, MayCome};
 
 use crate::LineFault;
 use crate::judge::command_of;
@@ -22,7 +22,7 @@ pub fn command(
     schema: Option<&Schema>,
 ) -> Result<Command<Value>, LineFault>
     // Exactly the command, or the first fault.
-    ensures reads { ReadsAs (outcome (option_copied schema.entry) (line_value line.now)) result }
+    ensures reads { CommandReadsAs (outcome (option_copied schema.entry) (line_value line.now)) result }
     // It may come under that schema: an edit fits it, and a question its bounds.
     ensures comes { IfOk result (MayCome (option_copied schema.entry)) }
 {
@@ -35,7 +35,7 @@ pub fn command(
 
 /// Before a schema was accepted, a line can only bring one.
 fn first_command(alloc: Global, value: &Value) -> Result<Command<Value>, LineFault>
-    ensures reads { ReadsAs (value_outcome None (view value.now)) result }
+    ensures reads { CommandReadsAs (value_outcome None (view value.now)) result }
     ensures comes { IfOk result (MayCome None) }
 {
     if !has(value, "schema") {
@@ -55,7 +55,7 @@ fn later_command(
     schema: &Schema,
     mut value: Value,
 ) -> Result<Command<Value>, LineFault>
-    ensures reads { ReadsAs (value_outcome (Some schema.now) (view value)) result }
+    ensures reads { CommandReadsAs (value_outcome (Some schema.now) (view value)) result }
     ensures comes { IfOk result (MayCome (Some schema.now)) }
 {
     if has(&value, "schema") {

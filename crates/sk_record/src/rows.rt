@@ -2,9 +2,9 @@
 ghost use Rattle.std.specs.Prelude.{◌≡◌, OnSome, option_map, codes};
 ghost use Rattle.serde_json.specs.View.{view};
 ghost use Rattle.sk_json.specs.Values.{optional_text};
-ghost use Rattle.sk_record.specs.Rows.{values_of, given_at, id_at, pair_at, add_row, replace_row, replace_by_row, delete_row, delete_by_row, show_row, later_shape};
+ghost use Rattle.sk_record.specs.Rows.{values_object, given_at, id_member, pair_at, add_row, replace_row, replace_by_row, delete_row, delete_by_row, show_row, later_shape};
 ghost use Rattle.sk_record.specs.Shown.{pair_shown, given_shown, shape_shown};
-ghost use Rattle.sk_record.specs.Taken.{without};
+ghost use Rattle.sk_record.specs.Taken.{without_member};
 
 use crate::options::{find_row, join_at, query_at, tree_row};
 use crate::row::{RecordRow, Row, TextRow};
@@ -108,7 +108,7 @@ fn show_row(line: &Value) -> Option<Row<'_>>
 /// The values object at a member, and the payload. Both are taken out of the line.
 fn given_at(alloc: Global, line: &mut Value, name: &str) -> Option<RecordRow>
     ensures given { option_map given_shown result ≡ given_at name.now (view line.old) }
-    ensures left { OnSome result (view line.new ≡ without name.now (without (codes "data") (view line.old))) }
+    ensures left { OnSome result (view line.new ≡ without_member name.now (without_member (codes "data") (view line.old))) }
 {
     let payload = payload_at(alloc, line)?;
     let values = values_of(take_member(line, name)?)?;
@@ -118,7 +118,7 @@ fn given_at(alloc: Global, line: &mut Value, name: &str) -> Option<RecordRow>
 /// The payload, which is empty where nothing is said.
 fn payload_at(alloc: Global, line: &mut Value) -> Option<Text>
     ensures text { result ≡ optional_text (codes "data") (view line.old) }
-    ensures left { view line.new ≡ without (codes "data") (view line.old) }
+    ensures left { view line.new ≡ without_member (codes "data") (view line.old) }
 {
     match take_member(line, "data") {
         Some(value) => text_of(value),
@@ -128,7 +128,7 @@ fn payload_at(alloc: Global, line: &mut Value) -> Option<Text>
 
 /// An object whose strings are not too long in all.
 fn values_of(value: Value) -> Option<Value>
-    ensures { option_map view result ≡ values_of (view value) }
+    ensures { option_map view result ≡ values_object (view value) }
 {
     if !value.is_object() || !is_within(&value, MOST_TEXT) {
         return None;
@@ -137,7 +137,7 @@ fn values_of(value: Value) -> Option<Value>
 }
 
 fn id_at(line: &Value, name: &str) -> Option<u32>
-    ensures { result ≡ id_at name.now (view line.now) }
+    ensures { result ≡ id_member name.now (view line.now) }
 {
     between(1, u32::MAX, whole_number(line.get(name)?)?)
 }

@@ -3,7 +3,7 @@ ghost use Rattle.std.specs.Prelude.{◌≡◌, IfOk, option_map};
 ghost use Rattle.serde_json.specs.View.{view, items_view};
 ghost use Rattle.serde_json.specs.Find.{get, as_str};
 ghost use Rattle.sk_json.specs.Values.{texts_of};
-ghost use Rattle.sk_record.specs.Taken.{without};
+ghost use Rattle.sk_record.specs.Taken.{without_member};
 
 use serde_json::Value;
 use sk_base::{Items, Text, Texts};
@@ -12,7 +12,7 @@ use std::alloc::{AllocError, Global};
 /// Takes a member out of an object.
 pub fn take_member(value: &mut Value, name: &str) -> Option<Value>
     ensures taken { option_map view result ≡ get name.now (view value.old) }
-    ensures left { view value.new ≡ without name.now (view value.old) }
+    ensures left { view value.new ≡ without_member name.now (view value.old) }
 {
     let members = value.as_object_mut()?;
     members.remove(name)

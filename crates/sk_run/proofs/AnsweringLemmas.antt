@@ -7,7 +7,7 @@ use Rattle.sk_run.specs.declared.response.Printing.{Printing}
 use Rattle.sk_run.specs.Responses.{text_under, is_refusal, steps_of}
 use Rattle.sk_run.specs.declared.status.Status.{Status}
 use Rattle.sk_run.specs.Outsides.{Output}
-use Rattle.sk_run.specs.Waiting.{Moves, PutsLast, Joins, LacksMemory, FailsBefore, FailsWithin, FailsToPut, JoinsNot}
+use Rattle.sk_run.specs.Waiting.{MovesOut, PutsLast, Joins, LacksMemory, FailsBefore, FailsWithin, FailsToPut, JoinsNot}
 use Rattle.sk_run.proofs.WaitingLemmas.{moves_on, moves_text, moves_last, moves_prefix, prefix_longer}
 use Rattle.sk_run.proofs.RunLemmas.{rose_since}
 
@@ -63,7 +63,7 @@ module _ (printing : Printing) where
     fails_first before after prefix same finishes rose = record { which = inl (record { put = prefix; same = same }); finishes = finishes; rose = rose }
 
     -- Of what waits a front was put, or none.
-    module _ (waiting' : List ℕ) (before middle : Output) (moves : Moves waiting waiting' before.sink.held middle.sink.held) (finishes : middle.sink.finishes ≡ before.sink.finishes) (since : before.sink.faults ≤ middle.sink.faults) where
+    module _ (waiting' : List ℕ) (before middle : Output) (moves : MovesOut waiting waiting' before.sink.held middle.sink.held) (finishes : middle.sink.finishes ≡ before.sink.finishes) (since : before.sink.faults ≤ middle.sink.faults) where
       before_it : (after : Output) → PutsLast waiting' Status.WriteFault middle after → after.steps ≡ before.steps → FailsToPut printing Allowed waiting before after
       before_it after e same = record {
         which = inl (record { put = moves_prefix waiting waiting' before.sink.held middle.sink.held after.sink.held moves e.0; same = same });
@@ -116,7 +116,7 @@ module _ (printing : Printing) where
           within_it after answer allowed (subst (λ (w : List ℕ). AppendsPrefix middle.sink.held after.sink.held (waiting' ++ w)) is prefix) paid still rose
 
       -- The text joined what waits.
-      pub joined : (after : Output) (waiting'' : List ℕ) (answer : Response) (refused : Bool) (piece : List ℕ) → Allowed answer → piece ≡ text_under printing answer → refused ≡ is_refusal answer → Moves (waiting' ++ piece) waiting'' middle.sink.held after.sink.held → after.steps ≡ before.steps + steps_of answer
+      pub joined : (after : Output) (waiting'' : List ℕ) (answer : Response) (refused : Bool) (piece : List ℕ) → Allowed answer → piece ≡ text_under printing answer → refused ≡ is_refusal answer → MovesOut (waiting' ++ piece) waiting'' middle.sink.held after.sink.held → after.steps ≡ before.steps + steps_of answer
           → after.sink.finishes ≡ middle.sink.finishes → middle.sink.faults ≤ after.sink.faults → Joins printing Allowed waiting waiting'' refused before after
       joined after waiting'' answer refused piece allowed is refusal more paid still later = record {
         answer = answer;
@@ -124,7 +124,7 @@ module _ (printing : Printing) where
         refusal = refusal;
         moves =
             moves_on (waiting ++ text_under printing answer) (waiting' ++ text_under printing answer) waiting'' before.sink.held middle.sink.held after.sink.held (moves_text waiting waiting' (text_under printing answer) before.sink.held middle.sink.held moves)
-            (subst (λ (w : List ℕ). Moves (waiting' ++ w) waiting'' middle.sink.held after.sink.held) is more);
+            (subst (λ (w : List ℕ). MovesOut (waiting' ++ w) waiting'' middle.sink.held after.sink.held) is more);
         paid = paid;
         finishes = still ∙ finishes;
         later = omega (arith, since, later);

@@ -23,7 +23,7 @@ use Rattle.sk_run.specs.declared.response.Response.{Response}
 use Rattle.sk_run.specs.declared.response.Printing.{Printing}
 use Rattle.sk_run.specs.Responses.{text_under, steps_of}
 use Rattle.sk_run.specs.declared.status.Status.{Status}
-use Rattle.sk_run.specs.Lines.{Meets}
+use Rattle.sk_run.specs.Lines.{IsReached}
 use Rattle.sk_run.specs.Machines.{schema_behind}
 use Rattle.sk_run.specs.Outsides.{Output}
 use Rattle.sk_run.specs.Ended.{BreaksOff, RunsOut, Continues, Ended, NotWhole}
@@ -176,10 +176,10 @@ module _ {W S : Type 0} (printing : Printing) (Stands : W → S → Type 0) (Obe
   -- One command more was obeyed, and its answer joined what waits.
   pub demo_more : (held0 : Option (List ℕ)) (steps0 place : ℕ) (waiting waiting' : List ℕ) (machine machine' : W) (refused more : Bool) (before after : Output) (command : Command Data)
       → place < documents + 6 → DemoSoFar held0 steps0 place waiting before.sink.held machine refused before.steps → command ≡ demo_command documents place
-      → Joins printing (λ answer. (s : S) → Stands machine s → Meets Stands (Obeys s command answer) machine') waiting waiting' more before after
+      → Joins printing (λ answer. (s : S) → Stands machine s → IsReached Stands (Obeys s command answer) machine') waiting waiting' more before after
       → DemoSoFar held0 steps0 (place + 1) waiting' after.sink.held machine' (refused || more) after.steps
   demo_more held0 steps0 place waiting waiting' machine machine' refused more before after command inside so is joins =
-      let met : Meets Stands (Obeys so.state command joins.answer) machine' = joins.allowed so.state so.at in
+      let met : IsReached Stands (Obeys so.state command joins.answer) machine' = joins.allowed so.state so.at in
       record {
         answers = so.answers ++ joins.answer ∷ [];
         put = put_more printing so.answers waiting waiting' held0 before.sink.held after.sink.held false refused (refused || more) steps0 before.steps after.steps joins.answer so.put joins.moves (ap (λ b. refused || b) joins.refusal) joins.paid;
@@ -237,11 +237,11 @@ module _ {W S : Type 0} (printing : Printing) (Stands : W → S → Type 0) (Obe
     -- For the command at that place.
     module _ (command : Command Data) (inside : place < documents + 6) (is : command ≡ demo_command documents place) where
       abbrev Answer : Response → Type 0
-      Answer answer = (next : W) × ((s : S) → Stands machine s → Meets Stands (Obeys s command answer) next)
+      Answer answer = (next : W) × ((s : S) → Stands machine s → IsReached Stands (Obeys s command answer) next)
 
       unwritten : FailsWithin printing Answer waiting middle after → after.sink.finishes ≡ middle.sink.finishes → BreaksOff printing (ObeysFirst Obeys start (demo_commands documents)) before after
       unwritten fails still =
-          let met : Meets Stands (Obeys so.state command fails.answer) fails.allowed.0 = fails.allowed.1 so.state so.at in
+          let met : IsReached Stands (Obeys so.state command fails.answer) fails.allowed.0 = fails.allowed.1 so.state so.at in
           record {
             answers = so.answers ++ fails.answer ∷ [];
             put = put_in_part printing so.answers waiting before.sink.held middle.sink.held after.sink.held fails.answer so.put.put fails.put;

@@ -5,7 +5,7 @@ use Rattle.std.proofs.lemmas.List.Sums.{sum_by-append}
 use Rattle.sk_io.specs.declared.line.Line.{Line}
 use Rattle.sk_io.specs.declared.line.LineStop.{LineStop}
 use Rattle.sk_io.specs.Fronts.{AppendsPrefix}
-use Rattle.sk_io.specs.Reading.{Reader, outcome}
+use Rattle.sk_io.specs.Reading.{Reader, line_outcome}
 use Rattle.sk_io.specs.Answers.{Ends, Stops, ReadsOn}
 use Rattle.sk_run.specs.declared.response.Response.{Response}
 use Rattle.sk_run.specs.declared.response.Printing.{Printing}
@@ -17,7 +17,7 @@ use Rattle.sk_run.specs.Outsides.{Output}
 use Rattle.sk_run.specs.Ends.{Stopped}
 use Rattle.sk_run.specs.Sources.{FirstOf, TakenOf, ThroughOf}
 use Rattle.sk_run.specs.Ended.{CutsShort, BreaksOff, RunsOut, Continues, Ended, NotWhole}
-use Rattle.sk_run.specs.Waiting.{Moves, Joins, LacksMemory, FailsBefore, FailsWithin, FailsToPut, JoinsNot}
+use Rattle.sk_run.specs.Waiting.{MovesOut, Joins, LacksMemory, FailsBefore, FailsWithin, FailsToPut, JoinsNot}
 use Rattle.sk_run.proofs.WaitingLemmas.{moves_on, moves_done, moves_last, moves_prefix, puts_front}
 use Rattle.sk_run.proofs.RunLemmas.{IsPut, none_put, put_more, put_in_part, Reached, begins, reach_more, first_ones, lost, cut, through, rose_since}
 
@@ -39,7 +39,7 @@ module _ {W S : Type 0} (printing : Printing) (Stands : W → S → Type 0) (Ans
 
   -- Of what waits a front was put.
   pub so_put : (first : W) (left0 held0 : Option (List ℕ)) (refused0 : Bool) (steps0 : ℕ) (reader : Reader) (left : Option (List ℕ)) (waiting waiting' : List ℕ) (held held' : Option (List ℕ)) (answerer : W) (refused : Bool) (steps : ℕ)
-      → SoFar first left0 held0 refused0 steps0 reader left waiting held answerer refused steps → Moves waiting waiting' held held' → SoFar first left0 held0 refused0 steps0 reader left waiting' held' answerer refused steps
+      → SoFar first left0 held0 refused0 steps0 reader left waiting held answerer refused steps → MovesOut waiting waiting' held held' → SoFar first left0 held0 refused0 steps0 reader left waiting' held' answerer refused steps
   so_put first left0 held0 refused0 steps0 reader left waiting waiting' held held' answerer refused steps so moves = record {
     answers = so.answers;
     put = record { put = moves_on (flat_map (text_under printing) so.answers) waiting waiting' held0 held held' so.put.put moves; refusals = so.put.refusals; paid = so.put.paid };
@@ -48,7 +48,7 @@ module _ {W S : Type 0} (printing : Printing) (Stands : W → S → Type 0) (Ans
 
   -- A line was read and answered, and its answer joined what waits.
   pub so_more : (first : W) (left0 held0 : Option (List ℕ)) (refused0 : Bool) (steps0 : ℕ) (reader reader' : Reader) (left left' : Option (List ℕ)) (waiting waiting' : List ℕ) (answerer answerer' : W) (refused more : Bool) (before after : Output) (l : Line)
-      → SoFar first left0 held0 refused0 steps0 reader left waiting before.sink.held answerer refused before.steps → ReadsOn reader left reader' left' (outcome (Ok (Some l)))
+      → SoFar first left0 held0 refused0 steps0 reader left waiting before.sink.held answerer refused before.steps → ReadsOn reader left reader' left' (line_outcome (Ok (Some l)))
       → Joins printing (λ answer. AnsweredLine Stands Answers answerer l answer answerer') waiting waiting' more before after
       → SoFar first left0 held0 refused0 steps0 reader' left' waiting' after.sink.held answerer' (refused || more) after.steps
   so_more first left0 held0 refused0 steps0 reader reader' left left' waiting waiting' answerer answerer' refused more before after l so reads joins = record {
@@ -109,7 +109,7 @@ module _ {W S : Type 0} (printing : Printing) (Stands : W → S → Type 0) (Ans
 
   -- For a line that was read behind those so far.
   module _ (first : W) (seen seen' : Seen) (refused0 : Bool) (before middle after : Output) (reader reader' : Reader) (left : Option (List ℕ)) (waiting : List ℕ) (answerer : W) (refused : Bool) (l : Line)
-      (so : SoFar first seen.left before.sink.held refused0 before.steps reader left waiting middle.sink.held answerer refused middle.steps) (reads : ReadsOn reader left reader' seen'.left (outcome (Ok (Some l))))
+      (so : SoFar first seen.left before.sink.held refused0 before.steps reader left waiting middle.sink.held answerer refused middle.steps) (reads : ReadsOn reader left reader' seen'.left (line_outcome (Ok (Some l))))
       (same : middle.sink.finishes ≡ before.sink.finishes) (since : before.sink.faults ≤ middle.sink.faults) where
     abbrev Answer : Response → Type 0
     Answer answer = (next : W) × AnsweredLine Stands Answers answerer l answer next

@@ -5,7 +5,7 @@ use Rattle.sk_base.specs.declared.command.Command.{Command}
 use Rattle.sk_run.specs.declared.response.Response.{Response}
 use Rattle.sk_run.specs.declared.response.Printing.{Printing}
 use Rattle.sk_run.specs.declared.status.Status.{Status}
-use Rattle.sk_run.specs.Lines.{Runs}
+use Rattle.sk_run.specs.Lines.{LineByLine}
 use Rattle.sk_io.specs.Seen.{Seen}
 use Rattle.sk_run.specs.Outsides.{Output, WhereTold}
 use Rattle.sk_run.specs.Ends.{AnswersAll, AnswersTaken, AnswersSome, AnswersThrough, Stopped}
@@ -30,7 +30,7 @@ module _ {W S R : Type 0} (Stands : W → S → Type 0) (Closes : S → R → Ty
       last = t.last;
       pending = [];
       rest = [];
-      runs = subst (λ (w : List R). Runs Answers start bytes w t.last []) (sym (ap (λ (w : List R). a ++ w) none ∙ append-nil a)) t.runs;
+      runs = subst (λ (w : List R). LineByLine Answers start bytes w t.last []) (sym (ap (λ (w : List R). a ++ w) none ∙ append-nil a)) t.runs;
       left = t.left;
     });
   }

@@ -21,10 +21,10 @@ use Rattle.sk_run.specs.declared.machine.Reading.{Reading}
 use Rattle.sk_run.specs.declared.refusal.Refusal.TheVariants as Refusal
 use Rattle.sk_run.specs.declared.response.Response.{Response}
 use Rattle.sk_run.specs.Meaning.{Meaning, blank, refusal, asks, is_blank, meaning, meaning_of}
-use Rattle.sk_run.specs.Lines.{Meets, Answered, AnsweredLine}
+use Rattle.sk_run.specs.Lines.{IsReached, Answered, AnsweredLine}
 use Rattle.sk_run.specs.Queries.{find_by, text_meaning, query_meaning}
 use Rattle.sk_run.specs.Conducts.{Conduct, State, schema_of, Does, Obeys, AnswersMeaning, AnswersAs}
-use Rattle.sk_run.specs.Machines.{StandsFor, IsAt, schema_in, Did}
+use Rattle.sk_run.specs.Machines.{StandsFor, MachineStands, schema_in, Did}
 use Rattle.sk_run.specs.Requests.{meant, meaning_as, AsksFor, AnswersRequest, AnsweredRequest}
 
 -- A line that is not blank means what its outcome does.
@@ -78,13 +78,13 @@ text_asked join schema under line find some short is_text is =
 module _ {M S : Type 0} (under : M → Schema) (Holds : M → S → Type 0) (conduct : Conduct S) where
   -- A schema begins a store.
   pub accepted : (store : M) (schema : Schema) (response : Response) → under store ≡ schema → Holds store conduct.begun → response ≡ Response.Schema (length schema.fields)
-      → (s : State S) → StandsFor under Holds None s → Meets (IsAt under Holds) (Obeys conduct s (Command.Schema schema) response) (record { store = Some store })
+      → (s : State S) → StandsFor under Holds None s → IsReached (MachineStands under Holds) (Obeys conduct s (Command.Schema schema) response) (record { store = Some store })
   accepted store schema response same holds is None at = record { next = Some (schema, conduct.begun); allowed = (is, refl); at = (sym same, holds) }
   accepted store schema response same holds is (Some s) at = absurd at
 
   -- What a store did, its machine did.
   pub obeyed : (old new : M) (c : Command Data) (response : Response) → Did under Holds conduct old c response new → under new ≡ under old
-      → (s : State S) → StandsFor under Holds (Some old) s → Meets (IsAt under Holds) (Obeys conduct s c response) (record { store = Some new })
+      → (s : State S) → StandsFor under Holds (Some old) s → IsReached (MachineStands under Holds) (Obeys conduct s c response) (record { store = Some new })
   obeyed old new c response did same None at = absurd at
   obeyed old new c response did same (Some s) at =
       let met = did s.1 at.1 in
@@ -112,7 +112,7 @@ module _ {M S : Type 0} (under : M → Schema) (Holds : M → S → Type 0) (con
   follows_as (Reading.Queries join) s line response next h = h
 
   text_answered : (old new : Machine M) (reading : Reading) (line : List ℕ) (request : Request) (response : Response) → meaning_as reading (schema_in under old) line ≡ meant request → AnsweredRequest under Holds conduct old request response new
-      → Answered (IsAt under Holds) (AnswersAs conduct reading) old line response new
+      → Answered (MachineStands under Holds) (AnswersAs conduct reading) old line response new
   text_answered old new reading line request response is answered = λ s at.
       let met = answered s at in
       let means : meaning_as reading (schema_of s) line ≡ meant request = subst (λ o. meaning_as reading o line ≡ meant request) (schema_in_state old.store s at) is in
@@ -120,6 +120,6 @@ module _ {M S : Type 0} (under : M → Schema) (Holds : M → S → Type 0) (con
 
   -- A line is answered as what it asks for.
   pub line_answered : (old new : Machine M) (reading : Reading) (l : Line) (request : Request) (response : Response) → AsksFor reading (schema_in under old) l request → AnsweredRequest under Holds conduct old request response new
-      → AnsweredLine (IsAt under Holds) (AnswersAs conduct reading) old l response new
+      → AnsweredLine (MachineStands under Holds) (AnswersAs conduct reading) old l response new
   line_answered old new reading (Whole text) request response is answered = text_answered old new reading text.now request response is answered
   line_answered old new reading TooLong request response is answered = λ text long. text_answered old new reading text request response (is text long) answered

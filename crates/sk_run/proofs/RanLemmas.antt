@@ -10,8 +10,8 @@ use Rattle.sk_run.specs.Conducts.{Conduct}
 use Rattle.sk_io.specs.Seen.{Seen}
 use Rattle.sk_run.specs.Outsides.{Outside}
 use Rattle.sk_run.specs.Ends.{TakesAll, Stopped}
-use Rattle.sk_run.specs.ByForm.{EndedBy, TakenBy, Keeps}
-use Rattle.sk_run.specs.Ran.{IsCalm, Ran}
+use Rattle.sk_run.specs.ByForm.{EndedBy, TakenBy, LeavesAlone}
+use Rattle.sk_run.specs.Ran.{IsQuiet, Ran}
 
 some≢none : {A : Type 0} (a : A) → Some a ≡ None → ⊥
 some≢none a e = cc
@@ -20,7 +20,7 @@ same_form : (a b : Form) → Some a ≡ Some b → a ≡ b
 same_form a b e = cc
 
 -- A calm source does not stop.
-never_stopped : (status : Status) (before after : Seen) → IsCalm before after → Stopped status before after → ⊥
+never_stopped : (status : Status) (before after : Seen) → IsQuiet before after → Stopped status before after → ⊥
 never_stopped Status.Done before after calm stopped = stopped
 never_stopped Status.Refused before after calm stopped = stopped
 never_stopped Status.Usage before after calm stopped = stopped
@@ -33,13 +33,13 @@ never_stopped Status.TooMuch before after calm stopped =
 
 module _ {S : Type 0} (conduct : Conduct S) where
   -- Where both sources are calm nothing was cut short.
-  never_taken : (form : Form) (status : Status) (before after : Outside) (answers : List Response) → IsCalm before.input after.input → IsCalm before.records after.records → TakenBy conduct form before after status answers → ⊥
+  never_taken : (form : Form) (status : Status) (before after : Outside) (answers : List Response) → IsQuiet before.input after.input → IsQuiet before.records after.records → TakenBy conduct form before after status answers → ⊥
   never_taken Form.Run status before after answers input records taken = never_stopped status before.input after.input input taken.0
   never_taken (Form.Search join) status before after answers input records (inl taken) = never_stopped status before.records after.records records taken.0
   never_taken (Form.Search join) status before after answers input records (inr taken) = never_stopped status before.input after.input input taken.0
   never_taken (Form.Demo documents) status before after answers input records taken = taken
 
-  comes_to_its_end : (form : Form) (status : Status) (before after : Outside) → EndedBy conduct form status before after → IsCalm before.input after.input → IsCalm before.records after.records → (Rose before.output.sink.faults after.output.sink.faults → ⊥)
+  comes_to_its_end : (form : Form) (status : Status) (before after : Outside) → EndedBy conduct form status before after → IsQuiet before.input after.input → IsQuiet before.records after.records → (Rose before.output.sink.faults after.output.sink.faults → ⊥)
       → IsFinished status ⊎ (status ≡ Status.Memory)
   comes_to_its_end form Status.Done before after e input records sound = inl tt
   comes_to_its_end form Status.Refused before after e input records sound = inl tt
@@ -68,13 +68,13 @@ module _ {S : Type 0} (conduct : Conduct S) where
   no_usage form Status.TooMuch before after e h = cc
 
   -- The end of a run under the words of a form says it all.
-  pub used : (words : List (List ℕ)) (form : Form) (status : Status) (before after : Outside) → form_of words ≡ Some form → EndedBy conduct form status before after → Keeps form before after
+  pub used : (words : List (List ℕ)) (form : Form) (status : Status) (before after : Outside) → form_of words ≡ Some form → EndedBy conduct form status before after → LeavesAlone form before after
       → Ran conduct words status before after
   used words form status before after is e keeps = record {
     usage = (λ h. absurd (no_usage form status before after e h), λ h. absurd (some≢none form (sym is ∙ h)));
     untouched = λ h. absurd (no_usage form status before after e h);
     ended = λ other same. subst (λ (f : Form). EndedBy conduct f status before after) (same_form form other (sym is ∙ same)) e;
-    kept = λ other same. subst (λ (f : Form). Keeps f before after) (same_form form other (sym is ∙ same)) keeps;
+    kept = λ other same. subst (λ (f : Form). LeavesAlone f before after) (same_form form other (sym is ∙ same)) keeps;
     complete = λ other same input records sound. comes_to_its_end form status before after e input records sound;
     counts = counts_on form status before after e;
   }

@@ -10,14 +10,14 @@ use Rattle.sk_io.specs.declared.line.Line.TheVariants.{Whole, TooLong}
 use Rattle.sk_io.specs.declared.line.LineStop.{LineStop}
 use Rattle.sk_io.specs.Causes.{Rose}
 use Rattle.sk_io.specs.Fronts.{AppendsPrefix}
-use Rattle.sk_io.specs.Reading.{Reader, pending, StreamIs, outcome}
+use Rattle.sk_io.specs.Reading.{Reader, pending, StreamIs, line_outcome}
 use Rattle.sk_io.specs.Answers.{Charged, Ends, LineOf, LongLineOf, OpenLineOf, Stops, ReadsOn}
 use Rattle.sk_run.specs.declared.response.Response.{Response}
 use Rattle.sk_run.specs.declared.response.Printing.{Printing}
 use Rattle.sk_run.specs.Responses.{text_under, is_refusal, steps_of}
-use Rattle.sk_run.specs.Lines.{Runs, stop, line, Meets, Answered, AnsweredLine}
+use Rattle.sk_run.specs.Lines.{LineByLine, stop, line, IsReached, Answered, AnsweredLine}
 use Rattle.sk_run.specs.Ends.{EndsLine, PutsFront, AnswersTaken, AnswersFirst, AnswersThrough, TakesAll}
-use Rattle.sk_run.specs.Waiting.{Moves}
+use Rattle.sk_run.specs.Waiting.{MovesOut}
 use Rattle.sk_run.proofs.WaitingLemmas.{moves_all, moves_more, moves_text, moves_prefix, puts_front}
 
 -- as many bytes as are taken off the room were taken of the bytes
@@ -74,7 +74,7 @@ behind_line text reader left s first = by_end first.is_line.is
       told = first.goes_on.told;
     }
 
-read_on : (reader reader' : Reader) (left left' : Option (List ℕ)) (l : Line) (s : List ℕ) → StreamIs reader left s → ReadsOn reader left reader' left' (outcome (Ok (Some l))) → EndsIn left' s
+read_on : (reader reader' : Reader) (left left' : Option (List ℕ)) (l : Line) (s : List ℕ) → StreamIs reader left s → ReadsOn reader left reader' left' (line_outcome (Ok (Some l))) → EndsIn left' s
 read_on reader reader' left left' (Whole text) s is reads = behind_line text.now reader' left' s (reads.first s is)
 read_on reader reader' left left' TooLong s is reads =
     let long : LongLineOf reader' left' s = reads.first s is in
@@ -102,7 +102,7 @@ taken_on bytes text reader reader' left left' so first charged =
     record { stream = first.after; is = first.goes_on; taken = omega (arith, paid, so.taken) }
 
 -- what a line took
-pub taken_more : (bytes : List ℕ) (reader reader' : Reader) (left left' : Option (List ℕ)) (l : Line) → TakenSoFar bytes reader left → ReadsOn reader left reader' left' (outcome (Ok (Some l))) → TakenSoFar bytes reader' left'
+pub taken_more : (bytes : List ℕ) (reader reader' : Reader) (left left' : Option (List ℕ)) (l : Line) → TakenSoFar bytes reader left → ReadsOn reader left reader' left' (line_outcome (Ok (Some l))) → TakenSoFar bytes reader' left'
 taken_more bytes reader reader' left left' (Whole text) so reads = taken_on bytes text.now reader reader' left left' so (reads.first so.stream so.is) reads.charged
 taken_more bytes reader reader' left left' TooLong so reads =
     let long : LongLineOf reader' left' so.stream = reads.first so.stream so.is in
@@ -130,7 +130,7 @@ failed_now before now stop_before none (inr again) = absurd (never (sym none ∙
     never e = cc
 
 -- after a line a reader has not stopped
-pub still_goes : (reader reader' : Reader) (left left' : Option (List ℕ)) (l : Line) → ReadsOn reader left reader' left' (outcome (Ok (Some l))) → reader'.stopped ≡ None
+pub still_goes : (reader reader' : Reader) (left left' : Option (List ℕ)) (l : Line) → ReadsOn reader left reader' left' (line_outcome (Ok (Some l))) → reader'.stopped ≡ None
 still_goes reader reader' left left' (Whole text) reads = reads.goes
 still_goes reader reader' left left' TooLong reads = reads.goes
 
@@ -146,7 +146,7 @@ or-assoc false b c = refl
 module _ (printing : Printing) where
   -- The answers so far were put, but for what waits, and counted; whether a line was refused before them, or by them, is known.
   pub record IsPut (answers : List Response) (waiting : List ℕ) (held held_now : Option (List ℕ)) (refused_before refused : Bool) (begun now : ℕ) : Type 0 where
-    pub put : Moves (flat_map (text_under printing) answers) waiting held held_now
+    pub put : MovesOut (flat_map (text_under printing) answers) waiting held held_now
     pub refusals : refused ≡ (refused_before || list_any is_refusal answers)
     pub paid : now ≡ begun + sum_by steps_of answers
 
@@ -155,11 +155,11 @@ module _ (printing : Printing) where
 
   -- One answer more joined what waits.
   pub put_more : (answers : List Response) (waiting waiting' : List ℕ) (held held_now held' : Option (List ℕ)) (refused_before refused refused' : Bool) (begun now now' : ℕ) (answer : Response)
-      → IsPut answers waiting held held_now refused_before refused begun now → Moves (waiting ++ text_under printing answer) waiting' held_now held' → refused' ≡ (refused || is_refusal answer) → now' ≡ now + steps_of answer
+      → IsPut answers waiting held held_now refused_before refused begun now → MovesOut (waiting ++ text_under printing answer) waiting' held_now held' → refused' ≡ (refused || is_refusal answer) → now' ≡ now + steps_of answer
       → IsPut (answers ++ answer ∷ []) waiting' held held' refused_before refused' begun now'
   put_more answers waiting waiting' held held_now held' refused_before refused refused' begun now now' answer so moves refusal paid = record {
     put =
-        subst (λ w. Moves w waiting' held held') (sym (texts-push (text_under printing) answers answer))
+        subst (λ w. MovesOut w waiting' held held') (sym (texts-push (text_under printing) answers answer))
         (moves_more (flat_map (text_under printing) answers) waiting waiting' (text_under printing answer) held held_now held' so.put moves);
     refusals =
         refusal ∙ ap (λ b. b || is_refusal answer) so.refusals ∙ or-assoc refused_before (list_any is_refusal answers) (is_refusal answer)
@@ -169,7 +169,7 @@ module _ (printing : Printing) where
 
   -- A front of what waits and of one answer more was put.
   pub put_in_part : (answers : List Response) (waiting : List ℕ) (held held_now held' : Option (List ℕ)) (answer : Response)
-      → Moves (flat_map (text_under printing) answers) waiting held held_now → AppendsPrefix held_now held' (waiting ++ text_under printing answer) → PutsFront (text_under printing) (answers ++ answer ∷ []) held held'
+      → MovesOut (flat_map (text_under printing) answers) waiting held held_now → AppendsPrefix held_now held' (waiting ++ text_under printing answer) → PutsFront (text_under printing) (answers ++ answer ∷ []) held held'
   put_in_part answers waiting held held_now held' answer before prefix =
       puts_front (text_under printing) (answers ++ answer ∷ []) held held'
       (subst (λ w. AppendsPrefix held held' w) (sym (texts-push (text_under printing) answers answer))
@@ -184,7 +184,7 @@ module _ {W S R : Type 0} (Stands : W → S → Type 0) (Answers : S → List �
     pub stream : List ℕ
     pub behind : bytes ≡ lines ++ stream
     pub line_end : EndsLine lines ⊎ (reader.ended ≡ true)
-    pub goes_on : (more : List R) (last : S) (rest : List ℕ) → Runs Answers state stream more last rest → Runs Answers start bytes (answers ++ more) last rest
+    pub goes_on : (more : List R) (last : S) (rest : List ℕ) → LineByLine Answers state stream more last rest → LineByLine Answers start bytes (answers ++ more) last rest
     pub is : StreamIs reader left stream
     pub at : Stands answerer state
 
@@ -208,7 +208,7 @@ module _ {W S R : Type 0} (Stands : W → S → Type 0) (Answers : S → List �
       → (so : Reached start bytes answers reader left answerer) → (first : LineOf text reader' left' so.stream) → Answered Stands Answers answerer text answer answerer'
       → Reached start bytes (answers ++ answer ∷ []) reader' left' answerer'
   one_more start bytes answers reader reader' left left' answerer answerer' answer text so first answered =
-      let met : Meets Stands (Answers so.state text answer) answerer' = answered so.state so.at in
+      let met : IsReached Stands (Answers so.state text answer) answerer' = answered so.state so.at in
       let more : LinesMore bytes so.lines text first.after reader' = lines_more bytes so.lines text reader' left' so.stream so.behind first in
       record {
         state = met.next;
@@ -217,13 +217,13 @@ module _ {W S R : Type 0} (Stands : W → S → Type 0) (Answers : S → List �
         behind = more.behind;
         line_end = more.line_end;
         goes_on = λ more last rest runs.
-            subst (λ all. Runs Answers start bytes all last rest) (sym (append_assoc answers (answer ∷ []) more)) (so.goes_on (answer ∷ more) last rest (line first.is_line met.allowed runs));
+            subst (λ all. LineByLine Answers start bytes all last rest) (sym (append_assoc answers (answer ∷ []) more)) (so.goes_on (answer ∷ more) last rest (line first.is_line met.allowed runs));
         is = first.goes_on;
         at = met.at;
       }
 
   pub reach_more : (start : S) (bytes : List ℕ) (answers : List R) (reader reader' : Reader) (left left' : Option (List ℕ)) (answerer answerer' : W) (answer : R) (l : Line)
-      → Reached start bytes answers reader left answerer → ReadsOn reader left reader' left' (outcome (Ok (Some l))) → AnsweredLine Stands Answers answerer l answer answerer'
+      → Reached start bytes answers reader left answerer → ReadsOn reader left reader' left' (line_outcome (Ok (Some l))) → AnsweredLine Stands Answers answerer l answer answerer'
       → Reached start bytes (answers ++ answer ∷ []) reader' left' answerer'
   reach_more start bytes answers reader reader' left left' answerer answerer' answer (Whole text) so reads answered =
       one_more start bytes answers reader reader' left left' answerer answerer' answer text.now so (reads.first so.stream so.is) answered
@@ -233,10 +233,10 @@ module _ {W S R : Type 0} (Stands : W → S → Type 0) (Answers : S → List �
 
   -- What was answered so far, where a text splits into what was taken and what is left.
   stops_at : (start : S) (bytes : List ℕ) (answers : List R) (reader : Reader) (left : Option (List ℕ)) (answerer : W) (front rest : List ℕ)
-      → (so : Reached start bytes answers reader left answerer) → so.stream ≡ front ++ rest → Runs Answers start bytes answers so.state (front ++ rest)
+      → (so : Reached start bytes answers reader left answerer) → so.stream ≡ front ++ rest → LineByLine Answers start bytes answers so.state (front ++ rest)
   stops_at start bytes answers reader left answerer front rest so is =
-      subst (λ all. Runs Answers start bytes all so.state (front ++ rest)) (append-nil answers)
-      (so.goes_on [] so.state (front ++ rest) (subst (λ s. Runs Answers so.state so.stream [] so.state s) is stop))
+      subst (λ all. LineByLine Answers start bytes all so.state (front ++ rest)) (append-nil answers)
+      (so.goes_on [] so.state (front ++ rest) (subst (λ s. LineByLine Answers so.state so.stream [] so.state s) is stop))
 
   -- Nothing more is answered: of the lines behind, what the reader holds is pending.
   pub first_ones : (start : S) (bytes : List ℕ) (answers : List R) (reader : Reader) (left : Option (List ℕ)) (answerer : W) → Reached start bytes answers reader left answerer → AnswersFirst Answers start bytes answers left
@@ -250,7 +250,7 @@ module _ {W S R : Type 0} (Stands : W → S → Type 0) (Answers : S → List �
 
   -- The line that was read is not answered.
   pub lost : (start : S) (bytes : List ℕ) (answers : List R) (reader reader' : Reader) (left left' : Option (List ℕ)) (answerer : W) (l : Line)
-      → Reached start bytes answers reader left answerer → ReadsOn reader left reader' left' (outcome (Ok (Some l))) → AnswersFirst Answers start bytes answers left'
+      → Reached start bytes answers reader left answerer → ReadsOn reader left reader' left' (line_outcome (Ok (Some l))) → AnswersFirst Answers start bytes answers left'
   lost start bytes answers reader reader' left left' answerer l so reads =
       let ends : EndsIn left' so.stream = read_on reader reader' left left' l so.stream so.is reads in
       record {
@@ -292,8 +292,8 @@ module _ {W S R : Type 0} (Stands : W → S → Type 0) (Answers : S → List �
       record {
         last = so.state;
         runs =
-            subst (λ all. Runs Answers start bytes all so.state []) (append-nil answers)
-            (so.goes_on [] so.state [] (subst (λ s. Runs Answers so.state so.stream [] so.state s) none stop));
+            subst (λ all. LineByLine Answers start bytes all so.state []) (append-nil answers)
+            (so.goes_on [] so.state [] (subst (λ s. LineByLine Answers so.state so.stream [] so.state s) none stop));
         at = so.at;
         left = behind.told ∙ ap Some (behind.at_end ends.ended);
       }

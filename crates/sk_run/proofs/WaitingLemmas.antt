@@ -4,26 +4,26 @@ use Rattle.std.specs.Io.KnownBytes.{Appends}
 use Rattle.std.proofs.KnownBytes.{Appends-nil, Appends-trans}
 use Rattle.sk_io.specs.Fronts.{AppendsFront, AppendsPrefix}
 use Rattle.sk_run.specs.Ends.{PutsFront}
-use Rattle.sk_run.specs.Waiting.{Moves}
+use Rattle.sk_run.specs.Waiting.{MovesOut}
 
 -- Nothing was put.
-pub moves_none : (bytes : List ℕ) (h : Option (List ℕ)) → Moves bytes bytes h h
+pub moves_none : (bytes : List ℕ) (h : Option (List ℕ)) → MovesOut bytes bytes h h
 moves_none bytes h = record { front = []; parts = refl; put = Appends-nil h }
 
 -- All was put.
-pub moves_all : (bytes waiting : List ℕ) (h h' : Option (List ℕ)) → Appends h h' bytes → waiting ≡ [] → Moves bytes waiting h h'
+pub moves_all : (bytes waiting : List ℕ) (h h' : Option (List ℕ)) → Appends h h' bytes → waiting ≡ [] → MovesOut bytes waiting h h'
 moves_all bytes waiting h h' put none = record { front = bytes; parts = sym (ap (λ (w : List ℕ). bytes ++ w) none ∙ append-nil bytes); put = put }
 
 -- Where nothing waits all was put.
-pub moves_done : (bytes waiting : List ℕ) (h h' : Option (List ℕ)) → Moves bytes waiting h h' → waiting ≡ [] → Appends h h' bytes
+pub moves_done : (bytes waiting : List ℕ) (h h' : Option (List ℕ)) → MovesOut bytes waiting h h' → waiting ≡ [] → Appends h h' bytes
 moves_done bytes waiting h h' m none = subst (λ (w : List ℕ). Appends h h' w) (sym (m.parts ∙ ap (λ (w : List ℕ). m.front ++ w) none ∙ append-nil m.front)) m.put
 
 -- A text more waits behind.
-pub moves_text : (bytes waiting text : List ℕ) (h h' : Option (List ℕ)) → Moves bytes waiting h h' → Moves (bytes ++ text) (waiting ++ text) h h'
+pub moves_text : (bytes waiting text : List ℕ) (h h' : Option (List ℕ)) → MovesOut bytes waiting h h' → MovesOut (bytes ++ text) (waiting ++ text) h h'
 moves_text bytes waiting text h h' m = record { front = m.front; parts = ap (λ (w : List ℕ). w ++ text) m.parts ∙ append_assoc m.front waiting text; put = m.put }
 
 -- More of what waits was put.
-pub moves_on : (bytes waiting waiting' : List ℕ) (h0 h1 h2 : Option (List ℕ)) → Moves bytes waiting h0 h1 → Moves waiting waiting' h1 h2 → Moves bytes waiting' h0 h2
+pub moves_on : (bytes waiting waiting' : List ℕ) (h0 h1 h2 : Option (List ℕ)) → MovesOut bytes waiting h0 h1 → MovesOut waiting waiting' h1 h2 → MovesOut bytes waiting' h0 h2
 moves_on bytes waiting waiting' h0 h1 h2 m n = record {
   front = m.front ++ n.front;
   parts = m.parts ∙ ap (λ (w : List ℕ). m.front ++ w) n.parts ∙ sym (append_assoc m.front n.front waiting');
@@ -31,15 +31,15 @@ moves_on bytes waiting waiting' h0 h1 h2 m n = record {
 }
 
 -- A text joined what waits.
-pub moves_more : (bytes waiting waiting' text : List ℕ) (h0 h1 h2 : Option (List ℕ)) → Moves bytes waiting h0 h1 → Moves (waiting ++ text) waiting' h1 h2 → Moves (bytes ++ text) waiting' h0 h2
+pub moves_more : (bytes waiting waiting' text : List ℕ) (h0 h1 h2 : Option (List ℕ)) → MovesOut bytes waiting h0 h1 → MovesOut (waiting ++ text) waiting' h1 h2 → MovesOut (bytes ++ text) waiting' h0 h2
 moves_more bytes waiting waiting' text h0 h1 h2 m n = moves_on (bytes ++ text) (waiting ++ text) waiting' h0 h1 h2 (moves_text bytes waiting text h0 h1 m) n
 
 -- All that waits was put, and so all.
-pub moves_last : (bytes waiting : List ℕ) (h0 h1 h2 : Option (List ℕ)) → Moves bytes waiting h0 h1 → Appends h1 h2 waiting → Appends h0 h2 bytes
+pub moves_last : (bytes waiting : List ℕ) (h0 h1 h2 : Option (List ℕ)) → MovesOut bytes waiting h0 h1 → Appends h1 h2 waiting → Appends h0 h2 bytes
 moves_last bytes waiting h0 h1 h2 m put = moves_done bytes [] h0 h2 (moves_on bytes waiting [] h0 h1 h2 m (moves_all waiting [] h1 h2 put refl)) refl
 
 -- A front of what waits was put, and so a front of all.
-pub moves_prefix : (bytes waiting : List ℕ) (h0 h1 h2 : Option (List ℕ)) → Moves bytes waiting h0 h1 → AppendsPrefix h1 h2 waiting → AppendsPrefix h0 h2 bytes
+pub moves_prefix : (bytes waiting : List ℕ) (h0 h1 h2 : Option (List ℕ)) → MovesOut bytes waiting h0 h1 → AppendsPrefix h1 h2 waiting → AppendsPrefix h0 h2 bytes
 moves_prefix bytes waiting None h1 h2 m prefix = tt
 moves_prefix bytes waiting (Some xs) None h2 m prefix = absurd m.put
 moves_prefix bytes waiting (Some xs) (Some ys) h2 m prefix =
@@ -67,7 +67,7 @@ puts_front text answers (Some xs) h' prefix =
     record { shown = front.shown; hidden = front.rest; parts = front.whole; put = subst (λ o. Appends (Some xs) o front.shown) (sym front.now_held) refl }
 
 -- All was put, and a text behind it.
-pub moves_both : (bytes waiting text : List ℕ) (h0 h1 h2 : Option (List ℕ)) → Appends h0 h1 bytes → Appends h1 h2 text → waiting ≡ [] → Moves (bytes ++ text) waiting h0 h2
+pub moves_both : (bytes waiting text : List ℕ) (h0 h1 h2 : Option (List ℕ)) → Appends h0 h1 bytes → Appends h1 h2 text → waiting ≡ [] → MovesOut (bytes ++ text) waiting h0 h2
 moves_both bytes waiting text h0 h1 h2 p q none = moves_all (bytes ++ text) waiting h0 h2 (Appends-trans h0 h1 h2 bytes text p q) none
 
 -- All was put, and a front of a text behind it.

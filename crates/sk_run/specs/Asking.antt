@@ -10,18 +10,18 @@ use Rattle.sk_run.specs.declared.refusal.Refusal.TheVariants as Refusal
 use Rattle.sk_run.specs.declared.response.Response.{Response}
 
 -- What a store tells of a find: of what is asked for, a report that its query allows, or the cause that there is no query. Want of memory tells nothing.
-abbrev pub Tells : (Tree → Report → Type 0) → Result Tree AskError → Result Report AskError → Type 0
-Tells Allows asked (Ok report) = (query : Tree) × (asked ≡ Ok query) × Allows query report
-Tells Allows asked (Err (BadQuery kind place)) = asked ≡ Err (BadQuery kind place)
-Tells Allows asked (Err BadTree) = asked ≡ Err BadTree
-Tells Allows asked (Err NoMemory) = Unit {0}
+abbrev pub TellsOfFind : (Tree → Report → Type 0) → Result Tree AskError → Result Report AskError → Type 0
+TellsOfFind Allows asked (Ok report) = (query : Tree) × (asked ≡ Ok query) × Allows query report
+TellsOfFind Allows asked (Err (BadQuery kind place)) = asked ≡ Err (BadQuery kind place)
+TellsOfFind Allows asked (Err BadTree) = asked ≡ Err BadTree
+TellsOfFind Allows asked (Err NoMemory) = Unit {0}
 
 -- The counter rose by the steps of the report, and not where there was no query. Where memory ran out it did not fall.
-abbrev pub Counts : Result Report AskError → ℕ → ℕ → Type 0
-Counts (Ok report) before after = after ≡ before + report.steps
-Counts (Err (BadQuery kind place)) before after = after ≡ before
-Counts (Err BadTree) before after = after ≡ before
-Counts (Err NoMemory) before after = before ≤ after
+abbrev pub CountsSteps : Result Report AskError → ℕ → ℕ → Type 0
+CountsSteps (Ok report) before after = after ≡ before + report.steps
+CountsSteps (Err (BadQuery kind place)) before after = after ≡ before
+CountsSteps (Err BadTree) before after = after ≡ before
+CountsSteps (Err NoMemory) before after = before ≤ after
 
 -- The refusal where there is no query, with its cause. Want of memory is no answer.
 abbrev pub RefusedFor : AskError → Response → Type 0

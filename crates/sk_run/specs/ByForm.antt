@@ -7,7 +7,7 @@ use Rattle.sk_run.specs.declared.response.Printing.{Printing}
 use Rattle.sk_run.specs.declared.response.Printing.TheVariants.{All, WithoutOk}
 use Rattle.sk_run.specs.declared.status.Status.{Status}
 use Rattle.sk_run.specs.Outsides.{Outside, WhereTold}
-use Rattle.sk_run.specs.Lines.{Runs}
+use Rattle.sk_run.specs.Lines.{LineByLine}
 use Rattle.sk_run.specs.Ends.{Stopped, AnswersAll, AnswersTaken, AnswersFirst, AnswersSome}
 use Rattle.sk_run.specs.Ended.{Ended}
 use Rattle.sk_run.specs.Conducts.{Conduct, Obeys, Answers, AnswersQuery, Closes}
@@ -26,7 +26,7 @@ pub record BehindRecords {S R : Type 0} (Answers : S → List ℕ → R → S �
   pub others : List R
   pub middle : S
   pub parts : answers ≡ of_records ++ others
-  pub runs : Runs Answers start records of_records middle []
+  pub runs : LineByLine Answers start records of_records middle []
   pub left : left_after ≡ Some []
   pub goes_on : GoesOn middle others
 
@@ -66,7 +66,7 @@ module _ {S : Type 0} (conduct : Conduct S) where
   EndedBy form status before after = Ended (printing_of form) (WholeBy form before after) (TakenBy form before after) (FirstBy form before after) false status before.output after.output
 
 -- The sources that the words do not touch are as before: the records under `run`, and both under `demo`.
-abbrev pub Keeps : Form → Outside → Outside → Type 0
-Keeps Run before after = after.records ≡ before.records
-Keeps (Search join) before after = Unit {0}
-Keeps (Demo documents) before after = (after.input ≡ before.input) × (after.records ≡ before.records)
+abbrev pub LeavesAlone : Form → Outside → Outside → Type 0
+LeavesAlone Run before after = after.records ≡ before.records
+LeavesAlone (Search join) before after = Unit {0}
+LeavesAlone (Demo documents) before after = (after.input ≡ before.input) × (after.records ≡ before.records)

@@ -6,7 +6,7 @@ use Rattle.sk_io.specs.LineText.{NoLineEnd}
 use Rattle.sk_run.specs.declared.status.Status.{Status}
 use Rattle.sk_io.specs.Seen.{Seen}
 use Rattle.sk_run.specs.Outsides.{WhereTold}
-use Rattle.sk_run.specs.Lines.{Runs}
+use Rattle.sk_run.specs.Lines.{LineByLine}
 
 -- The bytes are none, or their last one is a line's end.
 abbrev pub EndsLine : List ℕ → Type 0
@@ -43,7 +43,7 @@ module _ {S R : Type 0} (Answers : S → List ℕ → R → S → Type 0) where
     pub closing : R
     pub last : S
     pub all : answers ≡ of_lines ++ closing ∷ []
-    pub runs : Runs Answers start bytes of_lines last []
+    pub runs : LineByLine Answers start bytes of_lines last []
     pub closes : Closes last closing
     pub left : left_after ≡ Some []
 
@@ -55,7 +55,7 @@ module _ {S R : Type 0} (Answers : S → List ℕ → R → S → Type 0) where
     pub rest : List ℕ
     pub is : bytes ≡ lines ++ (open_line ++ rest)
     pub line_end : EndsLine lines
-    pub runs : Runs Answers start bytes answers last (open_line ++ rest)
+    pub runs : LineByLine Answers start bytes answers last (open_line ++ rest)
     pub no_end : NoLineEnd open_line
     pub left : left_after ≡ Some rest
 
@@ -64,7 +64,7 @@ module _ {S R : Type 0} (Answers : S → List ℕ → R → S → Type 0) where
     pub last : S
     pub pending : List ℕ
     pub rest : List ℕ
-    pub runs : Runs Answers start bytes answers last (pending ++ rest)
+    pub runs : LineByLine Answers start bytes answers last (pending ++ rest)
     pub left : left_after ≡ Some rest
 
   -- First lines of those that were taken were answered, or all of them and the run closed.
@@ -74,6 +74,6 @@ module _ {S R : Type 0} (Answers : S → List ℕ → R → S → Type 0) where
   -- All lines were answered and none is left, and `now` stands for the state that they leave.
   pub record AnswersThrough {W : Type 0} (Stands : W → S → Type 0) (now : W) (start : S) (bytes : List ℕ) (answers : List R) (left_after : Option (List ℕ)) : Type 0 where
     pub last : S
-    pub runs : Runs Answers start bytes answers last []
+    pub runs : LineByLine Answers start bytes answers last []
     pub at : Stands now last
     pub left : left_after ≡ Some []

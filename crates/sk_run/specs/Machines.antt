@@ -5,7 +5,7 @@ use Rattle.sk_base.specs.declared.command.Command.{Command}
 use Rattle.sk_base.specs.declared.schema.Schema.{Schema}
 use Rattle.sk_run.specs.declared.machine.Machine.{Machine}
 use Rattle.sk_run.specs.declared.response.Response.{Response}
-use Rattle.sk_run.specs.Lines.{Meets}
+use Rattle.sk_run.specs.Lines.{IsReached}
 use Rattle.sk_run.specs.Conducts.{Conduct, State, Does, Obeys}
 
 -- Without a store nothing was accepted; a store has the schema, and holds the state under it.
@@ -16,8 +16,8 @@ StandsFor under Holds (Some store) None = ⊥
 StandsFor under Holds (Some store) (Some s) = (s.0 ≡ under store) × Holds store s.1
 
 -- The machine stands for this state.
-abbrev pub IsAt : {M S : Type 0} → (M → Schema) → (M → S → Type 0) → Machine M → State S → Type 0
-IsAt under Holds machine s = StandsFor under Holds machine.store s
+abbrev pub MachineStands : {M S : Type 0} → (M → Schema) → (M → S → Type 0) → Machine M → State S → Type 0
+MachineStands under Holds machine s = StandsFor under Holds machine.store s
 
 -- The schema that was accepted, if any.
 abbrev pub schema_in : {M : Type 0} → (M → Schema) → Machine M → Option Schema
@@ -25,11 +25,11 @@ schema_in under machine = option_map under machine.store
 
 -- From each state that a store holds, the command was answered as its conduct allows, and the store holds the state after it.
 abbrev pub Did : {M S : Type 0} → (M → Schema) → (M → S → Type 0) → Conduct S → M → Command Data → Response → M → Type 0
-Did {M} {S} under Holds conduct old command answer new = (s : S) → Holds old s → Meets Holds (Does conduct (under old) s command answer) new
+Did {M} {S} under Holds conduct old command answer new = (s : S) → Holds old s → IsReached Holds (Does conduct (under old) s command answer) new
 
 -- From each state that a store stands for, or none, a command was answered as that state allows.
 abbrev pub Obeyed : {M S : Type 0} → (M → Schema) → (M → S → Type 0) → Conduct S → Option M → Command Data → Response → Machine M → Type 0
-Obeyed {M} {S} under Holds conduct old command answer new = (s : State S) → StandsFor under Holds old s → Meets (IsAt under Holds) (Obeys conduct s command answer) new
+Obeyed {M} {S} under Holds conduct old command answer new = (s : State S) → StandsFor under Holds old s → IsReached (MachineStands under Holds) (Obeys conduct s command answer) new
 
 -- The schema that a machine has when it has obeyed a command: the first that came.
 abbrev pub schema_behind : {T : Type 0} → Option Schema → Command T → Option Schema

@@ -8,10 +8,10 @@ use Rattle.sk_run.specs.Forms.{form_of}
 use Rattle.sk_io.specs.Seen.{Seen}
 use Rattle.sk_run.specs.Outsides.{Outside}
 use Rattle.sk_run.specs.Conducts.{Conduct}
-use Rattle.sk_run.specs.ByForm.{EndedBy, Keeps}
+use Rattle.sk_run.specs.ByForm.{EndedBy, LeavesAlone}
 
 -- The source tells its bytes, which are fewer than a run takes of one source, and its count of faults did not rise. (One that stands at its greatest number is taken to have risen.)
-pub record IsCalm (before after : Seen) : Type 0 where
+pub record IsQuiet (before after : Seen) : Type 0 where
   pub bytes : List ℕ
   pub told : before.left ≡ Some bytes
   pub short : length bytes < 2 ^ 40
@@ -25,9 +25,9 @@ pub record Ran {S : Type 0} (conduct : Conduct S) (words : List (List ℕ)) (sta
   -- Under the words of a form: what the status says, and what was put, read and counted by then.
   pub ended : (form : Form) → form_of words ≡ Some form → EndedBy conduct form status before after
   -- What the form does not touch is as before.
-  pub kept : (form : Form) → form_of words ≡ Some form → Keeps form before after
+  pub kept : (form : Form) → form_of words ≡ Some form → LeavesAlone form before after
   -- Where both sources tell their bytes, which are not too many, and nothing fails, the run comes to its end, or memory ran out.
-  pub complete : (form : Form) → form_of words ≡ Some form → IsCalm before.input after.input → IsCalm before.records after.records → (Rose before.output.sink.faults after.output.sink.faults → ⊥)
+  pub complete : (form : Form) → form_of words ≡ Some form → IsQuiet before.input after.input → IsQuiet before.records after.records → (Rose before.output.sink.faults after.output.sink.faults → ⊥)
       → IsFinished status ⊎ (status ≡ Status.Memory)
   -- The counter never falls.
   pub counts : before.output.steps ≤ after.output.steps

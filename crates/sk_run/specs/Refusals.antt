@@ -18,17 +18,17 @@ refusal_number (BadQuery kind place) = 9
 refusal_number BadTree = 10
 
 -- The name that is printed behind the number.
-abbrev pub name_of : Refusal → List ℕ
-name_of TooLong = codes "TooLong"
-name_of NotJson = codes "NotJson"
-name_of NoSchema = codes "NoSchema"
-name_of SchemaAgain = codes "SchemaAgain"
-name_of BadShape = codes "BadShape"
-name_of BadField = codes "BadField"
-name_of NoIdLeft = codes "NoIdLeft"
-name_of NotFound = codes "NotFound"
-name_of (BadQuery kind place) = codes "BadQuery"
-name_of BadTree = codes "BadTree"
+abbrev pub refusal_name : Refusal → List ℕ
+refusal_name TooLong = codes "TooLong"
+refusal_name NotJson = codes "NotJson"
+refusal_name NoSchema = codes "NoSchema"
+refusal_name SchemaAgain = codes "SchemaAgain"
+refusal_name BadShape = codes "BadShape"
+refusal_name BadField = codes "BadField"
+refusal_name NoIdLeft = codes "NoIdLeft"
+refusal_name NotFound = codes "NotFound"
+refusal_name (BadQuery kind place) = codes "BadQuery"
+refusal_name BadTree = codes "BadTree"
 
 -- The name of a fault of a query text.
 abbrev pub fault_name : FaultKind → List ℕ
@@ -55,4 +55,4 @@ detail_of BadTree = []
 
 -- `refused`, the number, the name, and what stands behind it.
 abbrev pub refusal_line : Refusal → List ℕ
-refusal_line why = codes "refused " ++ (decimal (refusal_number why) ++ (codes " " ++ (name_of why ++ (detail_of why ++ codes "\n"))))
+refusal_line why = codes "refused " ++ (decimal (refusal_number why) ++ (codes " " ++ (refusal_name why ++ (detail_of why ++ codes "\n"))))

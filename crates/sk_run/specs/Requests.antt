@@ -14,11 +14,11 @@ use Rattle.sk_run.specs.declared.machine.Machine.{Machine}
 use Rattle.sk_run.specs.declared.machine.Reading.{Reading}
 use Rattle.sk_run.specs.declared.machine.Reading.TheVariants.{Commands, Queries}
 use Rattle.sk_run.specs.declared.response.Response.{Response}
-use Rattle.sk_run.specs.Lines.{Meets}
+use Rattle.sk_run.specs.Lines.{IsReached}
 use Rattle.sk_run.specs.Meaning.{Meaning, blank, refusal, asks, meaning}
 use Rattle.sk_run.specs.Queries.{query_meaning}
 use Rattle.sk_run.specs.Conducts.{Conduct, State, Obeys, reads}
-use Rattle.sk_run.specs.Machines.{IsAt, schema_behind}
+use Rattle.sk_run.specs.Machines.{MachineStands, schema_behind}
 
 -- What a line means that asks for this.
 abbrev pub meant : Request → Meaning
@@ -58,7 +58,7 @@ AnswersRequest conduct s (Asks command) answer next = Obeys conduct s (command_o
 
 -- From each state that a machine stands for, a request was answered as that state allows.
 abbrev pub AnsweredRequest : {M S : Type 0} → (M → Schema) → (M → S → Type 0) → Conduct S → Machine M → Request → Response → Machine M → Type 0
-AnsweredRequest {M} {S} under Holds conduct old request answer new = (s : State S) → IsAt under Holds old s → Meets (IsAt under Holds) (AnswersRequest conduct s request answer) new
+AnsweredRequest {M} {S} under Holds conduct old request answer new = (s : State S) → MachineStands under Holds old s → IsReached (MachineStands under Holds) (AnswersRequest conduct s request answer) new
 
 -- The schema that a machine has when it has answered a request.
 abbrev pub schema_after : Option Schema → Request → Option Schema

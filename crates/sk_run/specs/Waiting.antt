@@ -11,7 +11,7 @@ use Rattle.sk_run.specs.Responses.{text_under, is_refusal, steps_of}
 use Rattle.sk_run.specs.Outsides.{Output}
 
 -- A front of these bytes was put, and the others wait.
-pub record Moves (bytes waiting : List ℕ) (held held_after : Option (List ℕ)) : Type 0 where
+pub record MovesOut (bytes waiting : List ℕ) (held held_after : Option (List ℕ)) : Type 0 where
   pub front : List ℕ
   pub parts : bytes ≡ front ++ waiting
   pub put : Appends held held_after front
@@ -33,7 +33,7 @@ module _ (printing : Printing) (Allowed : Response → Type 0) (waiting : List �
     pub answer : Response
     pub allowed : Allowed answer
     pub refusal : refused ≡ is_refusal answer
-    pub moves : Moves (waiting ++ text_under printing answer) waiting_after before.sink.held after.sink.held
+    pub moves : MovesOut (waiting ++ text_under printing answer) waiting_after before.sink.held after.sink.held
     pub paid : after.steps ≡ before.steps + steps_of answer
     pub finishes : after.sink.finishes ≡ before.sink.finishes
     pub later : before.sink.faults ≤ after.sink.faults

@@ -7,7 +7,7 @@ ghost use Rattle.sk_run.specs.declared.response.Printing.TheVariants as Printing
 ghost use Rattle.sk_run.specs.declared.response.Response.{Response};
 ghost use Rattle.sk_run.specs.declared.status.Status.{Status};
 ghost use Rattle.sk_run.specs.Outsides.{output_at};
-ghost use Rattle.sk_run.specs.Machines.{IsAt};
+ghost use Rattle.sk_run.specs.Machines.{MachineStands};
 ghost use Rattle.sk_run.specs.Conducts.{State, Obeys};
 ghost use Rattle.sk_run.specs.Ended.{Ended, Continues, NotWhole};
 ghost use Rattle.sk_run.specs.Closing.{NeverTaken};
@@ -39,7 +39,7 @@ pub(crate) fn obey_demo<M: Store, K: Sink, L: Ledger>(
 ) -> Result<(Machine<M>, bool), Status>
     requires { documents < 2 ^ 32 }
     ensures ok { IfOk result (λ p. Continues Printing.WithoutOk
-        (ObeysThrough (Obeys M.conduct) (IsAt M.under M.holds) p.0 None (demo_commands documents)) false p.1
+        (ObeysThrough (Obeys M.conduct) (MachineStands M.under M.holds) p.0 None (demo_commands documents)) false p.1
         (output_at (K.seen output.old) steps.old)
         (output_at (K.seen output.new) steps.new)) }
     ensures err { IfErr result (λ status. Ended Printing.WithoutOk

@@ -3,7 +3,7 @@ ghost use Rattle.std.specs.Prelude.{◌≡◌, IfOk, IfErr, Some};
 ghost use Rattle.sk_io.specs.Answers.{IsShort};
 ghost use Rattle.sk_run.specs.Outsides.{output_at};
 ghost use Rattle.sk_run.specs.Lines.{AnsweredLine};
-ghost use Rattle.sk_run.specs.Machines.{IsAt, schema_in};
+ghost use Rattle.sk_run.specs.Machines.{MachineStands, schema_in};
 ghost use Rattle.sk_run.specs.Conducts.{AnswersAs};
 ghost use Rattle.sk_run.specs.Requests.{MayBeAsked, AnsweredRequest, schema_after};
 ghost use Rattle.sk_run.specs.Waiting.{Joins, JoinsNot};
@@ -30,11 +30,11 @@ pub(crate) fn answer_line<M: Store, K: Sink, L: Ledger>(
 ) -> Result<(Machine<M>, bool), Status>
     requires { IsShort (Some line) }
     ensures ok { IfOk result (λ p. Joins printing
-        (λ answer. AnsweredLine (IsAt M.under M.holds) (AnswersAs M.conduct reading) machine line.entry answer p.0) waiting.old waiting.new p.1
+        (λ answer. AnsweredLine (MachineStands M.under M.holds) (AnswersAs M.conduct reading) machine line.entry answer p.0) waiting.old waiting.new p.1
         (output_at (K.seen output.old) steps.old)
         (output_at (K.seen output.new) steps.new)) }
     ensures err { IfErr result (λ status. JoinsNot printing
-        (λ answer. (next : Machine M) × AnsweredLine (IsAt M.under M.holds) (AnswersAs M.conduct reading) machine line.entry answer next) waiting.old status
+        (λ answer. (next : Machine M) × AnsweredLine (MachineStands M.under M.holds) (AnswersAs M.conduct reading) machine line.entry answer next) waiting.old status
         (output_at (K.seen output.old) steps.old)
         (output_at (K.seen output.new) steps.new)) }
 {

@@ -1,7 +1,7 @@
 //! The run over the lines of a source.
 ghost use Rattle.std.specs.Prelude.{ℕ, IfOk, IfErr};
 ghost use Rattle.sk_run.specs.Outsides.{output_at};
-ghost use Rattle.sk_run.specs.Machines.{IsAt};
+ghost use Rattle.sk_run.specs.Machines.{MachineStands};
 ghost use Rattle.sk_run.specs.Conducts.{AnswersAs, Closes};
 ghost use Rattle.sk_run.specs.Ended.{Ended};
 ghost use Rattle.sk_run.specs.Sources.{GoesThrough, StopsWithin, EndsLines};
@@ -30,7 +30,7 @@ pub(crate) fn answer_to_end<M: Store, S: Source, K: Sink, L: Ledger>(
     output: &mut K,
     steps: &mut Steps<L>,
 ) -> Status
-    ensures { EndsLines (IsAt M.under M.holds) (AnswersAs M.conduct reading) printing first (S.seen input.old) (S.seen input.new) (Closes M.conduct) refused result
+    ensures { EndsLines (MachineStands M.under M.holds) (AnswersAs M.conduct reading) printing first (S.seen input.old) (S.seen input.new) (Closes M.conduct) refused result
         (output_at (K.seen output.old) steps.old) (output_at (K.seen output.new) steps.new) }
 {
     match answer_lines(
@@ -54,9 +54,9 @@ pub(crate) fn answer_lines<M: Store, S: Source, K: Sink, L: Ledger>(
     output: &mut K,
     steps: &mut Steps<L>,
 ) -> Result<(Machine<M>, bool), Status>
-    ensures ok { IfOk result (λ p. GoesThrough (IsAt M.under M.holds) (AnswersAs M.conduct reading) printing first (S.seen input.old) (S.seen input.new) p.0 refused_before p.1
+    ensures ok { IfOk result (λ p. GoesThrough (MachineStands M.under M.holds) (AnswersAs M.conduct reading) printing first (S.seen input.old) (S.seen input.new) p.0 refused_before p.1
         (output_at (K.seen output.old) steps.old) (output_at (K.seen output.new) steps.new)) }
-    ensures err { IfErr result (λ status. StopsWithin (IsAt M.under M.holds) (AnswersAs M.conduct reading) printing first (S.seen input.old) (S.seen input.new) refused_before status
+    ensures err { IfErr result (λ status. StopsWithin (MachineStands M.under M.holds) (AnswersAs M.conduct reading) printing first (S.seen input.old) (S.seen input.new) refused_before status
         (output_at (K.seen output.old) steps.old) (output_at (K.seen output.new) steps.new)) }
 {
     let Ok(mut lines) = Lines::new(alloc, LIMIT) else {
@@ -101,7 +101,7 @@ pub(crate) fn close<M: Store, K: Sink>(
     output: &mut K,
 ) -> Status
     ensures { (count : ℕ) → Ended printing
-        (ClosedBy (IsAt M.under M.holds) (Closes M.conduct) machine) NeverTaken (ClosedOrNot (IsAt M.under M.holds) (Closes M.conduct) machine) refused result
+        (ClosedBy (MachineStands M.under M.holds) (Closes M.conduct) machine) NeverTaken (ClosedOrNot (MachineStands M.under M.holds) (Closes M.conduct) machine) refused result
         (output_at (K.seen output.old) count)
         (output_at (K.seen output.new) count) }
 {

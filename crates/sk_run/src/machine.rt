@@ -9,7 +9,7 @@ ghost use Rattle.sk_run.specs.declared.request.Request.TheVariants as Request;
 ghost use Rattle.sk_base.specs.Records.{FitsEdit};
 ghost use Rattle.sk_run.specs.Responses.{steps_of};
 ghost use Rattle.sk_run.specs.Conducts.{State, Closes};
-ghost use Rattle.sk_run.specs.Machines.{IsAt, schema_in, schema_behind, Did, Obeyed};
+ghost use Rattle.sk_run.specs.Machines.{MachineStands, schema_in, schema_behind, Did, Obeyed};
 ghost use Rattle.sk_run.specs.Requests.{MayBeAsked, AnsweredRequest, may_read, schema_after};
 
 use crate::asking::answer_question;
@@ -40,7 +40,7 @@ pub struct Machine<M: Drop> {
 impl<M: Store> Machine<M> {
     /// A machine that waits for a schema.
     pub fn new() -> Machine<M>
-        ensures { IsAt M.under M.holds result None }
+        ensures { MachineStands M.under M.holds result None }
     {
         Machine { store: None }
     }
@@ -71,7 +71,7 @@ impl<M: Store> Machine<M> {
 
     /// What is put behind the answers of all lines. It is no reading.
     pub(crate) fn close(self, alloc: Global) -> Result<Response, AllocError>
-        ensures closes { IfOk result (λ answer. (s : State M.State) → IsAt M.under M.holds self s → Closes M.conduct s answer) }
+        ensures closes { IfOk result (λ answer. (s : State M.State) → MachineStands M.under M.holds self s → Closes M.conduct s answer) }
         ensures free { IfOk result (λ answer. steps_of answer ≡ 0) }
     {
         match self.store {

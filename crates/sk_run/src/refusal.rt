@@ -1,7 +1,7 @@
 //! Why a line is refused.
 ghost use Rattle.std.specs.Prelude.{◌≡◌, IfOk, string_bytes};
 ghost use Rattle.sk_run.specs.declared.refusal.Refusal.TheVariants as Refusal;
-ghost use Rattle.sk_run.specs.Refusals.{refusal_number, name_of, fault_name, detail_of, refusal_line};
+ghost use Rattle.sk_run.specs.Refusals.{refusal_number, refusal_name, fault_name, detail_of, refusal_line};
 
 use sk_grammar::FaultKind;
 use std::alloc::{AllocError, Global};
@@ -50,7 +50,7 @@ impl Refusal {
     }
 
     pub fn name(self) -> &'static str
-        ensures { result.now ≡ name_of self }
+        ensures { result.now ≡ refusal_name self }
     {
         match self {
             Refusal::TooLong => "TooLong",

@@ -6,8 +6,8 @@ ghost use Rattle.sk_base.specs.Finds.{FitsFind, ask_over};
 ghost use Rattle.sk_base.specs.Records.{FitsEdit};
 ghost use Rattle.sk_parser.specs.Asked.{asked};
 ghost use Rattle.sk_run.specs.Conducts.{Conduct};
-ghost use Rattle.sk_run.specs.Asking.{Tells, Counts};
-ghost use Rattle.sk_run.specs.Lines.{Meets};
+ghost use Rattle.sk_run.specs.Asking.{TellsOfFind, CountsSteps};
+ghost use Rattle.sk_run.specs.Lines.{IsReached};
 ghost use Rattle.sk_run.specs.Responses.{steps_of};
 
 use crate::Response;
@@ -43,14 +43,14 @@ pub trait Store: Drop {
     /// Changes the documents. Where memory runs out the store is given up.
     fn apply(self, edit: Edit) -> Result<(Self, Reply), AllocError>
         requires { FitsEdit (under self) edit }
-        ensures edits { IfOk result (λ p. (s : State) → holds self s → Meets holds (conduct.edits (under self) s edit p.1) p.0) }
+        ensures edits { IfOk result (λ p. (s : State) → holds self s → IsReached holds (conduct.edits (under self) s edit p.1) p.0) }
         ensures schema { IfOk result (λ p. under p.0 ≡ under self) };
 
     /// The report of a find, or why there is none. The counter rises by the steps of the report.
     fn find<L: Ledger>(&self, find: &Find<Value>, steps: &mut Steps<L>) -> Result<Report, AskError>
         requires { FitsFind find.now }
-        ensures tells { (s : State) → holds self.now s → Tells (conduct.finds s find.now.paging) (asked (under self.now) (ask_over view find.now.ask)) result }
-        ensures counts { Counts result steps.old steps.new };
+        ensures tells { (s : State) → holds self.now s → TellsOfFind (conduct.finds s find.now.paging) (asked (under self.now) (ask_over view find.now.ask)) result }
+        ensures counts { CountsSteps result steps.old steps.new };
 
     /// What is put at the end of a run. It is no reading.
     fn close(self, alloc: Global) -> Result<Response, AllocError>

@@ -5,7 +5,7 @@ ghost use Rattle.sk_io.specs.Causes.{HasCause};
 ghost use Rattle.sk_io.specs.Fronts.{AppendsPrefix};
 ghost use Rattle.sk_run.specs.declared.status.Status.TheVariants as Status;
 ghost use Rattle.sk_run.specs.Outsides.{output_at};
-ghost use Rattle.sk_run.specs.Waiting.{Moves, PutsLast};
+ghost use Rattle.sk_run.specs.Waiting.{MovesOut, PutsLast};
 
 use crate::Status;
 use sk_io::{Failed, Sink, put_all};
@@ -61,7 +61,7 @@ impl Waiting {
     /// Puts all that waits, unless it may stay.
     pub(crate) fn put_unless<K: Sink>(&mut self, stays: bool, output: &mut K) -> Result<(), Failed>
         ensures empty { OnOk result (stays ≡ false → self.new ≡ []) }
-        ensures ok { OnOk result (Moves self.old self.new (K.seen output.old).held (K.seen output.new).held) }
+        ensures ok { OnOk result (MovesOut self.old self.new (K.seen output.old).held (K.seen output.new).held) }
         ensures err { OnErr result (AppendsPrefix (K.seen output.old).held (K.seen output.new).held self.old) }
         ensures finishes { (K.seen output.new).finishes ≡ (K.seen output.old).finishes }
         ensures cause { HasCause (K.seen output.old).faults (K.seen output.new).faults result }
@@ -75,7 +75,7 @@ impl Waiting {
     /// The text waits behind the others, which are put first where it has no room beside them. One that has no room
     /// alone is put at once.
     pub(crate) fn join<K: Sink>(&mut self, text: &[u8], output: &mut K) -> Result<(), Failed>
-        ensures ok { OnOk result (Moves (self.old ++ text.now) self.new (K.seen output.old).held (K.seen output.new).held) }
+        ensures ok { OnOk result (MovesOut (self.old ++ text.now) self.new (K.seen output.old).held (K.seen output.new).held) }
         ensures err { OnErr result (AppendsPrefix (K.seen output.old).held (K.seen output.new).held (self.old ++ text.now)) }
         ensures finishes { (K.seen output.new).finishes ≡ (K.seen output.old).finishes }
         ensures cause { HasCause (K.seen output.old).faults (K.seen output.new).faults result }

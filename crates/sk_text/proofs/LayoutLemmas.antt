@@ -8,7 +8,7 @@ use Rattle.sk_text.specs.declared.word.Word.{Word}
 use Rattle.sk_text.specs.Characters.{is_word_char, ends_word, belongs, written}
 use Rattle.sk_text.specs.Terms.{term_of}
 use Rattle.sk_text.specs.Words.{ended, words_from, words}
-use Rattle.sk_text.specs.Layout.{EachBelongs, IsInside, IsOutside, IsNext, AreLaid, AreWords}
+use Rattle.sk_text.specs.Layout.{EachBelongs, IsInside, IsOutside, IsNextWord, AreLaid, AreWords}
 
 -- one character more at the end is the last
 ends_word-snoc : (xs : List ℕ) (c : ℕ) → ends_word (xs ++ c ∷ []) ≡ is_word_char c
@@ -123,7 +123,7 @@ reading_next before gap run cs c after from at word r h =
 
 -- the word of the run
 is_next : (before gap run rest : List ℕ) (d : ℕ) (after : Bool) (from at n : ℕ) (word : List ℕ) → IsReading before gap (d ∷ run) rest after from at word
-    → IsNext n before gap (d ∷ run) rest (record { term = term_of word; from = from; to = at; number = n })
+    → IsNextWord n before gap (d ∷ run) rest (record { term = term_of word; from = from; to = at; number = n })
 is_next before gap run rest d after from at n word r =
     record { outside = r.outside; apart = r.apart; inside = r.inside; some = λ e. cc; from = r.start; to = r.place; number = refl; term = ap term_of r.spelt }
 

@@ -4,7 +4,7 @@ use Rattle.std.proofs.lemmas.List.Elements.{All-cons, All-nil}
 use Rattle.std.proofs.lemmas.Str.{encodes-append, encodes-chars}
 use Rattle.sk_text.specs.declared.word.Word.{Word}
 use Rattle.sk_text.specs.Words.{words}
-use Rattle.sk_text.specs.Layout.{IsNext, AreLaid, IsWithin}
+use Rattle.sk_text.specs.Layout.{IsNextWord, AreLaid, EndsWithin}
 use Rattle.sk_text.proofs.LayoutLemmas.{length-run, words-AreWords}
 
 -- how many bytes these characters take
@@ -23,7 +23,7 @@ size-run xs [] some = absurd (some refl)
 size-run xs (c ∷ cs) some = length-run xs c cs
 
 -- the next word stands behind what is before it, and takes bytes
-next_bounds : (n : ℕ) (before gap run rest : List ℕ) (w : Word) → IsNext n before gap run rest w → (size before ≤ w.from) × (w.from < w.to)
+next_bounds : (n : ℕ) (before gap run rest : List ℕ) (w : Word) → IsNextWord n before gap run rest w → (size before ≤ w.from) × (w.from < w.to)
 next_bounds n before gap run rest w r = (
   rw r.from (size-front before gap),
   rw (r.from, r.to) (size-run (before ++ gap) run r.some),
@@ -39,15 +39,15 @@ rest_fits before gap run rest left most e fits = rw (seam before gap run rest, �
 
 -- each word is within the whole, and there are no more words than bytes
 laid_within : (ws : List Word) (n : ℕ) (before left : List ℕ) (most : ℕ) → size (before ++ left) ≤ most → n ≤ size before + 1 → AreLaid n before left ws
-    → All (IsWithin most) ws × (length ws + size before ≤ most)
-laid_within [] n before left most fits count r = (All-nil (IsWithin most), let front = size-front before left in omega (arith, front))
+    → All (EndsWithin most) ws × (length ws + size before ≤ most)
+laid_within [] n before left most fits count r = (All-nil (EndsWithin most), let front = size-front before left in omega (arith, front))
 laid_within (w ∷ ws) n before left most fits count r =
     let later = rest_fits before r.0 r.1 r.2 left most r.3 fits in
     let front = size-front (before ++ r.0 ++ r.1) r.2 in
     let bounds = next_bounds n before r.0 r.1 r.2 w r.4 in
     let end = r.4.to in
     let more = laid_within ws (n + 1) (before ++ r.0 ++ r.1) r.2 most later (omega (arith, bounds.0, bounds.1, end, count)) r.5 in (
-      All-cons (IsWithin most) w ws (record { some = bounds.1; whole = omega (arith, front, later, end); count = omega (arith, bounds.0, bounds.1, r.4.number, count) }) more.0,
+      All-cons (EndsWithin most) w ws (record { some = bounds.1; whole = omega (arith, front, later, end); count = omega (arith, bounds.0, bounds.1, r.4.number, count) }) more.0,
       omega (arith, more.1, bounds.0, bounds.1, end),
     )
 
@@ -63,7 +63,7 @@ size-chars : (text : List ℕ) → IsUtf8 text → size (chars text) ≡ length 
 size-chars text u = ap length (encodes-chars text u)
 
 -- each word is within its text
-pub words-IsWithin : (text : List ℕ) → IsUtf8 text → All (IsWithin (length text)) (words text)
+pub words-IsWithin : (text : List ℕ) → IsUtf8 text → All (EndsWithin (length text)) (words text)
 words-IsWithin text u =
     (laid_within (words text) 1 [] (chars text) (length text) (omega (arith, size-chars text u)) (omega arith) (words-AreWords text)).0
 

@@ -20,7 +20,7 @@ IsOutside = EachBelongs false
 
 -- w is the word of number n: behind `before` come a gap with nothing of a word, which is not empty between two words, and then this run,
 -- all of which belongs to a word
-pub record IsNext (n : ℕ) (before gap run rest : List ℕ) (w : Word) : Type 0 where
+pub record IsNextWord (n : ℕ) (before gap run rest : List ℕ) (w : Word) : Type 0 where
   pub outside : IsOutside before gap (run ++ rest)
   pub apart : before ≢ [] → gap ≢ []
   pub inside : IsInside (before ++ gap) run rest
@@ -35,14 +35,14 @@ abbrev pub AreLaid : ℕ → List ℕ → List ℕ → List Word → Type 0
 AreLaid n before left [] = IsOutside before left []
 AreLaid n before left (w ∷ ws) =
     (gap : List ℕ) × (run : List ℕ) × (rest : List ℕ) × (left ≡ gap ++ run ++ rest)
-    × IsNext n before gap run rest w × AreLaid (n + 1) (before ++ gap ++ run) rest ws
+    × IsNextWord n before gap run rest w × AreLaid (n + 1) (before ++ gap ++ run) rest ws
 
 -- ws are the words of the text
 abbrev pub AreWords : List ℕ → List Word → Type 0
 AreWords text ws = AreLaid 1 [] (chars text) ws
 
 -- w takes some bytes of a text of this many, and its number is no greater than the byte before which it ends
-pub record IsWithin (size : ℕ) (w : Word) : Type 0 where
+pub record EndsWithin (size : ℕ) (w : Word) : Type 0 where
   pub some : w.from < w.to
   pub whole : w.to ≤ size
   pub count : w.number ≤ w.to

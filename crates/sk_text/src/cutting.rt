@@ -3,7 +3,7 @@
 ghost use Rattle.std.specs.Prelude.{◌≡◌, ◌+◌, ◌<◌, ◌≤◌, ◌^◌, ◌++◌, length, All, IfOk};
 ghost use Rattle.sk_text.specs.Characters.{written_bytes};
 ghost use Rattle.sk_text.specs.Words.{ended, words};
-ghost use Rattle.sk_text.specs.Layout.{AreWords, IsWithin};
+ghost use Rattle.sk_text.specs.Layout.{AreWords, EndsWithin};
 
 use crate::characters::{belongs, first_of, is_word};
 use crate::folding::fold_written;
@@ -17,7 +17,7 @@ pub fn words(alloc: Global, text: &str) -> Result<Words, AllocError>
     requires { length text.now ≤ 1048576 }
     ensures value { IfOk result (λ ws. ws ≡ words text.now) }
     ensures maximal { IfOk result (λ ws. AreWords text.now ws) }
-    ensures within { IfOk result (λ ws. All (IsWithin (length text.now)) ws) }
+    ensures within { IfOk result (λ ws. All (EndsWithin (length text.now)) ws) }
     ensures count { IfOk result (λ ws. length ws ≤ length text.now) }
 {
     let mut made = Words::new(alloc);

@@ -11,7 +11,7 @@ use Rattle.sk_sorted.proofs.RunLaws.{below-top, run_rises, tops_rise}
 use Rattle.sk_sorted.proofs.RunEditLaws.{run_read}
 use Rattle.sk_sorted.proofs.RunPlaceLaws.{place_drop, place_end, place_on, place_next, place_within, rises_behind}
 use Rattle.sk_model.specs.Ranges.{is_within}
-use Rattle.sk_values.specs.SlotValues.{SlotValues, SlotRuns, value_at}
+use Rattle.sk_values.specs.SlotValues.{SlotValues, SlotRuns, value_at_place}
 use Rattle.sk_values.specs.RangeCursor.{in_range, ahead, IsStop, IsHeadAt}
 use Rattle.sk_values.proofs.ValueLaws.{drop-entry}
 
@@ -21,7 +21,7 @@ use Rattle.sk_values.proofs.ValueLaws.{drop-entry}
 pub record IsSameEntry (es : SlotValues) (j : ℕ) (run : SlotValues) (k : ℕ) : Type 0 where
   pub there : j < length es
   pub id : id_at es j ≡ id_at run k
-  pub value : value_at es j ≡ value_at run k
+  pub value : value_at_place es j ≡ value_at_place run k
 
 same_entry : (runs : SlotRuns) (i k before : ℕ) → i < length runs → k < length (get_or runs i []) → IsPlace runs i k before → IsSameEntry (flat runs) before (get_or runs i []) k
 same_entry runs i k before lt less at =
@@ -29,7 +29,7 @@ same_entry runs i k before lt less at =
     let rest : SlotValues = flat (drop (i + 1) runs) in
     let split : drop before (flat runs) ≡ drop k run ++ rest = place_drop runs i k before lt at in
     let there : before < length (flat runs) = omega (arith, ap length split, length-append (drop k run) rest, length-drop k run, length-drop before (flat runs), less) in
-    let both : (id_at (flat runs) before, value_at (flat runs) before) ≡ (id_at run k, value_at run k)
+    let both : (id_at (flat runs) before, value_at_place (flat runs) before) ≡ (id_at run k, value_at_place run k)
     = ap (λ (es : SlotValues). get_or es 0 (0, [])) (sym (drop-entry (flat runs) before there) ∙ split ∙ ap (λ (es : SlotValues). es ++ rest) (drop-entry run k less)) in
     record {
       there = there;
@@ -146,9 +146,9 @@ pub next_reaches : (runs : SlotRuns) (i read passed target : ℕ) → i < length
 next_reaches runs i read passed target lt at less le =
     let run : SlotValues = get_or runs i [] in
     let rest : SlotValues = drop (read + 1) run ++ flat (drop (i + 1) runs) in
-    let split : drop passed (flat runs) ≡ (id_at run read, value_at run read) ∷ rest
+    let split : drop passed (flat runs) ≡ (id_at run read, value_at_place run read) ∷ rest
     = place_drop runs i read passed lt at ∙ ap (λ (es : SlotValues). es ++ flat (drop (i + 1) runs)) (drop-entry run read less) in
-    split ∙ sym (from-at target (id_at run read, value_at run read) rest le) ∙ ap (from target) (sym split)
+    split ∙ sym (from-at target (id_at run read, value_at_place run read) rest le) ∙ ap (from target) (sym split)
 
 -- the last id of a piece that is read at its place
 pub last_is : (runs : SlotRuns) (i : ℕ) (run : SlotValues) → i < length runs → run ≡ get_or runs i run → top_id 0 run ≡ top_id 0 (get_or runs i [])

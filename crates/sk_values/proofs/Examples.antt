@@ -3,7 +3,7 @@ use Rattle.std.proofs.Common.{◌≡◌, [], ◌∷◌, None, Some, refl}
 use Rattle.sk_sorted.specs.Entries.{put, without}
 use Rattle.sk_sorted.specs.Places.{id_at}
 use Rattle.sk_values.specs.declared.range_cursor.RangeCursor.{RangeCursor}
-use Rattle.sk_values.specs.SlotValues.{SlotValues, found_value, value_at}
+use Rattle.sk_values.specs.SlotValues.{SlotValues, found_value, value_at_place}
 use Rattle.sk_values.specs.RangeCursor.{in_range, unread, left}
 
 abbrev two : SlotValues
@@ -33,10 +33,10 @@ cleared = refl
 second_id : id_at two 1 ≡ 4294967295
 second_id = refl
 
-second_value : value_at two 1 ≡ 97 ∷ 98 ∷ []
+second_value : value_at_place two 1 ≡ 97 ∷ 98 ∷ []
 second_value = refl
 
-past_the_end : value_at two 2 ≡ []
+past_the_end : value_at_place two 2 ≡ []
 past_the_end = refl
 
 -- ---- ranges

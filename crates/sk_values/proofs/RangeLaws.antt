@@ -8,7 +8,7 @@ use Rattle.sk_sorted.proofs.EntryLaws.{RiseAbove-lower, RiseAbove-drop, from-bel
 use Rattle.sk_sorted.specs.Runs.{flat}
 use Rattle.sk_model.specs.Ranges.{is_within}
 use Rattle.sk_values.specs.declared.range_cursor.RangeCursor.{RangeCursor}
-use Rattle.sk_values.specs.SlotValues.{SlotValues, SlotRuns, value_at}
+use Rattle.sk_values.specs.SlotValues.{SlotValues, SlotRuns, value_at_place}
 use Rattle.sk_values.specs.RangeCursor.{in_range, unread, ahead, left, IsStop, IsHeadAt, IsOn, is_head_below}
 use Rattle.sk_values.proofs.ValueLaws.{drop-entry}
 
@@ -49,25 +49,25 @@ module _ (lo hi : Option (List ℕ)) where
       ] refl
 
   -- the entry at a place that is not in the range is passed over
-  pub in_range-past : (list : SlotValues) (read : ℕ) → read < length list → is_within lo hi (value_at list read) ≡ false → in_range lo hi (drop (read + 1) list) ≡ in_range lo hi (drop read list)
-  in_range-past list read lt outside = sym (ap (in_range lo hi) (drop-entry list read lt) ∙ in_range-not (id_at list read, value_at list read) (drop (read + 1) list) outside)
+  pub in_range-past : (list : SlotValues) (read : ℕ) → read < length list → is_within lo hi (value_at_place list read) ≡ false → in_range lo hi (drop (read + 1) list) ≡ in_range lo hi (drop read list)
+  in_range-past list read lt outside = sym (ap (in_range lo hi) (drop-entry list read lt) ∙ in_range-not (id_at list read, value_at_place list read) (drop (read + 1) list) outside)
 
   module _ (id read : ℕ) (list : SlotValues) (stop : IsStop lo hi id read list) where
     -- the entries from the head on
-    ahead_is : drop (read - 1) list ≡ (id, value_at list (read - 1)) ∷ drop read list
+    ahead_is : drop (read - 1) list ≡ (id, value_at_place list (read - 1)) ∷ drop read list
     ahead_is =
         let begun : 0 < read = stop.begun in
         let within : read ≤ length list = stop.within in
         let back : read - 1 + 1 ≡ read = omega arith in
-        drop-entry list (read - 1) (omega arith) ∙ (λ k. (stop.is k, value_at list (read - 1)) ∷ drop (back k) list)
+        drop-entry list (read - 1) (omega arith) ∙ (λ k. (stop.is k, value_at_place list (read - 1)) ∷ drop (back k) list)
 
     -- the head, and then the unread in the range
-    stop-split : in_range lo hi (drop (read - 1) list) ≡ (id, value_at list (read - 1)) ∷ in_range lo hi (drop read list)
-    stop-split = ap (in_range lo hi) ahead_is ∙ in_range-here (id, value_at list (read - 1)) (drop read list) stop.inside
+    stop-split : in_range lo hi (drop (read - 1) list) ≡ (id, value_at_place list (read - 1)) ∷ in_range lo hi (drop read list)
+    stop-split = ap (in_range lo hi) ahead_is ∙ in_range-here (id, value_at_place list (read - 1)) (drop read list) stop.inside
 
     -- behind the head ids are greater
     rises_behind : AreSorted list → RiseAbove id (drop read list)
-    rises_behind sound = let up : RiseAbove 0 ((id, value_at list (read - 1)) ∷ drop read list) = subst (RiseAbove 0) ahead_is (RiseAbove-drop 0 (read - 1) list sound.rise) in up.1
+    rises_behind sound = let up : RiseAbove 0 ((id, value_at_place list (read - 1)) ∷ drop read list) = subst (RiseAbove 0) ahead_is (RiseAbove-drop 0 (read - 1) list sound.rise) in up.1
 
   -- the head is the first id that is left
   pub head_is : (head : Option ℕ) (read : ℕ) (list : SlotValues) → IsHeadAt lo hi head read list → head ≡ first_id (in_range lo hi (ahead head read list))
@@ -80,7 +80,7 @@ module _ (lo hi : Option (List ℕ)) where
   stays_left None read target list on above = refl
   stays_left (Some id) read target list on above =
       let split = stop-split id read list on in
-      split ∙ sym (from-at target (id, value_at list (read - 1)) (in_range lo hi (drop read list)) (ltb-false id target above)) ∙ ap (from target) (sym split)
+      split ∙ sym (from-at target (id, value_at_place list (read - 1)) (in_range lo hi (drop read list)) (ltb-false id target above)) ∙ ap (from target) (sym split)
 
   pub stays_unread : (head : Option ℕ) (read target : ℕ) (list : SlotValues) → AreSorted list → IsHeadAt lo hi head read list → is_head_below target head ≡ false
       → drop read list ≡ from target (drop read list)
@@ -95,7 +95,7 @@ module _ (lo hi : Option (List ℕ)) where
   moves_left None read target list sound on below = absurd (true≢false (sym below))
   moves_left (Some id) read target list sound on below =
       sym (in_range-from id target (drop read list) (rises_behind id read list on sound))
-      ∙ sym (from-below target (id, value_at list (read - 1)) (in_range lo hi (drop read list)) (ltb-true id target below))
+      ∙ sym (from-below target (id, value_at_place list (read - 1)) (in_range lo hi (drop read list)) (ltb-true id target below))
       ∙ ap (from target) (sym (stop-split id read list on))
 
   pub moves_on : (head : Option ℕ) (read target : ℕ) (list : SlotValues) → IsHeadAt lo hi head read list → is_head_below target head ≡ true
@@ -128,13 +128,13 @@ unread-ended c runs on e = ended_unread c.lo c.hi c.head c.place.passed (flat ru
 
 -- a head, and then the unread in the range, by cases
 head_split : (lo hi : Option (List ℕ)) (head : Option ℕ) (read id : ℕ) (list : SlotValues) → IsHeadAt lo hi head read list → Some id ≡ head
-    → in_range lo hi (ahead head read list) ≡ (id, value_at list (read - 1)) ∷ in_range lo hi (drop read list)
+    → in_range lo hi (ahead head read list) ≡ (id, value_at_place list (read - 1)) ∷ in_range lo hi (drop read list)
 head_split lo hi None read id list on e = cc
-head_split lo hi (Some at) read id list on e = let same : at ≡ id = cc in stop-split lo hi at read list on ∙ (λ k. (same k, value_at list (read - 1)) ∷ in_range lo hi (drop read list))
+head_split lo hi (Some at) read id list on e = let same : at ≡ id = cc in stop-split lo hi at read list on ∙ (λ k. (same k, value_at_place list (read - 1)) ∷ in_range lo hi (drop read list))
 
 -- the head's entry, and then the unread in the range
 pub left-split : (c : RangeCursor) (runs : SlotRuns) (id : ℕ) → IsOn c runs → Some id ≡ first_id (left c (flat runs))
-    → left c (flat runs) ≡ (id, value_at (flat runs) (c.place.passed - 1)) ∷ in_range c.lo c.hi (unread c (flat runs))
+    → left c (flat runs) ≡ (id, value_at_place (flat runs) (c.place.passed - 1)) ∷ in_range c.lo c.hi (unread c (flat runs))
 left-split c runs id on e = head_split c.lo c.hi c.head c.place.passed id (flat runs) on.head (e ∙ sym (head_is c.lo c.hi c.head c.place.passed (flat runs) on.head))
 
 -- what is left rises
@@ -150,7 +150,7 @@ pub from-left : (c : RangeCursor) (runs : SlotRuns) (id : ℕ) → AreSorted (fl
 from-left c runs id sound on e =
     let list : SlotValues = flat runs in
     let split = left-split c runs id on e in
-    let entry : ℕ × List ℕ = (id, value_at list (c.place.passed - 1)) in
+    let entry : ℕ × List ℕ = (id, value_at_place list (c.place.passed - 1)) in
     let rest : SlotValues = in_range c.lo c.hi (unread c list) in
     let up : RiseAbove 0 (entry ∷ rest) = subst (RiseAbove 0) split (RiseAbove-left c list sound) in
     ap (from (id + 1)) split ∙ from-below (id + 1) entry rest (omega arith) ∙ from-above id (id + 1) rest up.1 (omega arith)

@@ -7,7 +7,7 @@ use Rattle.sk_sorted.specs.Entries.{put, without, found, has}
 use Rattle.sk_sorted.specs.Places.{id_at}
 use Rattle.sk_sorted.proofs.EntryLaws.{AreSorted-put, AreSorted-without, AllByRecursion-put, AllByRecursion-without, AllByRecursion-found}
 use Rattle.sk_sorted.proofs.PlaceLaws.{found_at, id_at-get_or}
-use Rattle.sk_values.specs.SlotValues.{SlotValues, HaveValues, AreSlotValues, found_value, value_at}
+use Rattle.sk_values.specs.SlotValues.{SlotValues, HaveValues, AreSlotValues, found_value, value_at_place}
 
 -- no value is empty
 abbrev has_bytes : ℕ × List ℕ → Type 0
@@ -46,28 +46,28 @@ found_value-some id es values there = by (found id es) refl there
     by (Some v) e h = AllByRecursion-found (λ (w : List ℕ). 1 ≤ length w) id v es values e
 
 -- the value at a place is that of the entry there
-pub value_at-get_or : (es : SlotValues) (i : ℕ) (d : ℕ × List ℕ) → i < length es → (get_or es i d).1 ≡ value_at es i
+pub value_at-get_or : (es : SlotValues) (i : ℕ) (d : ℕ × List ℕ) → i < length es → (get_or es i d).1 ≡ value_at_place es i
 value_at-get_or [] i d lt = absurd (omega arith)
 value_at-get_or (e ∷ es) zero d lt = refl
 value_at-get_or (e ∷ es) (suc i) d lt = value_at-get_or es i d (omega arith)
 
 -- it is that of the id there
-pub found_value-id_at : (es : SlotValues) (i : ℕ) → AreSlotValues es → i < length es → found_value (id_at es i) es ≡ value_at es i
+pub found_value-id_at : (es : SlotValues) (i : ℕ) → AreSlotValues es → i < length es → found_value (id_at es i) es ≡ value_at_place es i
 found_value-id_at es i sound lt =
     ap (λ (o : Option (List ℕ)). unwrap_or o []) (found_at 0 es (id_at es i) i (0, []) sound.sorted.rise (record { in_range = lt; has_id = refl })) ∙ value_at-get_or es i (0, []) lt
 
 -- it is not empty
-pub value_at-some : (es : SlotValues) (i : ℕ) → HaveValues es → i < length es → 1 ≤ length (value_at es i)
+pub value_at-some : (es : SlotValues) (i : ℕ) → HaveValues es → i < length es → 1 ≤ length (value_at_place es i)
 value_at-some [] i values lt = absurd (omega arith)
 value_at-some (e ∷ es) zero values lt = values.0
 value_at-some (e ∷ es) (suc i) values lt = value_at-some es i values.1 (omega arith)
 
 -- from a place on stand the entry there and then the rest
-pub drop-entry : (es : SlotValues) (i : ℕ) → i < length es → drop i es ≡ (id_at es i, value_at es i) ∷ drop (i + 1) es
+pub drop-entry : (es : SlotValues) (i : ℕ) → i < length es → drop i es ≡ (id_at es i, value_at_place es i) ∷ drop (i + 1) es
 drop-entry es i lt = drop_more es i (0, []) lt ∙ (λ k. (id_at-get_or es i (0, []) lt k, value_at-get_or es i (0, []) lt k) ∷ drop (i + 1) es)
 
 -- what is read of a copy of the list at a place is what stands there
-pub entry_read : (es copy : SlotValues) (i : ℕ) (e : ℕ × List ℕ) → copy ≡ es → i < length es → e ≡ get_or copy i e → record { id : e.0 ≡ id_at es i; value : e.1 ≡ value_at es i }
+pub entry_read : (es copy : SlotValues) (i : ℕ) (e : ℕ × List ℕ) → copy ≡ es → i < length es → e ≡ get_or copy i e → record { id : e.0 ≡ id_at es i; value : e.1 ≡ value_at_place es i }
 entry_read es copy i e same lt is =
     let read : e ≡ get_or es i e = is ∙ ap (λ (l : SlotValues). get_or l i e) same in record {
       id = ap (λ (w : ℕ × List ℕ). w.0) read ∙ id_at-get_or es i e lt;

@@ -5,7 +5,7 @@ use Rattle.sk_sorted.specs.Runs.{flat, IsPlace}
 use Rattle.sk_model.specs.Ranges.{is_within}
 use Rattle.sk_values.specs.declared.range_cursor.Place.{Place}
 use Rattle.sk_values.specs.declared.range_cursor.RangeCursor.{RangeCursor}
-use Rattle.sk_values.specs.SlotValues.{SlotValues, SlotRuns, value_at}
+use Rattle.sk_values.specs.SlotValues.{SlotValues, SlotRuns, value_at_place}
 
 -- The entries whose values lie in the range.
 abbrev pub in_range : Option (List ℕ) → Option (List ℕ) → SlotValues → SlotValues
@@ -29,7 +29,7 @@ pub record IsStop (lo hi : Option (List ℕ)) (id read : ℕ) (list : SlotValues
   pub begun : 0 < read
   pub within : read ≤ length list
   pub is : id_at list (read - 1) ≡ id
-  pub inside : is_within lo hi (value_at list (read - 1)) ≡ true
+  pub inside : is_within lo hi (value_at_place list (read - 1)) ≡ true
 
 -- The head belongs to the place: an ended cursor has come past all.
 abbrev pub IsHeadAt : Option (List ℕ) → Option (List ℕ) → Option ℕ → ℕ → SlotValues → Type 0

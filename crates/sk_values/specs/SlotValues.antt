@@ -26,7 +26,7 @@ abbrev pub found_value : ℕ → SlotValues → List ℕ
 found_value id es = unwrap_or (found id es) []
 
 -- The value at a place, empty past the end.
-abbrev pub value_at : SlotValues → ℕ → List ℕ
-value_at [] i = []
-value_at (e ∷ es) zero = e.1
-value_at (e ∷ es) (suc i) = value_at es i
+abbrev pub value_at_place : SlotValues → ℕ → List ℕ
+value_at_place [] i = []
+value_at_place (e ∷ es) zero = e.1
+value_at_place (e ∷ es) (suc i) = value_at_place es i

@@ -3,7 +3,7 @@ ghost use Rattle.std.specs.Prelude.{◌≡◌, ◌+◌, ◌≤◌, ◌<◌, true
 ghost use Rattle.sk_sorted.specs.Entries.{from, first_id};
 ghost use Rattle.sk_sorted.specs.Places.{id_at};
 ghost use Rattle.sk_sorted.specs.Runs.{flat};
-ghost use Rattle.sk_values.specs.SlotValues.{SlotRuns, value_at};
+ghost use Rattle.sk_values.specs.SlotValues.{SlotRuns, value_at_place};
 ghost use Rattle.sk_values.specs.RangeCursor.{in_range, unread, ahead, left, IsHeadAt, IsPlaceIn, IsOn, is_head_below};
 
 use crate::SlotList;
@@ -222,7 +222,7 @@ pub(crate) fn entry<'a, L: Ledger>(
 ) -> (DocId, &'a [u8])
     requires { i < length piece.now }
     ensures id { result.0 ≡ id_at piece.now i }
-    ensures value { result.1.now ≡ value_at piece.now i }
+    ensures value { result.1.now ≡ value_at_place piece.now i }
     ensures cost { steps.new ≡ steps.old + 1 }
 {
     let entry = &piece.as_slice()[i as usize];

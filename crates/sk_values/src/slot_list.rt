@@ -4,7 +4,7 @@ ghost use Rattle.std.specs.Option.{option_map};
 ghost use Rattle.sk_sorted.specs.Entries.{put, without, found, has};
 ghost use Rattle.sk_sorted.specs.Places.{id_at};
 ghost use Rattle.sk_sorted.specs.Runs.{flat, AreRuns, IsPlace};
-ghost use Rattle.sk_values.specs.SlotValues.{AreSlotValues, found_value, value_at};
+ghost use Rattle.sk_values.specs.SlotValues.{AreSlotValues, found_value, value_at_place};
 
 use crate::range_cursor::entry;
 use sk_base::{Bytes, DocId};
@@ -88,7 +88,7 @@ impl SlotList {
     pub fn entry<L: Ledger>(&self, i: u32, steps: &mut Steps<L>) -> (DocId, &[u8])
         requires { i < length (flat self.now) }
         ensures id { result.0 ≡ id_at (flat self.now) i }
-        ensures value { result.1.now ≡ value_at (flat self.now) i }
+        ensures value { result.1.now ≡ value_at_place (flat self.now) i }
         ensures cost { steps.new ≡ steps.old + 1 }
     {
         let pieces = self.pieces();

@@ -1,5 +1,6 @@
 use Rattle.std.proofs.Common.{◌≡◌, ◌++◌, drop, map, filter}
-use Rattle.sk_model.specs.Documents.{filter_term, is_given}
+use Rattle.sk_model.specs.Documents.{filter_term}
+use Rattle.sk_base.specs.Terms.{is_given}
 use Rattle.sk_docs.proofs.gathering.note_filter_texts.Given as goal
 
 abbrev pub invariant-texts : goal.invariant-texts

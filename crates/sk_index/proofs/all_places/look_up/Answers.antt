@@ -2,7 +2,7 @@
 use Rattle.std.proofs.Common.{ℕ, arith}
 use Rattle.sk_base.specs.Documents.{positions_of}
 use Rattle.sk_dict.specs.Terms.{term_at}
-use Rattle.sk_index.specs.Packed.{positions_at}
+use Rattle.sk_index.specs.Packed.{positions_at_place}
 use Rattle.sk_index.specs.Unpacked.{named_all}
 use Rattle.sk_index.proofs.PlaceLemmas.{looked_up}
 use Rattle.sk_index.proofs.all_places.look_up.Goals as goal
@@ -13,5 +13,5 @@ terms-preserved g c =
     let packed = c.args.packed.now in
     record {
       counted = omega arith;
-      found = looked_up (positions_at packed) (λ (n : ℕ). positions_of (term_at dict n) (named_all dict packed)) c.terms.places c.args.numbers.now c.terms.i c.place_in.result 0 (omega arith) (omega arith) c.place_in.ensures c.terms.invariant.found;
+      found = looked_up (positions_at_place packed) (λ (n : ℕ). positions_of (term_at dict n) (named_all dict packed)) c.terms.places c.args.numbers.now c.terms.i c.place_in.result 0 (omega arith) (omega arith) c.place_in.ensures c.terms.invariant.found;
     }

@@ -2,12 +2,12 @@
 use Rattle.std.proofs.Common.{◌≡◌, ◌+◌, map, take}
 use Rattle.sk_base.specs.Documents.{positions_of}
 use Rattle.sk_dict.specs.Terms.{term_at}
-use Rattle.sk_index.specs.Packed.{positions_at}
+use Rattle.sk_index.specs.Packed.{positions_at_place}
 use Rattle.sk_index.specs.Unpacked.{named_all}
 use Rattle.sk_index.proofs.all_places.look_up.Given as goal
 
 abbrev pub invariant-terms : goal.invariant-terms
 invariant-terms g l = record {
   counted : l.steps ≡ l.fn.steps + l.i;
-  found : map (positions_at l.packed) (take l.i l.places) ≡ map (λ n. positions_of (term_at l.lists.terms n) (named_all l.lists.terms l.packed)) (take l.i l.numbers);
+  found : map (positions_at_place l.packed) (take l.i l.places) ≡ map (λ n. positions_of (term_at l.lists.terms n) (named_all l.lists.terms l.packed)) (take l.i l.numbers);
 }

@@ -11,7 +11,7 @@ use Rattle.sk_nodes.specs.Odd.{AreFrom, AreSought, followed_by}
 use Rattle.sk_nodes.proofs.LeafLaws.{AtMost-covers}
 use Rattle.sk_nodes.proofs.NodeLaws.{covers_more, capped_top, shape_of-Nothing, shape_of-Leaf, shape_of-Pair, leaf_shape, shape_of-Tested, tested_shape, parts_shape, sought_along, greatest_under-mono, weight_le, target_ended, head_reached, pair_top, pair_top_ended, sides_covers, sides_covers_ended, sides_begun, sides_more, pair_covers, odd_shape, odd_written, any_shape, any_written}
 use Rattle.sk_nodes.proofs.OddLaws.{weights_fit, odd_begun, sides_cons, odd_covers, odd_more, odd_top, sides_split, sides_append, both_sound, sound_behind, from_behind, sought_behind, greatest_behind, unread_behind, sizes_behind, some_sizes}
-use Rattle.sk_nodes.specs.Proximity.{entries_from}
+use Rattle.sk_nodes.specs.Proximity.{entries_unread}
 use Rattle.sk_nodes.proofs.ProximityLaws.{test_begun, moved_all, moved_covers, moved_ended, ended_test, passed_top, passed_sound, passed_covers, none_top, failed_ended_covers, failed_ended_sound, failed_more}
 use Rattle.sk_nodes.proofs.RareLaws.{meets_lead}
 use Rattle.sk_nodes.specs.Moved.{with_lead, Accounts}
@@ -464,7 +464,7 @@ seek_tested-returns-then-passes g t c =
     let covers =
     passed_covers i c.args.target c.args.need c.tests.from c.args.test.now c.args.below.now (shape_of c.args.node.now) c.tests.test c.tests.below (shape_of c.tests.node) c.reach.new.top (shape_of c.reach.new.node)
     c.tests.invariant.far c.reach.ensures.sought.lands.top c.reach.ensures.sought.lands.sound c.reach.ensures.sought.lands.reached c.reach.ensures.sought.falls c.reach.ensures.sought.smaller c.reach.ensures.sought.lands.covers c.passes.new.self c.passes.ensures.same c.passes.ensures.next (omega (arith, c.if-below-ge-END.false)) in
-    let same : entries_from i c.passes.new.self.next c.passes.new.self.numbers.items ≡ entries_from i c.passes.new.self.next c.tests.test.numbers.items = ap (entries_from i c.passes.new.self.next) c.passes.ensures.same.numbers in
+    let same : entries_unread i c.passes.new.self.next c.passes.new.self.numbers.items ≡ entries_unread i c.passes.new.self.next c.tests.test.numbers.items = ap (entries_unread i c.passes.new.self.next) c.passes.ensures.same.numbers in
     record {
       lands = record {
         top = top;
@@ -482,7 +482,7 @@ seek_tested-returns-then-passes g t c =
 pub seek_tested-returns-then-from-ge-END : goal.seek_tested-returns-then-from-ge-END
 seek_tested-returns-then-from-ge-END g t c =
     let i = c.args.index.now in
-    let same : entries_from i c.passes.new.self.next c.passes.new.self.numbers.items ≡ entries_from i c.passes.new.self.next c.tests.test.numbers.items = ap (entries_from i c.passes.new.self.next) c.passes.ensures.same.numbers in
+    let same : entries_unread i c.passes.new.self.next c.passes.new.self.numbers.items ≡ entries_unread i c.passes.new.self.next c.tests.test.numbers.items = ap (entries_unread i c.passes.new.self.next) c.passes.ensures.same.numbers in
     record {
       lands = record {
         top =
@@ -511,7 +511,7 @@ seek_tested-returns-then-from-ge-END g t c =
 pub seek_tested-tests-preserved : goal.seek_tested-tests-preserved
 seek_tested-tests-preserved g t c =
     let i = c.args.index.now in
-    let same : entries_from i c.passes.new.self.next c.passes.new.self.numbers.items ≡ entries_from i c.passes.new.self.next c.tests.test.numbers.items = ap (entries_from i c.passes.new.self.next) c.passes.ensures.same.numbers in
+    let same : entries_unread i c.passes.new.self.next c.passes.new.self.numbers.items ≡ entries_unread i c.passes.new.self.next c.tests.test.numbers.items = ap (entries_unread i c.passes.new.self.next) c.passes.ensures.same.numbers in
     record {
       far = failed_more i c.args.target c.args.need c.tests.from c.args.test.now c.args.below.now (shape_of c.args.node.now) c.tests.test c.tests.below (shape_of c.tests.node) c.reach.new.top (shape_of c.reach.new.node)
           c.tests.invariant.far c.reach.ensures.sought.lands.top c.reach.ensures.sought.lands.sound c.reach.ensures.sought.lands.reached c.reach.ensures.sought.falls c.reach.ensures.sought.smaller c.reach.ensures.sought.lands.covers c.passes.new.self c.passes.ensures.same c.passes.ensures.next (omega (arith, c.if-below-ge-END.false)) (c.passes.ensures.fails c.if-passes.false) (omega (arith, c.if-from-ge-END.false));

@@ -6,7 +6,7 @@ use Rattle.sk_nodes.specs.Left.{unread_of, unread_in}
 use Rattle.sk_nodes.proofs.NodeLaws.{SidesSoFar}
 use Rattle.sk_nodes.proofs.MoveLaws.{AccountsSoFar}
 use Rattle.sk_nodes.proofs.FadingLaws.{FadesSoFar}
-use Rattle.sk_nodes.specs.Proximity.{entries_from}
+use Rattle.sk_nodes.specs.Proximity.{entries_unread}
 use Rattle.sk_nodes.proofs.OddLaws.{OddSoFar}
 use Rattle.sk_nodes.proofs.AnyLaws.{AnySoFar}
 use Rattle.sk_nodes.proofs.ProximityLaws.{TestSoFar}
@@ -87,7 +87,7 @@ decreases-seek_tested g l = 5 * size_of (shape_of l.node.now) + 4
 abbrev pub invariant-seek_tested-tests : goal.invariant-seek_tested-tests
 invariant-seek_tested-tests g l = record {
   far : TestSoFar l.index l.target l.need l.from l.fn.test l.fn.below (shape_of l.fn.node) l.test l.below (shape_of l.node);
-  spends : Spends (unread_of l.index (shape_of l.fn.node) + entries_from l.index l.fn.test.next l.fn.test.numbers.items) (unread_of l.index (shape_of l.node) + entries_from l.index l.test.next l.test.numbers.items) l.fn.spent l.spent l.fn.steps l.steps;
+  spends : Spends (unread_of l.index (shape_of l.fn.node) + entries_unread l.index l.fn.test.next l.fn.test.numbers.items) (unread_of l.index (shape_of l.node) + entries_unread l.index l.test.next l.test.numbers.items) l.fn.spent l.spent l.fn.steps l.steps;
 }
 
 abbrev pub decreases-seek_tested-tests : goal.decreases-seek_tested-tests

@@ -5,7 +5,7 @@ use Rattle.sk_model.specs.Bounds.{ceil, ceils, ceil_of, lengths_of}
 use Rattle.sk_model.specs.Allowance.{leaves_readings}
 use Rattle.sk_nodes.specs.Shapes.{shape_of, sides_on}
 use Rattle.sk_nodes.specs.Left.{unread_in}
-use Rattle.sk_nodes.specs.Proximity.{entries_from, AreInOrder}
+use Rattle.sk_nodes.specs.Proximity.{entries_unread, AreInOrder}
 use Rattle.sk_nodes.specs.Opened.{score_of, part_scores, joint_score_of, parts_size, AreParts, Opens}
 use Rattle.sk_nodes.proofs.OddLaws.{unread_behind, opens_behind}
 use Rattle.sk_nodes.proofs.NodeLaws.{shape_of-Nothing}
@@ -77,9 +77,9 @@ open_standing-returns-clause-pays g t c =
     let view = ap queries_view c.as_slice.ensures.value ∙ c.in_ok-terms.ensures in
     let named = all_numbered i c.in_ok-numbers.numbers.items c.args.words.now c.in_ok-numbers.ensures.terms (omega (arith, c.if-len-words.false, c.len.ensures)) in
     let first = ap (λ ts. leaves_readings ts i.live.documents) view ∙ terms_readings c.args.words.now i.live.documents in
-    let second = ap (λ (ns : List ℕ). entries_from i 0 ns) c.as_slice-2.ensures.value ∙ entries_all i c.in_ok-numbers.numbers.items ∙ ap (λ ts. lengths_of ts i.live.documents) named in
+    let second = ap (λ (ns : List ℕ). entries_unread i 0 ns) c.as_slice-2.ensures.value ∙ entries_all i c.in_ok-numbers.numbers.items ∙ ap (λ ts. lengths_of ts i.live.documents) named in
     let pays = c.in_ok-below.ensures.pays in
-    let listed = ap (λ (ns : List ℕ). entries_from i 0 ns) c.as_slice-2.ensures.value in
+    let listed = ap (λ (ns : List ℕ). entries_unread i 0 ns) c.as_slice-2.ensures.value in
     record {
       paid = omega (arith, listed, pays.paid, c.in_ok-top.ensures.paid, c.in_ok-add_lengths.ensures.sum);
       within = omega (arith, first, second, pays.within, c.in_ok-add_lengths.ensures.sum);

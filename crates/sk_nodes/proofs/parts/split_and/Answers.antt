@@ -1,7 +1,7 @@
 -- What holds of an and holds of its first part and of the others, which are put together first.
 use Rattle.std.proofs.Common.{◌≡◌, ◌<◌, arith}
 use Rattle.sk_query.specs.Trees.{queries_view}
-use Rattle.sk_nodes.specs.Opened.{count_in}
+use Rattle.sk_nodes.specs.Opened.{part_count}
 use Rattle.sk_nodes.proofs.CountLaws.{counted}
 use Rattle.sk_nodes.proofs.OpenLaws.{joined, parts_joined}
 use Rattle.sk_nodes.proofs.PartsLaws.{turned_splits}
@@ -11,10 +11,10 @@ use Rattle.sk_nodes.proofs.parts.split_and.Goals as goal
 whole : (c : goal.After-others-1) → queries_view c.args.parts.now ≡ joined (queries_view c.split_at.result.0.now) (queries_view c.split_at.result.1.now)
 whole c = parts_joined c.args.parts.now c.split_at.result.0.now c.split_at.result.1.now 1 c.split_at.ensures.front c.split_at.ensures.back
 
-first_some : (c : goal.After-others-1) → 0 < count_in (queries_view c.split_at.result.0.now)
+first_some : (c : goal.After-others-1) → 0 < part_count (queries_view c.split_at.result.0.now)
 first_some c = omega (arith, counted c.split_at.result.0.now, c.split_at.ensures.front_len)
 
-others_some : (c : goal.After-others-1) → 0 < count_in (queries_view c.split_at.result.1.now)
+others_some : (c : goal.After-others-1) → 0 < part_count (queries_view c.split_at.result.1.now)
 others_some c = omega (arith, counted c.split_at.result.1.now, c.split_at.ensures.back_len, c.requires.many)
 
 pub returns-then-is_longer-clause-splits : goal.returns-then-is_longer-clause-splits

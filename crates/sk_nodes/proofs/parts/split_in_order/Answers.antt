@@ -1,7 +1,7 @@
 -- What holds of parts holds of the first of them and of the others.
 use Rattle.std.proofs.Common.{◌≡◌, ◌<◌, sym, subst, arith}
 use Rattle.sk_query.specs.Trees.{queries_view}
-use Rattle.sk_nodes.specs.Opened.{count_in}
+use Rattle.sk_nodes.specs.Opened.{part_count}
 use Rattle.sk_nodes.specs.OpenedLed.{SplitsOff}
 use Rattle.sk_nodes.proofs.CountLaws.{counted}
 use Rattle.sk_nodes.proofs.OpenLaws.{joined, parts_joined}
@@ -12,10 +12,10 @@ use Rattle.sk_nodes.proofs.parts.split_in_order.Goals as goal
 whole : (c : goal.After-split_at) → queries_view c.args.parts.now ≡ joined (queries_view c.split_at.result.0.now) (queries_view c.split_at.result.1.now)
 whole c = parts_joined c.args.parts.now c.split_at.result.0.now c.split_at.result.1.now c.split_of.result c.split_at.ensures.front c.split_at.ensures.back
 
-front_some : (c : goal.After-split_at) → 0 < count_in (queries_view c.split_at.result.0.now)
+front_some : (c : goal.After-split_at) → 0 < part_count (queries_view c.split_at.result.0.now)
 front_some c = omega (arith, counted c.split_at.result.0.now, c.split_at.ensures.front_len, c.split_of.ensures.begun)
 
-back_some : (c : goal.After-split_at) → 0 < count_in (queries_view c.split_at.result.1.now)
+back_some : (c : goal.After-split_at) → 0 < part_count (queries_view c.split_at.result.1.now)
 back_some c = omega (arith, counted c.split_at.result.1.now, c.split_at.ensures.back_len, c.split_of.ensures.within)
 
 pub returns-clause-splits : goal.returns-clause-splits

@@ -3,7 +3,7 @@ use Rattle.std.proofs.Math.Seq.{drop-cons}
 use Rattle.serde_json.specs.View.{view}
 use Rattle.serde_json.specs.Find.{get}
 use Rattle.sk_record.specs.FieldRules.{member_value}
-use Rattle.sk_record.specs.Taken.{without}
+use Rattle.sk_record.specs.Taken.{without_member}
 use Rattle.sk_record.proofs.TakenLemmas.{Keeps, keeps_more}
 use Rattle.sk_record.proofs.judge.entries_of.Goals as goal
 
@@ -12,7 +12,7 @@ fields-preserved c =
     let fields = c.args.fields.now in
     let field = c.index-fields-place.result in
     let before = view c.fields.values in
-    let left = c.take_member-member.ensures.left ∙ ap (λ name. without name before) c.as_str.ensures in
+    let left = c.take_member-member.ensures.left ∙ ap (λ name. without_member name before) c.as_str.ensures in
     let there = sym c.in-Some.is ∙ c.in_ok-value.ensures ∙ ap (member_value field.kind) (c.take_member-member.ensures.taken ∙ ap (λ name. get name before) c.as_str.ensures) in
     let next = drop-cons fields c.fields.place field c.fields-test.true ∙ ap (λ f. f ∷ drop (suc c.fields.place) fields) (sym c.index-fields-place.is) in
     let kept = keeps_more fields (view c.args.values) field (drop (suc c.fields.place) fields) c.fields.place before (view c.take_member-member.new.value)

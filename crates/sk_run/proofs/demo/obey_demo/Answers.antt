@@ -8,21 +8,21 @@ use Rattle.sk_base.specs.declared.schema.Schema.{Schema}
 use Rattle.sk_record.specs.Outcome.{MayCome}
 use Rattle.sk_run.specs.Outsides.{output_at}
 use Rattle.sk_run.specs.declared.response.Printing.TheVariants as Printing
-use Rattle.sk_run.specs.Machines.{IsAt, schema_behind}
+use Rattle.sk_run.specs.Machines.{MachineStands, schema_behind}
 use Rattle.sk_run.specs.Conducts.{Obeys}
 use Rattle.sk_run.proofs.MachineLemmas.{schema_in_state}
 use Rattle.sk_run.proofs.DemoLemmas.{schema_before, comes_as, behind_as, comes, next_schema, demo_none, demo_at_once, demo_more, demo_last, demo_within, demo_unput, demo_ended}
 use Rattle.sk_run.proofs.demo.obey_demo.Goals as goal
 
 pub returns-in_default-clause-err : goal.returns-in_default-clause-err
-returns-in_default-clause-err g c = demo_at_once Printing.WithoutOk (IsAt g.M.Store.under g.M.Store.holds) (Obeys g.M.Store.conduct) None c.args.documents _ _ refl
+returns-in_default-clause-err g c = demo_at_once Printing.WithoutOk (MachineStands g.M.Store.under g.M.Store.holds) (Obeys g.M.Store.conduct) None c.args.documents _ _ refl
 
 pub commands-init : goal.commands-init
 commands-init g c = record {
   schema = schema_in_state g.M.Store.under g.M.Store.holds g.M.Store.conduct c.new-machine.result.store None c.new-machine.ensures;
   write_later = omega arith;
   finishes = refl;
-  so_far = demo_none Printing.WithoutOk (IsAt g.M.Store.under g.M.Store.holds) (Obeys g.M.Store.conduct) None c.args.documents _ _ _ _ c.in-Ok.ensures c.new-machine.ensures;
+  so_far = demo_none Printing.WithoutOk (MachineStands g.M.Store.under g.M.Store.holds) (Obeys g.M.Store.conduct) None c.args.documents _ _ _ _ c.in-Ok.ensures c.new-machine.ensures;
 }
 
 pub answer_request-requires : goal.answer_request-requires
@@ -43,7 +43,7 @@ commands-preserved g c =
       write_later = omega (arith, so.write_later, joins.later);
       finishes = joins.finishes ∙ so.finishes;
       so_far =
-          demo_more Printing.WithoutOk (IsAt g.M.Store.under g.M.Store.holds) (Obeys g.M.Store.conduct) None c.args.documents _ _ c.commands.place c.commands.waiting _ c.commands.machine c.in_ok-next.next c.commands.refused c.in_ok-next.refuses
+          demo_more Printing.WithoutOk (MachineStands g.M.Store.under g.M.Store.holds) (Obeys g.M.Store.conduct) None c.args.documents _ _ c.commands.place c.commands.waiting _ c.commands.machine c.in_ok-next.next c.commands.refused c.in_ok-next.refuses
           (output_at (g.K.Sink.seen c.commands.output) c.commands.steps)
           (output_at (g.K.Sink.seen c.answer_request.new.output) c.answer_request.new.steps)
           (command_over view c.in-Ok-demo_command.command) c.commands-test.true so.so_far c.in-Ok-demo_command.ensures joins;
@@ -52,7 +52,7 @@ commands-preserved g c =
 pub returns-in_default-demo_command-clause-err : goal.returns-in_default-demo_command-clause-err
 returns-in_default-demo_command-clause-err g c =
     let so = c.commands.invariant in
-    demo_last Printing.WithoutOk (IsAt g.M.Store.under g.M.Store.holds) (Obeys g.M.Store.conduct) None c.args.documents c.commands.place c.commands.waiting c.commands.machine c.commands.refused (output_at (g.K.Sink.seen c.args.output.now) c.args.steps.now)
+    demo_last Printing.WithoutOk (MachineStands g.M.Store.under g.M.Store.holds) (Obeys g.M.Store.conduct) None c.args.documents c.commands.place c.commands.waiting c.commands.machine c.commands.refused (output_at (g.K.Sink.seen c.args.output.now) c.args.steps.now)
     (output_at (g.K.Sink.seen c.commands.output) c.commands.steps)
     (output_at (g.K.Sink.seen c.put_last.new.output) c.commands.steps)
     so.so_far so.finishes so.write_later
@@ -63,7 +63,7 @@ returns-in_err-next-clause-err g c =
     let so = c.commands.invariant in
     let p = err_from_is_err_and c.from_residual.result c.from_residual.ensures.1 in
     rw (p.1, p.2)
-    (demo_within Printing.WithoutOk (IsAt g.M.Store.under g.M.Store.holds) (Obeys g.M.Store.conduct) None c.args.documents c.commands.place c.commands.waiting c.commands.machine c.commands.refused (output_at (g.K.Sink.seen c.args.output.now) c.args.steps.now)
+    (demo_within Printing.WithoutOk (MachineStands g.M.Store.under g.M.Store.holds) (Obeys g.M.Store.conduct) None c.args.documents c.commands.place c.commands.waiting c.commands.machine c.commands.refused (output_at (g.K.Sink.seen c.args.output.now) c.args.steps.now)
     (output_at (g.K.Sink.seen c.commands.output) c.commands.steps)
     (output_at (g.K.Sink.seen c.answer_request.new.output) c.answer_request.new.steps)
     so.so_far so.finishes so.write_later
@@ -72,7 +72,7 @@ returns-in_err-next-clause-err g c =
 pub returns-in_default-put-clause-err : goal.returns-in_default-put-clause-err
 returns-in_default-put-clause-err g c =
     let so = c.commands.invariant in
-    demo_unput Printing.WithoutOk (IsAt g.M.Store.under g.M.Store.holds) (Obeys g.M.Store.conduct) None c.args.documents c.commands.place c.commands.waiting c.commands.machine c.commands.refused (output_at (g.K.Sink.seen c.args.output.now) c.args.steps.now)
+    demo_unput Printing.WithoutOk (MachineStands g.M.Store.under g.M.Store.holds) (Obeys g.M.Store.conduct) None c.args.documents c.commands.place c.commands.waiting c.commands.machine c.commands.refused (output_at (g.K.Sink.seen c.args.output.now) c.args.steps.now)
     (output_at (g.K.Sink.seen c.commands.output) c.commands.steps)
     (output_at (g.K.Sink.seen c.put.new.output) c.commands.steps)
     so.so_far so.finishes so.write_later
@@ -81,7 +81,7 @@ returns-in_default-put-clause-err g c =
 pub returns-clause-ok : goal.returns-clause-ok
 returns-clause-ok g c =
     let so = c.commands.invariant in
-    demo_ended Printing.WithoutOk (IsAt g.M.Store.under g.M.Store.holds) (Obeys g.M.Store.conduct) None c.args.documents c.commands.place c.commands.waiting c.commands.machine c.commands.refused (output_at (g.K.Sink.seen c.args.output.now) c.args.steps.now)
+    demo_ended Printing.WithoutOk (MachineStands g.M.Store.under g.M.Store.holds) (Obeys g.M.Store.conduct) None c.args.documents c.commands.place c.commands.waiting c.commands.machine c.commands.refused (output_at (g.K.Sink.seen c.args.output.now) c.args.steps.now)
     (output_at (g.K.Sink.seen c.commands.output) c.commands.steps)
     (output_at (g.K.Sink.seen c.put.new.output) c.commands.steps)
     so.so_far so.finishes so.write_later

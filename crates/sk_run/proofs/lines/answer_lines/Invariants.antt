@@ -1,6 +1,6 @@
 use Rattle.std.proofs.Common.{◌≡◌, ◌≤◌, ℕ, List, Some, None}
 use Rattle.sk_io.specs.Reading.{reach}
-use Rattle.sk_run.specs.Machines.{IsAt}
+use Rattle.sk_run.specs.Machines.{MachineStands}
 use Rattle.sk_run.specs.Conducts.{AnswersAs}
 use Rattle.sk_run.proofs.RunLemmas.{TakenSoFar}
 use Rattle.sk_run.proofs.EndLemmas.{SoFar}
@@ -13,7 +13,7 @@ invariant-lines g l = record {
   write_later : (g.K.Sink.seen l.fn.output).faults ≤ (g.K.Sink.seen l.output).faults;
   finishes : (g.K.Sink.seen l.output).finishes ≡ (g.K.Sink.seen l.fn.output).finishes;
   taken : (bytes : List ℕ) → (g.S.Source.seen l.fn.input).left ≡ Some bytes → TakenSoFar bytes l.lines (g.S.Source.seen l.input).left;
-  so_far : SoFar l.fn.printing (IsAt g.M.Store.under g.M.Store.holds) (AnswersAs g.M.Store.conduct l.fn.reading)
+  so_far : SoFar l.fn.printing (MachineStands g.M.Store.under g.M.Store.holds) (AnswersAs g.M.Store.conduct l.fn.reading)
       l.fn.first (g.S.Source.seen l.fn.input).left (g.K.Sink.seen l.fn.output).held l.fn.refused_before l.fn.steps l.lines (g.S.Source.seen l.input).left l.waiting (g.K.Sink.seen l.output).held l.machine l.refused l.steps;
 }
 

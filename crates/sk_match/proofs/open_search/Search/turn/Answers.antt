@@ -1,7 +1,7 @@
 use Rattle.std.proofs.Common.{rules, arith, false, ◌≡◌, ◌≤◌, sym, subst, ap}
 use Rattle.sk_model.specs.Settled.{stop_point}
 use Rattle.sk_page.specs.Needs.{is_settled}
-use Rattle.sk_match.specs.Searches.{Passes, PassesOver}
+use Rattle.sk_match.specs.Searches.{PassesUnseen, TreePasses}
 use Rattle.sk_match.specs.declared.open_search.Search.{Search}
 use Rattle.sk_match.proofs.FinishLemmas.{seen_enough, done_at_end, done_settled}
 use Rattle.sk_match.proofs.TurnLemmas.{fits_head, high_of, turned_seen, turned_light, turned_fewer, turned_early, early_head}
@@ -35,16 +35,16 @@ returns-clause-stands g c paging query stands =
     elim c.if-weight-cutoff.branch [
       | then-weight-cutoff+in_ok-see w ↦
           turned_seen i old paging query stands c.in-Some.id c.weight-weight.result (c.in-Some.ensures i tree) (c.weight-weight.ensures i tree) high new w.see.new.self
-          (subst (λ n. n ≤ c.weight-weight.result) c.cutoff.ensures w.if-weight-cutoff.true) w.in_ok-see.ensures.sees (subst (λ (s : Search). Passes i c.in-Some.id s new) w.self-is c.pass.ensures.passes)
+          (subst (λ n. n ≤ c.weight-weight.result) c.cutoff.ensures w.if-weight-cutoff.true) w.in_ok-see.ensures.sees (subst (λ (s : Search). PassesUnseen i c.in-Some.id s new) w.self-is c.pass.ensures.passes)
       | else-weight-cutoff w ↦
           let light = w.if-weight-cutoff.false in
           turned_light i old paging query stands c.in-Some.id c.weight-weight.result (c.in-Some.ensures i tree) (c.weight-weight.ensures i tree) high new (omega (arith, light, c.cutoff.ensures))
-          (subst (λ (s : Search). Passes i c.in-Some.id s new) w.self-is c.pass.ensures.passes)
+          (subst (λ (s : Search). PassesUnseen i c.in-Some.id s new) w.self-is c.pass.ensures.passes)
     ]
 
 -- it went past the document at its head
-over : (g : given.Over) (c : goal.After-pass g) → PassesOver c.args.index.now c.in-Some.id c.args.self.now.tree c.pass.new.self.tree c.pass.new.self.need
-over g c = subst (λ t. PassesOver c.args.index.now c.in-Some.id t c.pass.new.self.tree c.pass.new.self.need) same_tree c.pass.ensures.passes.over
+over : (g : given.Over) (c : goal.After-pass g) → TreePasses c.args.index.now c.in-Some.id c.args.self.now.tree c.pass.new.self.tree c.pass.new.self.need
+over g c = subst (λ t. TreePasses c.args.index.now c.in-Some.id t c.pass.new.self.tree c.pass.new.self.need) same_tree c.pass.ensures.passes.over
   where
     same_tree : c.if-weight-cutoff.self.tree ≡ c.args.self.now.tree
     same_tree = elim c.if-weight-cutoff.branch [

@@ -1,6 +1,6 @@
 use Rattle.std.proofs.Common.{◌≡◌, ◌≤◌, ℕ, true, false, subst, sym, refl}
 use Rattle.sk_lists.specs.Lists.{Runs}
-use Rattle.sk_lists.specs.Seeks.{Passes}
+use Rattle.sk_lists.specs.Seeks.{PassesPostings}
 use Rattle.sk_lists.specs.Cursor.{left, IsOn}
 use Rattle.sk_nodes.specs.Leaves.{runs_of}
 use Rattle.sk_nodes.specs.Leaves.{leaf_rest}
@@ -19,7 +19,7 @@ returns-clause-covers g c =
     let old = c.args.self.now in
     sought_covers old.factor old.scheme c.wdf_for-self.result c.args.need c.args.target runs old.cursor c.advance-read.new.self
     c.requires.sound.runs c.requires.sound.on c.wdf_for-self.ensures
-    (subst (λ (rs : Runs). Passes c.args.target c.wdf_for-self.result (left old.cursor rs) (left c.advance-read.new.self rs)) c.list_of-list.ensures.runs c.advance-read.ensures.passes)
+    (subst (λ (rs : Runs). PassesPostings c.args.target c.wdf_for-self.result (left old.cursor rs) (left c.advance-read.new.self rs)) c.list_of-list.ensures.runs c.advance-read.ensures.passes)
 
 pub returns-clause-sound : goal.returns-clause-sound
 returns-clause-sound g c =
@@ -41,7 +41,7 @@ returns-clause-top g c =
 pub returns-clause-reached : goal.returns-clause-reached
 returns-clause-reached g c =
     let runs = runs_of c.args.index.now c.args.self.now.source in
-    let passes = subst (λ (rs : Runs). Passes c.args.target c.wdf_for-self.result (left c.args.self.now.cursor rs) (left c.advance-read.new.self rs)) c.list_of-list.ensures.runs c.advance-read.ensures.passes in
+    let passes = subst (λ (rs : Runs). PassesPostings c.args.target c.wdf_for-self.result (left c.args.self.now.cursor rs) (left c.advance-read.new.self rs)) c.list_of-list.ensures.runs c.advance-read.ensures.passes in
     subst (λ n. c.args.target ≤ n) (sym (c.point.ensures.at c.args.index.now (returns-clause-sound g c)))
     (head_of-reached c.args.target (left c.advance-read.new.self runs) c.requires.target passes.reached)
 
@@ -54,7 +54,7 @@ returns-clause-walks g c =
     let old = c.args.self.now.cursor in
     let new = c.advance-read.new.self in
     let is = c.list_of-list.ensures.runs in
-    let passes = subst (λ (rs : Runs). Passes c.args.target c.wdf_for-self.result (left old rs) (left new rs)) is c.advance-read.ensures.passes in
+    let passes = subst (λ (rs : Runs). PassesPostings c.args.target c.wdf_for-self.result (left old rs) (left new rs)) is c.advance-read.ensures.passes in
     record {
       few = omega (arith, c.advance-read.ensures.most, c.from.ensures);
       still = λ le. absurd (not_still c.args.target (left old runs) (head_is_below c.args.index.now c.args.top.now c.args.self.now c.args.target c.requires.top c.requires.sound c.requires.below c.requires.target) (head_below c.args.target (left old runs) le));

@@ -1,6 +1,6 @@
 use Rattle.std.proofs.Common.{◌≤◌, subst, sym, refl}
 use Rattle.sk_lists.specs.Lists.{Runs}
-use Rattle.sk_lists.specs.Seeks.{Passes}
+use Rattle.sk_lists.specs.Seeks.{PassesPostings}
 use Rattle.sk_lists.specs.Cursor.{left, IsOn}
 use Rattle.sk_nodes.specs.Leaves.{runs_of}
 use Rattle.sk_nodes.proofs.LeafLaws.{sought_covers, head_of-reached, leaf_moved}
@@ -17,7 +17,7 @@ returns-clause-covers g c =
     let old = c.args.self.now in
     sought_covers old.factor old.scheme c.wdf_for-self.result c.args.need c.args.target runs old.cursor c.seek-read.new.self
     c.requires.sound.runs c.requires.sound.on c.wdf_for-self.ensures
-    (subst (λ (rs : Runs). Passes c.args.target c.wdf_for-self.result (left old.cursor rs) (left c.seek-read.new.self rs)) c.list_of-list.ensures.runs c.seek-read.ensures.passes)
+    (subst (λ (rs : Runs). PassesPostings c.args.target c.wdf_for-self.result (left old.cursor rs) (left c.seek-read.new.self rs)) c.list_of-list.ensures.runs c.seek-read.ensures.passes)
 
 pub returns-clause-sound : goal.returns-clause-sound
 returns-clause-sound g c =
@@ -30,7 +30,7 @@ returns-clause-top g c = c.show.ensures.top c.args.index.now (returns-clause-sou
 pub returns-clause-reached : goal.returns-clause-reached
 returns-clause-reached g c =
     let runs = runs_of c.args.index.now c.args.self.now.source in
-    let passes = subst (λ (rs : Runs). Passes c.args.target c.wdf_for-self.result (left c.args.self.now.cursor rs) (left c.seek-read.new.self rs)) c.list_of-list.ensures.runs c.seek-read.ensures.passes in
+    let passes = subst (λ (rs : Runs). PassesPostings c.args.target c.wdf_for-self.result (left c.args.self.now.cursor rs) (left c.seek-read.new.self rs)) c.list_of-list.ensures.runs c.seek-read.ensures.passes in
     subst (λ n. c.args.target ≤ n) (sym (c.show.ensures.at c.args.index.now (returns-clause-sound g c)))
     (head_of-reached c.args.target (left c.seek-read.new.self runs) c.requires.target passes.reached)
 
@@ -43,7 +43,7 @@ returns-clause-walks g c =
     let old = c.args.self.now.cursor in
     let new = c.seek-read.new.self in
     let is = c.list_of-list.ensures.runs in
-    let passes = subst (λ (rs : Runs). Passes c.args.target c.wdf_for-self.result (left old rs) (left new rs)) is c.seek-read.ensures.passes in
+    let passes = subst (λ (rs : Runs). PassesPostings c.args.target c.wdf_for-self.result (left old rs) (left new rs)) is c.seek-read.ensures.passes in
     record {
       few = omega (arith, c.seek-read.ensures.most, c.from.ensures);
       still = λ le.
