@@ -7,7 +7,8 @@ use Rattle.sk_base.proofs.Tests.{first_so, second_so}
 use Rattle.sk_base.specs.declared.schema.Field.{Field}
 use Rattle.sk_base.specs.declared.record.Entry.{Entry}
 use Rattle.sk_base.specs.Records.{fits_entry, bytes_of_values, most_bytes, FitsValues}
-use Rattle.sk_base.specs.Fitting.{follow, left_behind, fit}
+use Rattle.sk_base.specs.Fitting.{follow, fit}
+use Rattle.sk_base.specs.Rooms.{room_behind}
 
 -- each place is at least the first that may be
 all_follow : (least : ℕ) (entries : List Entry) → follow least entries ≡ true → (i : ℕ) (d : Entry) → i < length entries → let e : Entry = get_or entries i d in least ≤ e.field
@@ -30,20 +31,20 @@ follow_from least (e ∷ es) h rising =
     and_from (nat_le least e.field) (follow (e.field + 1) es) (le-leb least e.field (h 0 e (omega arith)))
     (follow_from (e.field + 1) es (λ i d l. let p = rising 0 (suc i) d (omega arith) (omega arith) in omega (arith, p)) (λ i j d l m. rising (suc i) (suc j) d (omega arith) (omega arith)))
 
-within : (n : ℕ) → is_some (left_behind most_bytes n) ≡ true → n ≤ most_bytes
+within : (n : ℕ) → is_some (room_behind most_bytes n) ≡ true → n ≤ most_bytes
 within n e = by (nat_le n 1048576) refl e
   where
     by : (b : Bool) → nat_le n 1048576 ≡ b → is_some (if b then Some (1048576 - n) else None) ≡ true → n ≤ 1048576
     by true f e = leb-true n 1048576 f
     by false f e = cc
 
-says_within : (n : ℕ) → n ≤ most_bytes → is_some (left_behind most_bytes n) ≡ true
+says_within : (n : ℕ) → n ≤ most_bytes → is_some (room_behind most_bytes n) ≡ true
 says_within n h = ap (λ b. is_some (if b then Some (1048576 - n) else None)) (le-leb n 1048576 h)
 
 pub fit_is : (fields : List Field) (values : List Entry) (b : Bool) → b ≡ fit fields values → (b ≡ true → FitsValues fields values) × (FitsValues fields values → b ≡ true)
 fit_is fields values b is =
     let kinds = list_all (fits_entry fields) values in
-    let short = is_some (left_behind most_bytes (bytes_of_values values)) in (
+    let short = is_some (room_behind most_bytes (bytes_of_values values)) in (
       λ e.
           let all = sym is ∙ e in
           let front = first_so (follow 0 values && kinds) short all in

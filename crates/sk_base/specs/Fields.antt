@@ -65,6 +65,8 @@ are_fields fields = list_all is_field fields && are_apart fields
 -- A schema, as contracts see it.
 pub record Schema : Type 0 where
   pub fields : List Field
+  -- Whether the stems of words are indexed, and asked for.
+  pub stem : Bool
 
 -- A schema that was checked: 1 to 64 fields that keep the rules.
 pub record IsSchema (schema : Schema) : Type 0 where

@@ -1,5 +1,5 @@
 //! What a command line asks for.
-use crate::{Edit, Find, Join, Schema, Text};
+use crate::{Edit, FacetQuery, Find, Join, Schema, Text};
 
 /// What is asked of the documents, which stay as they are.
 #[derive(Debug, Drop)]
@@ -7,6 +7,8 @@ pub enum Question<T> {
     Find(Find<T>),
     /// The query of a text.
     Show(Text, Join),
+    /// How often each value of a field stands among all matches.
+    Facets(FacetQuery),
 }
 
 /// A command line that was understood, with query trees of the type `T`.

@@ -2,7 +2,8 @@
 ghost use Rattle.std.specs.Prelude.{◌≡◌, ◌↔◌, ◌≤◌, IsTrue, nat_le, true};
 ghost use Rattle.std.specs.List.{list_all};
 ghost use Rattle.sk_base.specs.Records.{fits_kind, fits_field, fits_entry, bytes_of_texts, bytes_of_value, bytes_of_values, most_bytes, FitsValues, FitsEdit};
-ghost use Rattle.sk_base.specs.Fitting.{follow, left_behind, fit};
+ghost use Rattle.sk_base.specs.Fitting.{follow, fit};
+ghost use Rattle.sk_base.specs.Rooms.{room_behind};
 
 use crate::{Edit, Entry, Field, FieldKind, FieldValue, MOST_TEXT, Schema, Text};
 
@@ -82,7 +83,7 @@ fn fits_kind(kind: &FieldKind, value: &FieldValue) -> bool
 
 /// What is left of a room behind the texts of the values, and none where they do not fit.
 fn left_behind(values: &[Entry], room: usize) -> Option<usize>
-    ensures { result ≡ left_behind room (bytes_of_values values.now) }
+    ensures { result ≡ room_behind room (bytes_of_values values.now) }
 {
     let mut left = room;
     'values: for entry in values {
@@ -92,7 +93,7 @@ fn left_behind(values: &[Entry], room: usize) -> Option<usize>
 }
 
 fn behind_value(value: &FieldValue, room: usize) -> Option<usize>
-    ensures { result ≡ left_behind room (bytes_of_value value.now) }
+    ensures { result ≡ room_behind room (bytes_of_value value.now) }
 {
     match value {
         FieldValue::Text(text) => room.checked_sub(text.as_str().len()),
@@ -103,7 +104,7 @@ fn behind_value(value: &FieldValue, room: usize) -> Option<usize>
 }
 
 fn behind_texts(texts: &[Text], room: usize) -> Option<usize>
-    ensures { result ≡ left_behind room (bytes_of_texts texts.now) }
+    ensures { result ≡ room_behind room (bytes_of_texts texts.now) }
 {
     let mut left = room;
     'texts: for text in texts {

@@ -6,6 +6,7 @@ mod command;
 mod doc;
 mod doc_entry;
 mod doc_lists;
+mod facets;
 mod find;
 mod fitting;
 mod items;
@@ -25,6 +26,7 @@ pub use command::{Command, Question};
 pub use doc::Doc;
 pub use doc_entry::{DocTerm, SlotValue};
 pub use doc_lists::{DocTerms, SlotValues};
+pub use facets::{Facet, FacetList, FacetQuery, Facets, ValueKind};
 pub use find::{
     Ask, Collapse, Find, Join, Options, Paging, Scheme, default_options, default_paging,
 };

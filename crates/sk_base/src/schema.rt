@@ -28,10 +28,11 @@ pub enum FieldKind {
     Word(u32),
 }
 
-/// Fields that were checked.
+/// Fields that were checked, and whether words are stemmed.
 #[derive(Debug, Drop)]
 pub struct Schema {
     fields: Items<Field>,
+    stem: bool,
 }
 
 impl Model for Schema {
@@ -39,21 +40,22 @@ impl Model for Schema {
 
     ghost Value = { Schema };
 
-    ghost view = { λ s. record { fields = s.fields } };
+    ghost view = { λ s. record { fields = s.fields; stem = s.stem } };
 
-    ghost invariant = { λ s. IsSchema (record { fields = s.fields }) };
+    ghost invariant = { λ s. IsSchema (record { fields = s.fields; stem = s.stem }) };
 }
 
 impl Schema {
     /// The schema of these fields, or none where a rule on fields is broken.
-    pub fn check(fields: Vec<Field>) -> Option<Schema>
+    pub fn check(fields: Vec<Field>, stem: bool) -> Option<Schema>
         requires some { 1 ≤ length fields.items }
         requires few { length fields.items ≤ 64 }
-        ensures { result ≡ (if are_fields fields.items then Some (record { fields = fields.items }) else None) }
+        ensures { result ≡ (if are_fields fields.items then Some (record { fields = fields.items; stem = stem }) else None) }
     {
         if are_fields(fields.as_slice()) {
             Some(Schema {
                 fields: Items::from_vec(fields),
+                stem,
             })
         } else {
             None
@@ -65,6 +67,13 @@ impl Schema {
         ensures sound { IsSchema self.now }
     {
         self.fields.as_slice()
+    }
+
+    /// Whether the stems of words are indexed beside them, and asked for.
+    pub fn stem(&self) -> bool
+        ensures { result ≡ self.now.stem }
+    {
+        self.stem
     }
 
     /// The place of the field with this name, from 0.
