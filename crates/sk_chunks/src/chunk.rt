@@ -5,6 +5,7 @@ ghost use Rattle.sk_chunks.specs.Postings.{greatest_wdf};
 
 use crate::entry::Entry;
 use crate::place::{greatest_of, greatest_without, last_of, place_of};
+use sk_sorted::Ends;
 use sk_steps::Steps;
 use std::alloc::{AllocError, Global};
 use std::fmt::{Debug, Error, Formatter, Write};
@@ -259,6 +260,14 @@ impl Chunk {
             ids.push(entry.id())?;
         }
         Ok(ids)
+    }
+}
+
+impl Ends for Chunk {
+    ghost end = { top_id 0 };
+
+    fn end(&self) -> u32 {
+        self.last()
     }
 }
 

@@ -115,11 +115,7 @@ reads_once target count old new reads = omega (arith, ap length reads.is, length
 
 -- ---- chunks by their heads
 
--- where a run ends below the target, so does each before it
-pub ends_below : (target m k : ℕ) (runs : Runs) → AreRuns runs → m < length runs → top_id 0 (get_or runs m []) < target → k ≤ m → top_id 0 (get_or runs k []) < target
-ends_below target m k runs are lt below le = omega (arith, tops_rise 0 runs k m [] are.rise le lt, below)
-
--- where one does not, no later one does
+-- where a run does not end below the target, no later one does
 pub reaches_on : (target m k : ℕ) (runs : Runs) → AreRuns runs → m ≤ k → k < length runs → target ≤ top_id 0 (get_or runs m []) → target ≤ top_id 0 (get_or runs k [])
 reaches_on target m k runs are le lt reaches = omega (arith, tops_rise 0 runs m k [] are.rise le lt, reaches)
 

@@ -9,6 +9,7 @@ ghost use Rattle.sk_lists.specs.Cursor.{unread, left, IsOn, IsReadTo};
 
 use crate::{BlockMax, List};
 use sk_chunks::Chunk;
+use sk_sorted::first_reaching;
 use sk_steps::Steps;
 use std::sync::ledger::Ledger;
 
@@ -154,7 +155,7 @@ impl Cursor {
         if target <= here.last() {
             return BlockMax::of(here);
         }
-        let at = first_reaching(list, self.run + 1, target);
+        let at = first_reaching(list.as_slice(), self.run + 1, target);
         if at == list.chunks() {
             return BlockMax::ended();
         }
@@ -202,7 +203,7 @@ fn find(list: &List, run: usize, target: u32, need_wdf: u32) -> usize
     ensures stops { result < length list.now → target ≤ top_id 0 (get_or list.now result []) }
 {
     let count = list.chunks();
-    let mut at = first_reaching(list, run, target);
+    let mut at = first_reaching(list.as_slice(), run, target);
     'chunks: while at < count {
         if need_wdf <= list.chunk(at).greatest() {
             return at;
@@ -210,46 +211,4 @@ fn find(list: &List, run: usize, target: u32, need_wdf: u32) -> usize
         at += 1;
     }
     count
-}
-
-/// The first chunk from this one on that ends at the target or behind it; their number where there is none. It looks about
-/// twice as far each time and then halves what is left, so it looks at some two heads for each bit of the distance.
-fn first_reaching(list: &List, run: usize, target: u32) -> usize
-    requires { run ≤ length list.now }
-    ensures bound { (run ≤ result) × (result ≤ length list.now) }
-    ensures before { (k : ℕ) → run ≤ k → k < result → top_id 0 (get_or list.now k []) < target }
-    ensures reaches { result < length list.now → target ≤ top_id 0 (get_or list.now result []) }
-{
-    let count = list.chunks();
-    let mut from = run;
-    'gallop: while from - run < count - from {
-        let at = from + (from - run);
-        if target <= list.chunk(at).last() {
-            return first_between(list, from, at, target);
-        }
-        from = at + 1;
-    }
-    first_between(list, from, count, target)
-}
-
-/// The first chunk between two places that ends at the target or behind it; the later place where there is none.
-fn first_between(list: &List, start: usize, end: usize, target: u32) -> usize
-    requires order { start ≤ end }
-    requires within { end ≤ length list.now }
-    ensures bound { (start ≤ result) × (result ≤ end) }
-    ensures before { (k : ℕ) → start ≤ k → k < result → top_id 0 (get_or list.now k []) < target }
-    ensures reaches { result < end → target ≤ top_id 0 (get_or list.now result []) }
-{
-    let _sound = list.chunks();
-    let mut low = start;
-    let mut high = end;
-    'halve: while low < high {
-        let middle = low + (high - low) / 2;
-        if list.chunk(middle).last() < target {
-            low = middle + 1;
-        } else {
-            high = middle;
-        }
-    }
-    low
 }

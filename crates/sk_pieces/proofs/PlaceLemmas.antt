@@ -1,10 +1,9 @@
 -- The first entry from an id on, by its place.
-use Rattle.std.proofs.Common.{◌≡◌, ℕ, zero, suc, ◌<◌, ◌≤◌, List, [], ◌∷◌, length, take, drop, inl, inr, refl, sym, subst, ◌∙◌, arith}
-use Rattle.std.proofs.Math.Nat.{eq-or-lt_of_le}
+use Rattle.std.proofs.Common.{◌≡◌, ℕ, zero, suc, ◌<◌, ◌≤◌, List, [], ◌∷◌, length, take, drop, get_or, refl, sym, ◌∙◌, arith}
 use Rattle.sk_sorted.specs.Entries.{RiseAbove, from}
 use Rattle.sk_sorted.specs.Places.{id_at}
 use Rattle.sk_sorted.proofs.EntryLaws.{from-below, from-at}
-use Rattle.sk_sorted.proofs.PlaceLaws.{ids_rise}
+use Rattle.sk_sorted.proofs.PlaceLaws.{id_at-get_or}
 
 module _ {X : Type 0} where
   -- a front of what rises rises
@@ -21,10 +20,7 @@ module _ {X : Type 0} where
   from_place id (e ∷ es) (suc i) le before at =
       from_place id es i (omega arith) (λ k lt. before (suc k) (omega arith)) (λ lt. at (omega arith)) ∙ sym (from-below id e es (before 0 (omega arith)))
 
-  -- where an id is below another, so are those before it
-  pub below_up_to : (id at k : ℕ) (es : List (ℕ × X)) → RiseAbove 0 es → at < length es → id_at es at < id → k ≤ at → id_at es k < id
-  below_up_to id at k es up lt below le =
-      elim (eq-or-lt_of_le le) [
-        | inl same ↦ subst (λ j. id_at es j < id) (sym same) below
-        | inr less ↦ omega (arith, ids_rise 0 es up k at less lt, below)
-      ]
+  -- so it is where the first entry was found that reaches the id
+  pub from_reached : (id : ℕ) (es : List (ℕ × X)) (i : ℕ) → i ≤ length es → ((e : ℕ × X) (k : ℕ) → 0 ≤ k → k < i → (get_or es k e).0 < id) → ((e : ℕ × X) → i < length es → id ≤ (get_or es i e).0) → drop i es ≡ from id es
+  from_reached id [] i le before at = from_place id [] i le (λ k lt. absurd (omega (arith, le, lt))) (λ lt. absurd (omega (arith, lt)))
+  from_reached id (e ∷ es) i le before at = from_place id (e ∷ es) i le (λ k lt. omega (arith, before e k (omega arith) lt, id_at-get_or (e ∷ es) k e (omega (arith, lt, le)))) (λ lt. omega (arith, at e lt, id_at-get_or (e ∷ es) i e lt))

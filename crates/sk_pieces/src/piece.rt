@@ -4,7 +4,7 @@ ghost use Rattle.std.specs.Option.{option_map};
 ghost use Rattle.sk_sorted.specs.Entries.{AreSorted, RiseAbove, put, without, found, has, from, top_id};
 
 use crate::place::{place_from, place_without_gaps};
-use sk_sorted::Sorted;
+use sk_sorted::{Ends, Sorted};
 use std::alloc::{AllocError, Global};
 use std::fmt::{Debug, Error, Formatter, Write};
 use std::marker::Model;
@@ -149,6 +149,14 @@ impl<T: Drop> Piece<T> {
         ensures rest { result ≡ false → next.new ≡ next.old }
     {
         self.entries.append(&mut next.entries)
+    }
+}
+
+impl<T> Ends for Piece<T> {
+    ghost end = { top_id 0 };
+
+    fn end(&self) -> u32 {
+        self.last()
     }
 }
 

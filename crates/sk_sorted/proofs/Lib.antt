@@ -5,5 +5,6 @@ pub mod PickedLaws
 pub mod RunLaws
 pub mod RunEditLaws
 pub mod RunPlaceLaws
+pub mod ReachLaws
 mod Examples
 mod RunExamples

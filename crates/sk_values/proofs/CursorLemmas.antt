@@ -1,5 +1,5 @@
 -- What a cursor's steps from piece to piece are to the whole list.
-use Rattle.std.proofs.Common.{◌≡◌, ℕ, ◌+◌, ◌-◌, ◌<◌, ◌≤◌, List, [], ◌∷◌, ◌++◌, length, drop, get_or, true, false, is_some, Option, Some, None, sym, ap, subst, ◌∙◌, arith, refl, true≢false, inl, inr}
+use Rattle.std.proofs.Common.{◌≡◌, ℕ, ◌+◌, ◌-◌, ◌<◌, ◌≤◌, List, [], ◌∷◌, ◌++◌, length, drop, get_or, true, false, is_some, Option, Some, None, sym, ap, subst, ◌∙◌, arith, true≢false, inl, inr}
 use Rattle.std.proofs.lemmas.Bool.{cases_order}
 use Rattle.std.proofs.lemmas.List.{drop_all, length-append, length-drop, get_or_default}
 use Rattle.std.proofs.lemmas.List.Elements.{filter-append}
@@ -7,8 +7,7 @@ use Rattle.sk_sorted.specs.Entries.{LieBelow, from, top_id}
 use Rattle.sk_sorted.specs.Places.{id_at}
 use Rattle.sk_sorted.proofs.EntryLaws.{LieBelow-drop, from-at, from-append, from-front_append}
 use Rattle.sk_sorted.specs.Runs.{flat, AreRuns, IsPlace}
-use Rattle.sk_sorted.proofs.RunLaws.{below-top, run_rises, tops_rise}
-use Rattle.sk_sorted.proofs.RunEditLaws.{run_read}
+use Rattle.sk_sorted.proofs.RunLaws.{below-top, run_rises}
 use Rattle.sk_sorted.proofs.RunPlaceLaws.{place_drop, place_end, place_on, place_next, place_within, rises_behind}
 use Rattle.sk_model.specs.Ranges.{is_within}
 use Rattle.sk_values.specs.SlotValues.{SlotValues, SlotRuns, value_at_place}
@@ -136,10 +135,6 @@ module _ (lo hi : Option (List ℕ)) (runs : SlotRuns) (i read passed : ℕ) (lt
 
 -- ---- passing over pieces
 
--- where a piece ends below the target, so does each before it
-pub ends_below : (target m k : ℕ) (runs : SlotRuns) → AreRuns runs → m < length runs → top_id 0 (get_or runs m []) < target → k ≤ m → top_id 0 (get_or runs k []) < target
-ends_below target m k runs are lt below le = omega (arith, tops_rise 0 runs k m [] are.rise le lt, below)
-
 -- where the next entry of the piece is not below the target, nothing is passed over
 pub next_reaches : (runs : SlotRuns) (i read passed target : ℕ) → i < length runs → IsPlace runs i read passed → read < length (get_or runs i []) → target ≤ id_at (get_or runs i []) read
     → drop passed (flat runs) ≡ from target (drop passed (flat runs))
@@ -149,10 +144,6 @@ next_reaches runs i read passed target lt at less le =
     let split : drop passed (flat runs) ≡ (id_at run read, value_at_place run read) ∷ rest
     = place_drop runs i read passed lt at ∙ ap (λ (es : SlotValues). es ++ flat (drop (i + 1) runs)) (drop-entry run read less) in
     split ∙ sym (from-at target (id_at run read, value_at_place run read) rest le) ∙ ap (from target) (sym split)
-
--- the last id of a piece that is read at its place
-pub last_is : (runs : SlotRuns) (i : ℕ) (run : SlotValues) → i < length runs → run ≡ get_or runs i run → top_id 0 run ≡ top_id 0 (get_or runs i [])
-last_is runs i run lt is = ap (top_id 0) (run_read runs runs i run refl is lt)
 
 module _ (runs : SlotRuns) (are : AreRuns runs) (i read passed target : ℕ) (lt : i < length runs) (at : IsPlace runs i read passed) (run : SlotValues) (is : run ≡ get_or runs i []) where
   rest : SlotValues

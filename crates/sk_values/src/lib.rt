@@ -3,7 +3,6 @@
 
 mod range;
 mod range_cursor;
-mod reach;
 mod slot_list;
 
 pub use range_cursor::RangeCursor;

@@ -8,9 +8,9 @@ ghost use Rattle.sk_values.specs.RangeCursor.{in_range, unread, ahead, left, IsH
 
 use crate::SlotList;
 use crate::range::is_within;
-use crate::reach::first_reaching;
 use sk_base::{Bytes, DocId};
 use sk_pieces::Piece;
+use sk_sorted::first_reaching;
 use sk_steps::Steps;
 use std::sync::ledger::Ledger;
 

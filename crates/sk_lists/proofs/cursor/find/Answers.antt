@@ -1,8 +1,15 @@
 -- A chunk that is too light is passed over, and those behind it do not end below the target either.
-use Rattle.std.proofs.Common.{arith, ◌<◌, ◌+◌, ◌∙◌, [], length, get_or, ap}
+use Rattle.std.proofs.Common.{arith, ◌<◌, ◌+◌, ◌∙◌, [], length, get_or, ap, sym, subst}
+use Rattle.sk_sorted.specs.Entries.{top_id}
+use Rattle.sk_sorted.specs.Ends.{EndsRise}
+use Rattle.sk_sorted.proofs.ReachLaws.{runs_rise}
 use Rattle.sk_chunks.specs.Postings.{greatest_wdf}
+use Rattle.sk_lists.specs.Lists.{Runs}
 use Rattle.sk_lists.proofs.CursorLemmas.{reaches_on, skips_more}
 use Rattle.sk_lists.proofs.cursor.find.Goals as goal
+
+pub first_reaching-at-requires-clause-rise : goal.first_reaching-at-requires-clause-rise
+first_reaching-at-requires-clause-rise c = subst (λ (rs : Runs). EndsRise (top_id 0) 0 rs) (sym c.as_slice.ensures.value) (runs_rise c.args.list.now c.as_slice.ensures.sound)
 
 pub chunks-preserved : goal.chunks-preserved
 chunks-preserved c =
