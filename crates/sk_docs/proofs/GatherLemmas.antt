@@ -1,5 +1,5 @@
 -- What is gathered, word by word and field by field.
-use Rattle.std.proofs.Common.{◌≡◌, ◌<◌, ◌≤◌, ◌+◌, ◌*◌, ℕ, suc, Bool, true, false, ◌&&◌, ◌==◌, nat_le, List, [], ◌∷◌, ◌++◌, length, map, filter, cond, refl, sym, ap, subst, ◌∙◌, true≢false, All, arith, drop, drop-cons, get_or, append-nil}
+use Rattle.std.proofs.Common.{◌≡◌, ◌<◌, ◌≤◌, ◌+◌, ◌*◌, ℕ, suc, Bool, true, false, ◌&&◌, ◌==◌, nat_le, List, [], ◌∷◌, ◌++◌, length, map, filter, cond, refl, sym, ap, subst, ◌∙◌, true≢false, All, AllPairs, arith, drop, drop-cons, get_or, append-nil}
 use Rattle.std.specs.List.{list_all}
 use Rattle.std.proofs.lemmas.Bool.Decides.{nat_tests}
 use Rattle.std.proofs.lemmas.List.{append_assoc}
@@ -18,10 +18,11 @@ use Rattle.sk_base.specs.declared.schema.FieldKind.{FieldKind}
 use Rattle.sk_base.specs.Fields.{is_kind, is_field}
 use Rattle.sk_base.specs.Names.{is_prefix, is_name}
 use Rattle.sk_base.specs.Records.{bytes_of_value, bytes_of_values, most_bytes}
-use Rattle.sk_model.specs.Documents.{Occurrence, occurrence, is_indexed, placed_at, placed_from, value_at, occurrences_of, occurrences_from, text_fields, filter_term, filter_terms_of, filter_terms_from}
+use Rattle.sk_model.specs.Documents.{Occurrence, occurrence, is_indexed, placed_at, stem_of, mentions_at, mentions_from, value_at, occurrences_of, occurrences_from, text_fields, filter_term, filter_terms_of, filter_terms_from}
 use Rattle.sk_base.specs.Terms.{is_given}
 use Rattle.sk_docs.specs.Gathered.{Gathered, after, LieBelow, CanGather, occurrences_among, bytes_of_given, bytes_from}
 use Rattle.sk_docs.specs.Joined.{LieBefore, AreMentions}
+use Rattle.sk_base.specs.Loads.{load_of}
 use Rattle.sk_docs.proofs.TermLemmas.{load-append}
 
 -- ---- places
@@ -39,14 +40,17 @@ pub after_none : (g : Gathered) → after g [] ≡ g
 after_none g =
     let next : g.next + 0 ≡ g.next = omega arith in
     let same : g.mentions ++ [] ≡ g.mentions = append-nil g.mentions in
-    λ i. record { mentions = same i; next = next i }
+    λ i. record { mentions = same i; next = next i; stems = g.stems }
+
+one_mention : (stems : Bool) (p : ℕ) (o : Occurrence) (ms more : List DocTerm) → ms ++ (mentions_at stems p o ++ more) ≡ (ms ++ (mentions_at stems p o ++ [])) ++ more
+one_mention true p o ms more = sym (append_assoc ms (placed_at p o ∷ stem_of o ∷ []) more)
+one_mention false p o ms more = sym (append_assoc ms (placed_at p o ∷ []) more)
 
 after_one : (g : Gathered) (o : Occurrence) (os : List Occurrence) → after g (o ∷ os) ≡ after (after g (o ∷ [])) os
 after_one g o os =
     let next : g.next + suc (length os) ≡ g.next + 1 + length os = omega arith in
-    let all : g.mentions ++ placed_at g.next o ∷ placed_from (g.next + 1) os ≡ (g.mentions ++ placed_at g.next o ∷ []) ++ placed_from (g.next + 1) os =
-    sym (append_assoc g.mentions (placed_at g.next o ∷ []) (placed_from (g.next + 1) os)) in
-    λ i. record { mentions = all i; next = next i }
+    let all = one_mention g.stems g.next o g.mentions (mentions_from g.stems (g.next + 1) os) in
+    λ i. record { mentions = all i; next = next i; stems = g.stems }
 
 pub after-append : (g : Gathered) (os more : List Occurrence) → after g (os ++ more) ≡ after (after g os) more
 after-append g [] more = ap (λ h. after h more) (sym (after_none g))
@@ -58,33 +62,63 @@ abbrev pub OfField : ℕ → List Occurrence → Type 0
 OfField before [] = Unit {0}
 OfField before (o ∷ os) = ((o.step ≤ 256) × (o.before ≡ before)) × OfField before os
 
-room_one : (g : Gathered) (before more rest : ℕ) (o : Occurrence) → CanGather g before more → o.step ≤ 256 → o.before ≡ before → g.next + 1 + rest ≤ most_bytes + 1
-    → CanGather (after g (o ∷ [])) before rest
-room_one g before more rest o room step same few =
-    let m : DocTerm = placed_at g.next o in
-    let place : g.next + 100 * o.before ≡ g.next + 100 * before = ap (λ n. g.next + 100 * n) same in
+-- the mentions of words so far: their places rise and lie below
+record Rise (bound : ℕ) (ms : List DocTerm) : Type 0 where
+  rise : AllPairs LieBefore ms
+  below : LieBelow bound ms
+
+word_more : (ms : List DocTerm) (next before : ℕ) (o : Occurrence) → o.before ≡ before → Rise (next + 100 * before) ms → Rise (next + 1 + 100 * before) (ms ++ placed_at next o ∷ [])
+word_more ms next before o same so_far =
+    let place : next + 100 * o.before ≡ next + 100 * before = ap (λ n. next + 100 * n) same in
     record {
-      loads = omega (arith, load-append g.mentions (m ∷ []), room.loads);
-      rise = all_pairs_push LieBefore g.mentions m room.rise
-          (λ k d lt. All-cons (λ q. All (λ p. p < q) (get_or g.mentions k d).positions) (g.next + 100 * o.before) []
-          (subst (λ q. All (λ p. p < q) (get_or g.mentions k d).positions) (sym place) (room.places k d lt)) (All-nil (λ q. All (λ p. p < q) (get_or g.mentions k d).positions)));
-      places = All-push (Below (g.next + 1 + 100 * before)) g.mentions m
-          (below_weaker (g.next + 100 * before) (g.next + 1 + 100 * before) g.mentions (omega arith) room.places)
-          (All-cons (λ p. p < g.next + 1 + 100 * before) (g.next + 100 * o.before) [] (omega (arith, place)) (All-nil (λ p. p < g.next + 1 + 100 * before)));
+      rise = all_pairs_push LieBefore ms (placed_at next o) so_far.rise
+          (λ k d lt. All-cons (λ q. All (λ p. p < q) (get_or ms k d).positions) (next + 100 * o.before) []
+          (subst (λ q. All (λ p. p < q) (get_or ms k d).positions) (sym place) (so_far.below k d lt)) (All-nil (λ q. All (λ p. p < q) (get_or ms k d).positions)));
+      below = All-push (Below (next + 1 + 100 * before)) ms (placed_at next o) (below_weaker (next + 100 * before) (next + 1 + 100 * before) ms (omega arith) so_far.below)
+          (All-cons (λ p. p < next + 1 + 100 * before) (next + 100 * o.before) [] (omega (arith, place)) (All-nil (λ p. p < next + 1 + 100 * before)));
+    }
+
+stem_more : (ms : List DocTerm) (bound : ℕ) (o : Occurrence) → Rise bound ms → Rise bound (ms ++ stem_of o ∷ [])
+stem_more ms bound o so_far = record {
+  rise = all_pairs_push LieBefore ms (stem_of o) so_far.rise (λ k d lt. All-nil (λ q. All (λ p. p < q) (get_or ms k d).positions));
+  below = All-push (Below bound) ms (stem_of o) so_far.below (All-nil (λ p. p < bound));
+}
+
+mentions_more : (stems : Bool) (ms : List DocTerm) (next before : ℕ) (o : Occurrence) → o.before ≡ before → Rise (next + 100 * before) ms
+    → Rise (next + 1 + 100 * before) (ms ++ (mentions_at stems next o ++ []))
+mentions_more true ms next before o same so_far =
+    subst (Rise (next + 1 + 100 * before)) (append_assoc ms (placed_at next o ∷ []) (stem_of o ∷ []))
+    (stem_more (ms ++ placed_at next o ∷ []) (next + 1 + 100 * before) o (word_more ms next before o same so_far))
+mentions_more false ms next before o same so_far = word_more ms next before o same so_far
+
+-- a word adds its step, and its stem once more
+load_at_most : (stems : Bool) (next : ℕ) (o : Occurrence) → o.step ≤ 256 → load_of (mentions_at stems next o ++ []) ≤ 512
+load_at_most true next o small = omega (arith, small)
+load_at_most false next o small = omega (arith, small)
+
+room_one : (g : Gathered) (before more rest : ℕ) (o : Occurrence) → CanGather g before more → o.step ≤ 256 → o.before ≡ before → 2 * (g.next + 1) + rest ≤ most_bytes + before + 3
+    → CanGather (after g (o ∷ [])) before rest
+room_one g before more rest o room small same few =
+    let one = mentions_at g.stems g.next o ++ [] in
+    let so_far = mentions_more g.stems g.mentions g.next before o same (record { rise = room.rise; below = room.places }) in
+    record {
+      loads = omega (arith, load-append g.mentions one, load_at_most g.stems g.next o small, room.loads);
+      rise = so_far.rise;
+      places = so_far.below;
       few = few;
       fields = room.fields;
     }
 
-room_less : (g : Gathered) (before more rest : ℕ) → CanGather g before more → g.next + rest ≤ most_bytes + 1 → CanGather g before rest
+room_less : (g : Gathered) (before more rest : ℕ) → CanGather g before more → 2 * g.next + rest ≤ most_bytes + before + 3 → CanGather g before rest
 room_less g before more rest room few = record { loads = room.loads; rise = room.rise; places = room.places; few = few; fields = room.fields }
 
 -- so many words later there is room for the rest
-pub room_after : (g : Gathered) (before more rest : ℕ) (os : List Occurrence) → CanGather g before more → OfField before os → g.next + length os + rest ≤ most_bytes + 1
+pub room_after : (g : Gathered) (before more rest : ℕ) (os : List Occurrence) → CanGather g before more → OfField before os → 2 * (g.next + length os) + rest ≤ most_bytes + before + 3
     → CanGather (after g os) before rest
 room_after g before more rest [] room own few = room_less (after g []) before more rest (subst (λ h. CanGather h before more) (sym (after_none g)) room) few
 room_after g before more rest (o ∷ os) room own few =
     subst (λ h. CanGather h before rest) (sym (after_one g o os))
-    (room_after (after g (o ∷ [])) before (length os + rest) rest os (room_one g before more (length os + rest) o room own.0.0 own.0.1 (omega arith)) own.1 (omega arith))
+    (room_after (after g (o ∷ [])) before (2 * length os + rest) rest os (room_one g before more (2 * length os + rest) o room own.0.0 own.0.1 (omega (arith, few))) own.1 (omega (arith, few)))
 
 -- ---- the words of a text
 
@@ -119,11 +153,11 @@ among_length prefix step before (w ∷ ws) = among_length_step prefix step befor
 -- what is gathered of the words of a text, the rest of which is still to come
 pub record InText (prefix : List ℕ) (step before : ℕ) (start now : Gathered) (rest all : List Word) : Type 0 where
   pub left : after now (occurrences_among prefix step before rest) ≡ after start (occurrences_among prefix step before all)
-  pub room : CanGather now before (length rest)
+  pub room : CanGather now before (2 * length rest)
 
-pub text_starts : (prefix : List ℕ) (step before more : ℕ) (start : Gathered) (all : List Word) → CanGather start before more → length all ≤ more
+pub text_starts : (prefix : List ℕ) (step before more : ℕ) (start : Gathered) (all : List Word) → CanGather start before more → 2 * length all ≤ more
     → InText prefix step before start start all all
-text_starts prefix step before more start all room few = record { left = refl; room = room_less start before more (length all) room (omega (arith, room.few, few)) }
+text_starts prefix step before more start all room few = record { left = refl; room = room_less start before more (2 * length all) room (omega (arith, room.few, few)) }
 
 pub text_goes_on : (prefix : List ℕ) (step before : ℕ) (start now new : Gathered) (w : Word) (rest all : List Word) → step ≤ 256
     → InText prefix step before start now (w ∷ rest) all → new ≡ after now (occurrences_among prefix step before (w ∷ []))
@@ -133,8 +167,8 @@ text_goes_on prefix step before start now new w rest all small far put =
     record {
       left = ap (λ g. after g (occurrences_among prefix step before rest)) put ∙ sym (after-append now one (occurrences_among prefix step before rest))
           ∙ ap (after now) (sym (among_more prefix step before w rest)) ∙ far.left;
-      room = subst (λ g. CanGather g before (length rest)) (sym put)
-          (room_after now before (length (w ∷ rest)) (length rest) one far.room (among_of_field prefix step before (w ∷ []) small)
+      room = subst (λ g. CanGather g before (2 * length rest)) (sym put)
+          (room_after now before (2 * length (w ∷ rest)) (2 * length rest) one far.room (among_of_field prefix step before (w ∷ []) small)
           (omega (arith, far.room.few, among_length prefix step before (w ∷ []))));
     }
 
@@ -207,46 +241,57 @@ bytes_all (entry ∷ entries) =
     let whole : nat_le 0 entry.field ≡ true = grind (arith, nat_tests) in
     ap (λ b. cond b (bytes_of_value entry.value) 0 + bytes_from 0 entries) whole ∙ ap (λ n. bytes_of_value entry.value + n) (bytes_all entries)
 
+bytes_of_one_step : (own : Bool) (value : FieldValue) (found : Option FieldValue) (rest : ℕ) → bytes_of_given found ≤ rest → bytes_of_given (cond own (Some value) found) ≤ bytes_of_value value + rest
+bytes_of_one_step true value found rest less = omega arith
+bytes_of_one_step false value found rest less = omega (arith, less)
+
+-- one value has no more bytes than all
+pub bytes_of_one : (place : ℕ) (values : List Entry) → bytes_of_given (value_at place values) ≤ bytes_of_values values
+bytes_of_one place [] = omega arith
+bytes_of_one place (entry ∷ entries) = bytes_of_one_step (entry.field == place) entry.value (value_at place entries) (bytes_of_values entries) (bytes_of_one place entries)
+
 -- what is gathered of the fields, the rest of which is still to come
 pub record InFields (values : List Entry) (start now : Gathered) (place before : ℕ) (rest all : List Field) : Type 0 where
   pub left : after now (occurrences_from place before rest values) ≡ after start (occurrences_from 0 0 all values)
-  pub room : CanGather now before (bytes_from place values)
+  pub room : CanGather now before (bytes_from place values + 1)
   pub few : before ≤ place
 
-pub fields_start : (values : List Entry) (start : Gathered) (all : List Field) → CanGather start 0 (bytes_of_values values) → InFields values start start 0 0 all all
-fields_start values start all room = record { left = refl; room = subst (CanGather start 0) (sym (bytes_all values)) room; few = omega arith }
+pub fields_start : (values : List Entry) (start : Gathered) (all : List Field) → CanGather start 0 (bytes_of_values values + 1) → InFields values start start 0 0 all all
+fields_start values start all room = record { left = refl; room = subst (λ n. CanGather start 0 (n + 1)) (sym (bytes_all values)) room; few = omega arith }
 
 pub room_here : (values : List Entry) (start now : Gathered) (place before : ℕ) (rest all : List Field) → InFields values start now place before rest all
-    → CanGather now before (bytes_of_given (value_at place values))
+    → CanGather now before (bytes_of_given (value_at place values) + 1)
 room_here values start now place before rest all far =
-    room_less now before (bytes_from place values) (bytes_of_given (value_at place values)) far.room (omega (arith, far.room.few, bytes_here place values))
+    room_less now before (bytes_from place values + 1) (bytes_of_given (value_at place values) + 1) far.room (omega (arith, far.room.few, bytes_here place values))
 
-room_next : (g : Gathered) (before more fields : ℕ) → CanGather g before more → before + fields ≤ 64 → CanGather g (before + fields) more
-room_next g before more fields room few = record {
+room_next : (g : Gathered) (before more rest fields : ℕ) → CanGather g before more → before + fields ≤ 64 → 2 * g.next + rest ≤ most_bytes + (before + fields) + 3
+    → CanGather g (before + fields) rest
+room_next g before more rest fields room few left = record {
   loads = room.loads;
   rise = room.rise;
   places = below_weaker (g.next + 100 * before) (g.next + 100 * (before + fields)) g.mentions (omega arith) room.places;
-  few = room.few;
+  few = left;
   fields = few;
 }
 
 pub fields_go_on : (values : List Entry) (start now new : Gathered) (place before : ℕ) (field : Field) (rest all : List Field)
     → is_kind field.kind ≡ true → place < 64
     → InFields values start now place before (field ∷ rest) all
-    → new ≡ after now (occurrences_of field.kind before (value_at place values)) → new.next ≤ now.next + bytes_of_given (value_at place values)
+    → new ≡ after now (occurrences_of field.kind before (value_at place values)) → 2 * new.next ≤ 2 * now.next + bytes_of_given (value_at place values) + text_fields field.kind
     → InFields values start new (place + 1) (before + text_fields field.kind) rest all
 fields_go_on values start now new place before field rest all sound here far put count =
     let own = occurrences_of field.kind before (value_at place values) in
     let more = occurrences_from (place + 1) (before + text_fields field.kind) rest values in
     let next : new.next ≡ now.next + length own = ap (λ g. g.next) put in
+    let one = one_text_field field.kind in
+    let room : CanGather new before 0 =
+    subst (λ g. CanGather g before 0) (sym put)
+    (room_after now before (bytes_from place values + 1) 0 own far.room (of_field field.kind before (value_at place values) sound)
+    (omega (arith, next, count, one, far.room.few, bytes_here place values))) in
     record {
       left = ap (λ g. after g more) put ∙ sym (after-append now own more) ∙ far.left;
-      room = room_next new before (bytes_from (place + 1) values) (text_fields field.kind)
-          (subst (λ g. CanGather g before (bytes_from (place + 1) values)) (sym put)
-          (room_after now before (bytes_from place values) (bytes_from (place + 1) values) own far.room (of_field field.kind before (value_at place values) sound)
-          (omega (arith, next, count, far.room.few, bytes_here place values))))
-          (omega (arith, far.few, one_text_field field.kind));
-      few = omega (arith, far.few, one_text_field field.kind);
+      room = room_next new before 0 (bytes_from (place + 1) values + 1) (text_fields field.kind) room (omega (arith, far.few, one, here)) (omega (arith, count, far.room.few, bytes_here place values));
+      few = omega (arith, far.few, one);
     }
 
 -- a field of a schema keeps the rules of its kind

@@ -1,5 +1,5 @@
 //! Gathers the terms of a record, field by field.
-ghost use Rattle.std.specs.Prelude.{◌≡◌, ◌<◌, ◌≤◌, ◌+◌, true, [], ◌∷◌, ◌++◌, length, map, filter, AllPairs, IfOk, OnOk};
+ghost use Rattle.std.specs.Prelude.{◌≡◌, ◌<◌, ◌≤◌, ◌+◌, ◌*◌, true, [], ◌∷◌, ◌++◌, length, map, filter, AllPairs, IfOk, OnOk};
 ghost use Rattle.std.specs.Option.{option_copied};
 ghost use Rattle.std.specs.List.{list_all};
 ghost use Rattle.sk_base.specs.Fields.{is_field, is_kind};
@@ -12,9 +12,7 @@ ghost use Rattle.sk_base.specs.Loads.{AreLight};
 
 use crate::mentions::Mentions;
 use crate::taking::taken;
-use sk_base::{
-    DocTerms, Entry, Field, FieldKind, FieldValue, MOST_TERM, Schema, Text, into_prefixed, prefixed,
-};
+use sk_base::{DocTerms, Entry, Field, FieldKind, FieldValue, MOST_TERM, Schema, Text, prefixed};
 use sk_text::{Word, words};
 use std::alloc::{AllocError, Global};
 
@@ -26,7 +24,7 @@ pub fn terms(alloc: Global, schema: &Schema, values: &[Entry]) -> Result<DocTerm
     ensures light { IfOk result (λ terms. AreLight terms) }
 {
     let fields = schema.fields();
-    let mut gathered = Mentions::new(alloc);
+    let mut gathered = Mentions::new(alloc, schema.stem());
     note_texts(alloc, &mut gathered, fields, values)?;
     note_filters(alloc, &mut gathered, fields, values)?;
     gathered.into_terms(alloc)
@@ -42,7 +40,8 @@ fn note_texts(
     requires sound { list_all is_field fields.now ≡ true }
     requires few { length fields.now ≤ 64 }
     requires rising { AllPairs (λ a b. a.field < b.field) values.now }
-    requires room { CanGather gathered.old 0 (bytes_of_values values.now) }
+    requires small { bytes_of_values values.now ≤ most_bytes }
+    requires room { CanGather gathered.old 0 (bytes_of_values values.now + 1) }
     ensures value { OnOk result (gathered.new ≡ after gathered.old (occurrences_from 0 0 fields.now values.now)) }
     ensures all { OnOk result (AreMentions gathered.new.mentions) }
 {
@@ -78,9 +77,10 @@ fn note_value(
     value: Option<&FieldValue>,
 ) -> Result<(), AllocError>
     requires sound { is_kind kind.now ≡ true }
-    requires room { CanGather gathered.old before (bytes_of_given (option_copied value)) }
+    requires small { bytes_of_given (option_copied value) ≤ most_bytes }
+    requires room { CanGather gathered.old before (bytes_of_given (option_copied value) + 1) }
     ensures value { OnOk result (gathered.new ≡ after gathered.old (occurrences_of kind.now before (option_copied value.entry))) }
-    ensures count { OnOk result (gathered.new.next ≤ gathered.old.next + bytes_of_given (option_copied value.entry)) }
+    ensures count { OnOk result (2 * gathered.new.next ≤ 2 * gathered.old.next + bytes_of_given (option_copied value.entry) + text_fields kind.now) }
 {
     match (kind, value) {
         (FieldKind::Text(prefix, step), Some(FieldValue::Text(text))) => {
@@ -107,9 +107,10 @@ fn note_text(
     text: &str,
 ) -> Result<(), AllocError>
     requires step { step ≤ 256 }
-    requires room { CanGather gathered.old before (length text.now) }
+    requires small { length text.now ≤ most_bytes }
+    requires room { CanGather gathered.old before (length text.now + 1) }
     ensures value { OnOk result (gathered.new ≡ after gathered.old (occurrences_in prefix.now step before text.now)) }
-    ensures count { OnOk result (gathered.new.next ≤ gathered.old.next + length text.now) }
+    ensures count { OnOk result (2 * gathered.new.next ≤ 2 * gathered.old.next + length text.now + 1) }
 {
     let found = words(alloc, text)?;
     'words: for word in found.into_vec() {
@@ -118,7 +119,7 @@ fn note_text(
     Ok(())
 }
 
-/// Notes a word, if it is indexed.
+/// Notes a word, if it is indexed: the limit is on its own term.
 fn note_word(
     alloc: Global,
     gathered: &mut Mentions,
@@ -127,15 +128,14 @@ fn note_word(
     before: u32,
     word: Word,
 ) -> Result<(), AllocError>
-    requires room { CanGather gathered.old before 1 }
+    requires room { CanGather gathered.old before 2 }
     ensures { OnOk result (gathered.new ≡ after gathered.old (occurrences_among prefix.now step before (word ∷ []))) }
 {
     let text = word.term.into_string();
     if text.len() > MOST_TERM {
         return Ok(());
     }
-    let term = into_prefixed(alloc, prefix, text)?;
-    gathered.note_word(Text::from_string(term), step, before)
+    gathered.note_word(alloc, prefix, text, step, before)
 }
 
 /// Notes the texts of all filters, in the order of the schema.

@@ -11,7 +11,7 @@ use std::alloc::{AllocError, Global};
 use std::cmp::Ordering;
 use std::marker::Model;
 
-/// A mention of a term: a word of a text, which has a place, or a text of a filter, which has none.
+/// A mention of a term: a word of a text, which has a place, or a word's stem or a text of a filter, which have none.
 /// Contracts see it as the term that a document with this mention alone has.
 #[derive(Debug, Drop)]
 pub struct Mention {
@@ -38,6 +38,17 @@ impl Mention {
             term,
             wdf: step,
             place: Some(place),
+        }
+    }
+
+    /// The stem of a word of a field with this step.
+    pub fn stem(term: Term, step: u32) -> Mention
+        ensures { result ≡ record { term = term; wdf = step; positions = [] } }
+    {
+        Mention {
+            term,
+            wdf: step,
+            place: None,
         }
     }
 

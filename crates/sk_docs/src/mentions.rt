@@ -1,20 +1,22 @@
 //! The mentions of a record, in the order in which they are met, and the terms that they make.
-ghost use Rattle.std.specs.Prelude.{◌≡◌, ◌<◌, ◌+◌, [], ◌∷◌, ◌++◌, AllPairs, IfOk, OnOk};
+ghost use Rattle.std.specs.Prelude.{◌≡◌, ◌<◌, ◌+◌, [], ◌∷◌, ◌++◌, AllPairs, IfOk, OnOk, string_bytes};
 ghost use Rattle.sk_base.specs.Loads.{AreLight, load_of};
 ghost use Rattle.sk_model.specs.Documents.{noted, terms_of};
 ghost use Rattle.sk_docs.specs.Gathered.{CanGather, after};
 ghost use Rattle.sk_docs.specs.Joined.{AreMentions, CanJoin, Follows};
 
 use crate::mention::Mention;
-use sk_base::{DocTerm, DocTerms, Term};
+use sk_base::{DocTerm, DocTerms, Term, Text, into_prefixed};
+use sk_stem::stem_term;
 use std::alloc::{AllocError, Global};
 use std::marker::Model;
 
-/// The mentions that were met, and which indexed word comes next.
+/// The mentions that were met, which indexed word comes next, and whether the stems of words are asked for.
 #[derive(Debug, Drop)]
 pub struct Mentions {
     items: Vec<Mention>,
     next: u32,
+    stems: bool,
 }
 
 impl Model for Mentions {
@@ -22,28 +24,47 @@ impl Model for Mentions {
 
     ghost Value = { Gathered };
 
-    ghost view = { λ m. record { mentions = m.items.items; next = m.next } };
+    ghost view = { λ m. record { mentions = m.items.items; next = m.next; stems = m.stems } };
 }
 
 impl Mentions {
     /// No mention yet. It takes no memory.
-    pub fn new(alloc: Global) -> Mentions
-        ensures { result ≡ record { mentions = []; next = 1 } }
+    pub fn new(alloc: Global, stems: bool) -> Mentions
+        ensures { result ≡ record { mentions = []; next = 1; stems = stems } }
     {
         Mentions {
             items: Vec::new(alloc),
             next: 1,
+            stems,
         }
     }
 
-    /// Notes the next indexed word, which stands in a field of this step, behind so many text fields.
-    pub fn note_word(&mut self, term: Term, step: u32, before: u32) -> Result<(), AllocError>
-        requires room { CanGather self.old before 1 }
-        ensures { OnOk result (self.new ≡ after self.old (record { term = term; step = step; before = before } ∷ [])) }
+    /// Notes the next indexed word, by its term, which stands in a field of this prefix and step, behind so many text
+    /// fields; and its stem, where that is asked for.
+    pub fn note_word(
+        &mut self,
+        alloc: Global,
+        prefix: &str,
+        term: String,
+        step: u32,
+        before: u32,
+    ) -> Result<(), AllocError>
+        requires room { CanGather self.old before 2 }
+        ensures { OnOk result (self.new ≡ after self.old (record { prefix = prefix.now; term = string_bytes term; step = step; before = before } ∷ [])) }
     {
         let place = self.next + 100 * before;
-        self.items.push(Mention::word(term, step, place))?;
         self.next += 1;
+        if self.stems {
+            let stem = stem_term(alloc, prefix, term.as_str())?;
+            let own = into_prefixed(alloc, prefix, term)?;
+            self.items
+                .push(Mention::word(Text::from_string(own), step, place))?;
+            self.items.push(Mention::stem(stem, step))?;
+            return Ok(());
+        }
+        let own = into_prefixed(alloc, prefix, term)?;
+        self.items
+            .push(Mention::word(Text::from_string(own), step, place))?;
         Ok(())
     }
 

@@ -15,7 +15,9 @@ use Rattle.sk_base.specs.declared.rank.Order.{Order}
 use Rattle.sk_base.specs.declared.rank.OrderBy.{OrderBy}
 use Rattle.sk_base.specs.declared.rank.Rank.{Rank}
 use Rattle.sk_base.specs.Numbers.{Docs, wild_length_of, wild_greatest_of, slot_length_of}
-use Rattle.sk_model.specs.Documents.{Occurrence, placed_from, terms_of, document_of}
+use Rattle.sk_stem.specs.Rules.{by_rules, rules_1a, rules_completing, rules_1c, rules_2, rules_3, rules_4}
+use Rattle.sk_stem.specs.Stems.{stem, step_1a, step_1b, step_1c, step_2, step_3, step_4, step_5a, step_5b}
+use Rattle.sk_model.specs.Documents.{Occurrence, mentions_from, terms_of, document_of}
 use Rattle.sk_model.specs.Edits.{Live, nothing_live, edited, reply_to, live_after}
 use Rattle.sk_model.specs.Scores.{score}
 use Rattle.sk_model.specs.Matches.{matches}
@@ -39,7 +41,7 @@ relevance = rising OrderBy.Relevance
 
 -- a filter `lang` and a number `year`
 abbrev schema : Schema
-schema = record { fields = record { name = codes "lang"; kind = FieldKind.Filter (codes "L") } ∷ record { name = codes "year"; kind = FieldKind.Number 3 } ∷ [] }
+schema = record { fields = record { name = codes "lang"; kind = FieldKind.Filter (codes "L") } ∷ record { name = codes "year"; kind = FieldKind.Number 3 } ∷ []; stem = false }
 
 -- a record in English of this year
 abbrev added : ℕ → Edit
@@ -52,16 +54,22 @@ filtered = refl
 
 -- an occurrence behind so many text fields
 abbrev at : List ℕ → ℕ → ℕ → Occurrence
-at t step before = record { term = t; step = step; before = before }
+at t step before = record { prefix = []; term = t; step = step; before = before }
 
 -- the third word stands behind two text fields, one of which had none
-gaps : map (λ (one : DocTerm). one.positions) (placed_from 1 (at (codes "a") 1 0 ∷ at (codes "b") 1 0 ∷ at (codes "a") 5 2 ∷ [])) ≡ (1 ∷ []) ∷ (2 ∷ []) ∷ (203 ∷ []) ∷ []
+gaps : map (λ (one : DocTerm). one.positions) (mentions_from false 1 (at (codes "a") 1 0 ∷ at (codes "b") 1 0 ∷ at (codes "a") 5 2 ∷ [])) ≡ (1 ∷ []) ∷ (2 ∷ []) ∷ (203 ∷ []) ∷ []
 gaps = refl
 
 -- the mentions of a term are one, in byte order
-gathered : terms_of (placed_from 1 (at (codes "b") 1 0 ∷ at (codes "a") 1 0 ∷ at (codes "b") 5 2 ∷ []))
+gathered : terms_of (mentions_from false 1 (at (codes "b") 1 0 ∷ at (codes "a") 1 0 ∷ at (codes "b") 5 2 ∷ []))
     ≡ record { term = codes "a"; wdf = 1; positions = 2 ∷ [] } ∷ record { term = codes "b"; wdf = 6; positions = 1 ∷ 203 ∷ [] } ∷ []
 gathered = refl
+
+-- where stems are asked for, each word adds its step to its stem, which has no place
+stemmed : terms_of (mentions_from true 1 (record { prefix = codes "S"; term = codes "cats"; step = 3; before = 0 } ∷ record { prefix = codes "S"; term = codes "cat"; step = 3; before = 0 } ∷ []))
+    ≡ record { term = codes "Scat"; wdf = 3; positions = 2 ∷ [] } ∷ record { term = codes "Scats"; wdf = 3; positions = 1 ∷ [] } ∷ record { term = codes "ZScat"; wdf = 6; positions = [] } ∷ []
+unfolding stem step_1a step_1b step_1c step_2 step_3 step_4 step_5a step_5b by_rules rules_1a rules_completing rules_1c rules_2 rules_3 rules_4
+stemmed = refl
 
 -- two documents in English
 abbrev two : Live

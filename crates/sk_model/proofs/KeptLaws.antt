@@ -8,9 +8,10 @@ use Rattle.sk_base.proofs.Tests.{same_tests}
 use Rattle.sk_base.specs.declared.find.Collapse.{Collapse}
 use Rattle.sk_base.specs.declared.rank.Rank.{Rank}
 use Rattle.sk_base.specs.declared.rank.Order.{Order}
+use Rattle.sk_base.specs.Before.{is_before}
 use Rattle.sk_model.specs.Page.{best_first, is_kept, kept_behind, kept, count_key, dropped}
 use Rattle.sk_model.specs.Laws.{kept_number, kept_first}
-use Rattle.sk_model.proofs.OrderLaws.{best_first_permutation, length-best_first}
+use Rattle.sk_model.proofs.PlacedLaws.{ordered_permutation, length-ordered}
 
 -- ---- tests
 
@@ -136,7 +137,7 @@ module _ (key : Rank → List ℕ) (k : List ℕ) where
     own_kept xs false e = let same : most - 0 ≡ most = omega arith in own_behind e [] xs ∙ ap (λ i. take i (own xs)) same
 
   in_order : (order : Order) (ranks : List Rank) → count_key key k (best_first order ranks) ≡ count_key key k ranks
-  in_order order ranks = sum_by-IsPermutation (λ y. cond (bytes_eq (key y) k) 1 0) ranks (best_first order ranks) (best_first_permutation order ranks)
+  in_order order ranks = sum_by-IsPermutation (λ y. cond (bytes_eq (key y) k) 1 0) ranks (best_first order ranks) (ordered_permutation (is_before order) ranks)
 
 -- of each key as many are kept
 pub kept_each : (order : Order) (collapse : Collapse) (key : Rank → List ℕ) (k : List ℕ) (ranks : List Rank) → count_key key k (kept order (Some collapse) key ranks) ≡ kept_number collapse.max k (count_key key k ranks)
@@ -198,7 +199,7 @@ number_up most m n false h = omega arith
 
 pub kept_up : (order other : Order) (collapse : Option Collapse) (key : Rank → List ℕ) (ranks more : List Rank) → length ranks ≤ length more → ((k : List ℕ) → count_key key k ranks ≤ count_key key k more)
     → length (kept order collapse key ranks) ≤ length (kept other collapse key more)
-kept_up order other None key ranks more long h = omega (arith, length-best_first order ranks, length-best_first other more, long)
+kept_up order other None key ranks more long h = omega (arith, length-ordered (is_before order) ranks, length-ordered (is_before other) more, long)
 kept_up order other (Some collapse) key ranks more long h =
     fewer key (kept order (Some collapse) key ranks) (kept other (Some collapse) key more)
     (λ k. omega (arith, kept_each order collapse key k ranks, kept_each other collapse key k more, number_up collapse.max (count_key key k ranks) (count_key key k more) (length k == 0) (h k)))
@@ -235,7 +236,7 @@ length_both (x ∷ xs) ys = let rest = length_both xs ys in omega (arith, rest)
 
 -- of all no more are kept than of a front, and all the others
 pub kept_others : (order : Order) (collapse : Option Collapse) (key : Rank → List ℕ) (n : ℕ) (ranks : List Rank) → length (kept order collapse key ranks) ≤ length (kept order collapse key (take n ranks)) + length (drop n ranks)
-kept_others order None key n ranks = omega (arith, length-best_first order ranks, length-best_first order (take n ranks), length-take n ranks, length-drop n ranks)
+kept_others order None key n ranks = omega (arith, length-ordered (is_before order) ranks, length-ordered (is_before order) (take n ranks), length-take n ranks, length-drop n ranks)
 kept_others order (Some collapse) key n ranks =
     let front : List Rank = kept order (Some collapse) key (take n ranks) in
     let all : length (kept order (Some collapse) key ranks) ≤ length (front ++ drop n ranks) =
@@ -275,6 +276,6 @@ number_few most n false = omega arith
 
 -- no more are kept than there are
 pub kept_few : (order : Order) (collapse : Option Collapse) (key : Rank → List ℕ) (ranks : List Rank) → length (kept order collapse key ranks) ≤ length ranks
-kept_few order None key ranks = omega (arith, length-best_first order ranks)
+kept_few order None key ranks = omega (arith, length-ordered (is_before order) ranks)
 kept_few order (Some collapse) key ranks =
     fewer key (kept order (Some collapse) key ranks) ranks (λ k. omega (arith, kept_each order collapse key k ranks, number_few collapse.max (count_key key k ranks) (length k == 0)))

@@ -1,3 +1,4 @@
+pub mod PlacedLaws
 pub mod OrderLaws
 pub mod DocumentLaws
 pub mod TermLaws
@@ -11,7 +12,10 @@ pub mod WeightLaws
 pub mod CountLaws
 pub mod NearLaws
 pub mod SettledLaws
+pub mod FacetLaws
+pub mod TallyLaws
 mod Examples
 mod ScoreExamples
 mod BoundExamples
 mod PageExamples
+mod FacetExamples

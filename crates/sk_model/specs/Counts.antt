@@ -1,15 +1,20 @@
 -- What the bounds on the number of matches say.
 -- Source: Xapian's API documentation (`MSet::get_matches_lower_bound` and its kin, `checkatleast` of `Enquire::get_mset`, `MSetIterator::get_collapse_count`). How far the bounds may lie apart, which matches must be seen, and where they are exact is own.
 use Rattle.std.specs.Prelude.{◌≡◌, ◌≤◌, ◌<◌, ◌⊎◌, ℕ, ◌+◌, ◌-◌, max, List, length, take}
+use Rattle.sk_base.specs.declared.find.Options.{Options}
 use Rattle.sk_base.specs.declared.find.Paging.{Paging}
 use Rattle.sk_base.specs.declared.rank.Rank.{Rank}
 use Rattle.sk_base.specs.Numbers.{Docs}
 use Rattle.sk_model.specs.Matches.{key_of}
 use Rattle.sk_model.specs.Page.{kept, dropped}
 
--- How many matches a find wants to see.
+-- How many matches are wanted to be seen: those that are to be checked, and those before the page's end.
+abbrev pub wanted_by : Options → ℕ
+wanted_by options = max options.check (options.first + options.size)
+
+-- How many of its matches a find wants to see.
 abbrev pub wanted : Paging → ℕ
-wanted paging = max paging.options.check (paging.options.first + paging.options.size)
+wanted paging = wanted_by paging.options
 
 -- The matches that a find must see: the first of them by id.
 abbrev pub seen : Paging → List Rank → List Rank

@@ -1,5 +1,5 @@
 -- Which document a record makes under a schema.
--- Source: Xapian's API documentation (`Document`, `TermGenerator` with `increase_termpos`, boolean terms, `add_value`). That a schema decides which field gives what, and the limit of 64 bytes on a word's term, are own.
+-- Source: Xapian's API documentation (`Document`, `TermGenerator` with `increase_termpos` and `STEM_SOME`, boolean terms, `add_value`). That a schema decides which field gives what, and the limit of 64 bytes on a word's term, are own.
 use Rattle.std.specs.Prelude.{ℕ, ◌+◌, ◌*◌, ◌==◌, nat_lt, nat_le, bytes_eq, Bool, false, List, [], ◌∷◌, ◌++◌, length, map, filter, fold, Option, Some, None, if◌then◌else◌}
 use Rattle.std.specs.Ordering.{nat_cmp, match_ordering}
 use Rattle.std.specs.Cmp.Lexicographic.{slice_cmp}
@@ -18,6 +18,7 @@ use Rattle.sk_base.specs.declared.schema.FieldKind.{FieldKind}
 use Rattle.sk_base.specs.declared.schema.Schema.{Schema}
 use Rattle.sk_base.specs.Fields.{kind_slot}
 use Rattle.sk_base.specs.Terms.{prefixed, is_given}
+use Rattle.sk_stem.specs.Terms.{stem_term}
 
 -- A document: its terms with wdf and positions, its values by slot, and its payload.
 abbrev pub Document : Type 0
@@ -28,19 +29,20 @@ abbrev pub value_at : ℕ → List Entry → Option FieldValue
 value_at place [] = None
 value_at place (entry ∷ entries) = if entry.field == place then Some entry.value else value_at place entries
 
--- An occurrence of an indexed word: its term with the prefix of its field, the field's step, and how many text fields of the schema stand before its own.
+-- An occurrence of an indexed word: the prefix of its field, the word's term, the field's step, and how many text fields of the schema stand before its own.
 pub record Occurrence : Type 0 where
+  pub prefix : List ℕ
   pub term : List ℕ
   pub step : ℕ
   pub before : ℕ
 
--- A word is indexed where its term has at most 64 bytes.
+-- A word is indexed where its term has at most 64 bytes, however long its stem is.
 abbrev pub is_indexed : Word → Bool
 is_indexed word = nat_le (length word.term) 64
 
 -- A word as an occurrence in a field.
 abbrev pub occurrence : List ℕ → ℕ → ℕ → Word → Occurrence
-occurrence prefix step before word = record { term = prefixed prefix word.term; step = step; before = before }
+occurrence prefix step before word = record { prefix = prefix; term = word.term; step = step; before = before }
 
 -- The occurrences in a text: its indexed words, in order.
 abbrev pub occurrences_in : List ℕ → ℕ → ℕ → List ℕ → List Occurrence
@@ -66,16 +68,24 @@ occurrences_from place before (field ∷ fields) values =
 
 -- An occurrence as the p-th indexed word of the record: its position is p, and 100 more for each text field of the schema before its own, whether or not the record has these.
 abbrev pub placed_at : ℕ → Occurrence → DocTerm
-placed_at p o = record { term = o.term; wdf = o.step; positions = (p + 100 * o.before) ∷ [] }
+placed_at p o = record { term = prefixed o.prefix o.term; wdf = o.step; positions = (p + 100 * o.before) ∷ [] }
 
--- The occurrences with their positions, the first being the p-th indexed word.
-abbrev pub placed_from : ℕ → List Occurrence → List DocTerm
-placed_from p [] = []
-placed_from p (o ∷ os) = placed_at p o ∷ placed_from (p + 1) os
+-- The stem of an occurrence: it has the step as the word has, and no position.
+abbrev pub stem_of : Occurrence → DocTerm
+stem_of o = record { term = stem_term o.prefix o.term; wdf = o.step; positions = [] }
 
--- The indexed words of a record, each with its position.
-abbrev pub placed_words : Schema → List Entry → List DocTerm
-placed_words schema values = placed_from 1 (occurrences_from 0 0 schema.fields values)
+-- What the p-th indexed word mentions: itself, and its stem where the schema asks for stems.
+abbrev pub mentions_at : Bool → ℕ → Occurrence → List DocTerm
+mentions_at stems p o = if stems then placed_at p o ∷ stem_of o ∷ [] else placed_at p o ∷ []
+
+-- What the occurrences mention, the first being the p-th indexed word.
+abbrev pub mentions_from : Bool → ℕ → List Occurrence → List DocTerm
+mentions_from stems p [] = []
+mentions_from stems p (o ∷ os) = mentions_at stems p o ++ mentions_from stems (p + 1) os
+
+-- What the indexed words of a record mention.
+abbrev pub word_mentions : Schema → List Entry → List DocTerm
+word_mentions schema values = mentions_from schema.stem 1 (occurrences_from 0 0 schema.fields values)
 
 -- A filter's text as a term, with wdf 0 and no position. It is not folded.
 abbrev pub filter_term : List ℕ → List ℕ → DocTerm
@@ -91,9 +101,9 @@ abbrev pub filter_terms_from : ℕ → List Field → List Entry → List DocTer
 filter_terms_from place [] values = []
 filter_terms_from place (field ∷ fields) values = filter_terms_of field.kind (value_at place values) ++ filter_terms_from (place + 1) fields values
 
--- All that a record mentions: its indexed words and the texts of its filters.
+-- All that a record mentions: its indexed words, their stems if the schema asks for them, and the texts of its filters.
 abbrev pub mentions : Schema → List Entry → List DocTerm
-mentions schema values = placed_words schema values ++ filter_terms_from 0 schema.fields values
+mentions schema values = word_mentions schema values ++ filter_terms_from 0 schema.fields values
 
 -- A term with one mention more: the wdfs are added, and its places put last.
 abbrev pub merged : DocTerm → DocTerm → DocTerm

@@ -6,6 +6,7 @@ pub mod Ranges
 pub mod Combining
 pub mod Scores
 pub mod Matches
+pub mod Ordered
 pub mod Page
 pub mod Bounds
 pub mod Covers
@@ -14,4 +15,6 @@ pub mod Allowance
 pub mod Settled
 pub mod Sharp
 pub mod Reports
+pub mod Facets
+pub mod Counting
 pub mod Laws

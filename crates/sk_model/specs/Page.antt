@@ -5,16 +5,15 @@ use Rattle.sk_base.specs.declared.find.Collapse.{Collapse}
 use Rattle.sk_base.specs.declared.rank.Rank.{Rank}
 use Rattle.sk_base.specs.declared.rank.Order.{Order}
 use Rattle.sk_base.specs.Before.{is_before}
+use Rattle.sk_model.specs.Ordered.{placed_by, ordered_by}
 
 -- The ordered list with one match more, in its place.
 abbrev pub place : Order → Rank → List Rank → List Rank
-place order x [] = x ∷ []
-place order x (y ∷ ys) = if is_before order x y then x ∷ y ∷ ys else y ∷ place order x ys
+place order x ranks = placed_by (is_before order) x ranks
 
 -- The list in order, the best first.
 abbrev pub best_first : Order → List Rank → List Rank
-best_first order [] = []
-best_first order (x ∷ xs) = place order x (best_first order xs)
+best_first order ranks = ordered_by (is_before order) ranks
 
 -- A match is kept where its key is empty, or where fewer than the most of its key were kept before it.
 abbrev pub is_kept : ℕ → List ℕ → List (List ℕ) → Bool

@@ -7,6 +7,7 @@ mod combining;
 mod counts;
 mod covers;
 mod documents;
+mod facets;
 mod order;
 mod page;
 mod positions;
@@ -19,6 +20,7 @@ pub use combining::{
 pub use counts::{counts_are_there, counts_in_order};
 pub use covers::{covers_follow, sides_cover, two_sides};
 pub use documents::{slots_of_schema, terms_of_mentions};
+pub use facets::{compare_facets, facets_add_up, one_list_of_facets, sort_facets};
 pub use order::{one_order, place_never_worse, sort_best_first};
 pub use page::{kept_by_keys, kept_of_front, kept_of_key, slice};
 pub use positions::near_is_a_window;

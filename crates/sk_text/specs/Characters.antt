@@ -24,6 +24,14 @@ is_word_category _ = false
 abbrev pub is_word_char : ℕ → Bool
 is_word_char c = is_word_category (general_category c)
 
+abbrev pub is_capital_category : GeneralCategory → Bool
+is_capital_category UppercaseLetter = true
+is_capital_category _ = false
+
+-- c is a capital letter
+abbrev pub is_capital : ℕ → Bool
+is_capital c = is_capital_category (general_category c)
+
 -- c is U+0027 or U+2019
 abbrev pub is_apostrophe : ℕ → Bool
 is_apostrophe c = c == 0x27 || c == 0x2019

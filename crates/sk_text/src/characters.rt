@@ -2,7 +2,7 @@
 
 ghost use Rattle.std.specs.Prelude.{◌≡◌, ℕ, List, chars};
 ghost use Rattle.std.specs.List.{slice_get};
-ghost use Rattle.sk_text.specs.Characters.{is_word_char, is_apostrophe, begins_word, belongs, written};
+ghost use Rattle.sk_text.specs.Characters.{is_word_char, is_capital, is_apostrophe, begins_word, belongs, written};
 
 use unicode::properties::GeneralCategory;
 
@@ -28,6 +28,16 @@ pub fn is_word(c: char) -> bool
             | GeneralCategory::LetterNumber
             | GeneralCategory::OtherNumber
             | GeneralCategory::ConnectorPunctuation
+    )
+}
+
+/// Whether `c` is a capital letter, by its general category in Unicode.
+pub fn is_capital(c: char) -> bool
+    ensures { result ≡ is_capital c }
+{
+    matches!(
+        GeneralCategory::for_char(c),
+        GeneralCategory::UppercaseLetter
     )
 }
 

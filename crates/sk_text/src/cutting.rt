@@ -1,6 +1,6 @@
 //! Cuts a text into its words.
 
-ghost use Rattle.std.specs.Prelude.{◌≡◌, ◌+◌, ◌<◌, ◌≤◌, ◌^◌, ◌++◌, length, All, IfOk};
+ghost use Rattle.std.specs.Prelude.{◌≡◌, ◌+◌, ◌*◌, ◌<◌, ◌≤◌, ◌^◌, ◌++◌, length, All, IfOk};
 ghost use Rattle.sk_text.specs.Characters.{written_bytes};
 ghost use Rattle.sk_text.specs.Words.{ended, words};
 ghost use Rattle.sk_text.specs.Layout.{AreWords, EndsWithin};
@@ -18,7 +18,7 @@ pub fn words(alloc: Global, text: &str) -> Result<Words, AllocError>
     ensures value { IfOk result (λ ws. ws ≡ words text.now) }
     ensures maximal { IfOk result (λ ws. AreWords text.now ws) }
     ensures within { IfOk result (λ ws. All (EndsWithin (length text.now)) ws) }
-    ensures count { IfOk result (λ ws. length ws ≤ length text.now) }
+    ensures count { IfOk result (λ ws. 2 * length ws ≤ length text.now + 1) }
 {
     let mut made = Words::new(alloc);
     let mut number = 1u32;

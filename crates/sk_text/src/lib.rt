@@ -7,7 +7,7 @@ mod cutting;
 mod folding;
 mod word;
 
-pub use characters::{belongs, is_word};
+pub use characters::{belongs, is_capital, is_word};
 pub use cutting::words;
 pub use folding::{Folded, fold};
 pub use word::{Word, Words};
