@@ -4,7 +4,7 @@ ghost use Rattle.sk_grammar.specs.declared.token.Kind.{Kind};
 ghost use Rattle.sk_grammar.specs.Faults.{depth_behind, leaves_by};
 ghost use Rattle.sk_faults.specs.Before.{Is};
 
-use crate::kinds::{ends_unit, is_adj, is_near, is_word, leaves_of};
+use crate::kinds::{ends_unit, is_adj, is_near, is_word, leaves_by};
 use sk_grammar::Kind;
 
 /// What the faults of a token need to know of the tokens before it.
@@ -50,7 +50,7 @@ impl Before {
     {
         Before {
             depth: depth_behind(self.depth, kind),
-            leaves: leaves_of(kind) + self.leaves,
+            leaves: leaves_by(kind) + self.leaves,
             unit: ends_unit(kind),
             word: is_word(kind),
             near: is_near(kind),

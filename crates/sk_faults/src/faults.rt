@@ -93,7 +93,7 @@ fn is_too_many(before: Before, kind: &Kind) -> bool
     ensures few { result ≡ false → before.leaves ≤ 1024 → before.leaves + leaves_by kind.now ≤ 1024 }
     ensures value { (ks : List Kind) → Is before ks → result ≡ is_too_many ks kind.now }
 {
-    is_item(kind) && before.leaves <= MOST_LEAVES && leaves_of(kind) > MOST_LEAVES - before.leaves
+    is_item(kind) && before.leaves <= MOST_LEAVES && leaves_by(kind) > MOST_LEAVES - before.leaves
 }
 
 /// The fault of a token, where it is known whether it opens a bracket that is never closed.

@@ -9,7 +9,7 @@ pub(crate) fn is_item(kind: &Kind) -> bool
 {
     matches!(
         kind,
-        Kind::Word(_, _)
+        Kind::Word(_, _, _)
             | Kind::Wild(_, _)
             | Kind::Joined(_, _)
             | Kind::Quote(_, _)
@@ -21,7 +21,7 @@ pub(crate) fn is_item(kind: &Kind) -> bool
 pub(crate) fn is_word(kind: &Kind) -> bool
     ensures { result ≡ is_word kind.now }
 {
-    matches!(kind, Kind::Word(_, _))
+    matches!(kind, Kind::Word(_, _, _))
 }
 
 pub(crate) fn is_open(kind: &Kind) -> bool
@@ -81,13 +81,13 @@ pub(crate) fn ends_unit(kind: &Kind) -> bool
 }
 
 /// How many leaves the token counts for.
-pub(crate) fn leaves_of(kind: &Kind) -> usize
+pub(crate) fn leaves_by(kind: &Kind) -> usize
     ensures { result ≡ leaves_by kind.now }
 {
     match kind {
         Kind::Joined(_, texts) => texts.as_slice().len(),
         Kind::Quote(_, texts) => texts.as_slice().len(),
-        Kind::Word(_, _) | Kind::Wild(_, _) | Kind::Filter(_, _) | Kind::Range(_, _) => 1,
+        Kind::Word(_, _, _) | Kind::Wild(_, _) | Kind::Filter(_, _) | Kind::Range(_, _) => 1,
         _ => 0,
     }
 }

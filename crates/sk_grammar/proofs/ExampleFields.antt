@@ -1,5 +1,5 @@
 -- The schema of the examples.
-use Rattle.std.proofs.Common.{[], ◌∷◌, codes}
+use Rattle.std.proofs.Common.{true, false, [], ◌∷◌, codes}
 use Rattle.sk_base.specs.declared.schema.Schema.{Schema}
 use Rattle.sk_base.specs.declared.schema.FieldKind.TheVariants as FieldKind
 
@@ -15,4 +15,9 @@ schema =
           ∷ record { name = codes "site"; kind = FieldKind.Word 1 }
           ∷ record { name = codes "cat"; kind = FieldKind.Filter (codes "XCAT") }
           ∷ [];
+      stem = false;
     }
+
+-- The same fields, where stems are asked for.
+abbrev pub stemming : Schema
+stemming = record { fields = schema.fields; stem = true }

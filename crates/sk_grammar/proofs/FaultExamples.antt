@@ -1,5 +1,5 @@
 -- Texts and their faults, worked out by hand from the table.
-use Rattle.std.proofs.Common.{◌≡◌, ℕ, List, [], ◌∷◌, ◌++◌, Option, Some, None, map, refl, codes, replicate}
+use Rattle.std.proofs.Common.{◌≡◌, ℕ, List, [], ◌∷◌, ◌++◌, Option, false, Some, None, map, refl, codes, replicate}
 use Rattle.ucd_table.specs.Rows.{value_in}
 use Rattle.ucd_category.specs.GeneralCategory.{general_category}
 use Rattle.ucd_category.specs.GeneralCategoryRows.{general_category_rows}
@@ -160,25 +160,25 @@ depths = refl
 
 -- So many words before a token.
 abbrev behind_words : ℕ → Kind → Option FaultKind
-behind_words n k = fault_at schema (replicate n (Kind.Word None [])) k []
+behind_words n k = fault_at schema (replicate n (Kind.Word None [] false)) k []
 
 -- Words without a text.
 abbrev several : ℕ → List (List ℕ)
 several n = replicate n []
 
 -- There may be 1,024 leaves, each word of a quote or a group counting.
-leaves : map (behind_words 1023) (Kind.Word None [] ∷ Kind.Wild None [] ∷ Kind.Filter 2 [] ∷ Kind.Range 3 [] ∷ Kind.Quote None (several 1) ∷ Kind.Quote None (several 2) ∷ Kind.Joined None (several 2) ∷ [])
+leaves : map (behind_words 1023) (Kind.Word None [] false ∷ Kind.Wild None [] ∷ Kind.Filter 2 [] ∷ Kind.Range 3 [] ∷ Kind.Quote None (several 1) ∷ Kind.Quote None (several 2) ∷ Kind.Joined None (several 2) ∷ [])
     ≡ None ∷ None ∷ None ∷ None ∷ None ∷ Some FaultKind.TooMany ∷ Some FaultKind.TooMany ∷ []
 leaves = refl
 
-no_more : map (behind_words 1024) (Kind.Word None [] ∷ Kind.Filter 2 [] ∷ Kind.Open None ∷ []) ≡ Some FaultKind.TooMany ∷ Some FaultKind.TooMany ∷ Some FaultKind.UnclosedBracket ∷ []
+no_more : map (behind_words 1024) (Kind.Word None [] false ∷ Kind.Filter 2 [] ∷ Kind.Open None ∷ []) ≡ Some FaultKind.TooMany ∷ Some FaultKind.TooMany ∷ Some FaultKind.UnclosedBracket ∷ []
 no_more = refl
 
 -- Only the item with which there are too many has that fault.
-once : behind_words 1025 (Kind.Word None []) ≡ None
+once : behind_words 1025 (Kind.Word None [] false) ≡ None
 once = refl
 
 -- At one token the earlier row wins: a bracket that is never closed and too deep, a bad range that is one leaf too many, and an operator on one side of which nothing is right.
-one_place : fault_at schema (replicate 100 (Kind.Open None)) (Kind.Open None) [] ∷ behind_words 1024 (Kind.Range 3 (codes "x")) ∷ fault_at schema (Kind.Word None [] ∷ Kind.Adj 10 ∷ []) (Kind.Near 0) [] ∷ []
+one_place : fault_at schema (replicate 100 (Kind.Open None)) (Kind.Open None) [] ∷ behind_words 1024 (Kind.Range 3 (codes "x")) ∷ fault_at schema (Kind.Word None [] false ∷ Kind.Adj 10 ∷ []) (Kind.Near 0) [] ∷ []
     ≡ Some FaultKind.UnclosedBracket ∷ Some FaultKind.BadRange ∷ Some FaultKind.BadNear ∷ []
 one_place = refl

@@ -12,7 +12,7 @@ use Rattle.sk_base.specs.Names.{is_name_byte}
 use Rattle.sk_base.specs.Fields.{place_of}
 use Rattle.sk_text.specs.Characters.{is_word_char, belongs}
 use Rattle.sk_grammar.specs.declared.token.Kind.{Kind}
-use Rattle.sk_grammar.specs.Characters.{is_joiner, past_joiner, group_len, quote_len, is_good, runs_on, run_len, run_terms}
+use Rattle.sk_grammar.specs.Characters.{begins_capital, is_joiner, past_joiner, group_len, quote_len, is_good, runs_on, run_len, run_terms}
 use Rattle.sk_grammar.specs.Pieces.{Piece, token_piece, longer, is_starred, is_one, first_term, group_kind, group_of_len, group_piece, text_piece, filter_piece, range_piece, value_piece, colon_piece, field_piece, mark_piece, takes_mark, is_marked, last_piece, piece_at}
 
 -- The piece has a character at least, and no more than so many.
@@ -76,7 +76,7 @@ star_within n m k some e = omega arith
 
 of_len_takes : (field : Option ℕ) (n : ℕ) (cs : List ℕ) → 1 ≤ n → n ≤ length cs → Takes (length cs) (group_of_len field n cs)
 of_len_takes field n cs some whole =
-    if_takes (length cs) (is_one (run_terms (take n cs)) && is_starred (drop n cs)) (token_piece (Kind.Wild field (first_term (run_terms (take n cs)))) (n + 1)) (token_piece (group_kind field (encode_utf8_all (take n cs)) (run_terms (take n cs))) n)
+    if_takes (length cs) (is_one (run_terms (take n cs)) && is_starred (drop n cs)) (token_piece (Kind.Wild field (first_term (run_terms (take n cs)))) (n + 1)) (token_piece (group_kind field (encode_utf8_all (take n cs)) (begins_capital cs) (run_terms (take n cs))) n)
     (λ e. record { some = omega arith; whole = star_within n (length cs) (length (drop n cs)) (starred_some (drop n cs) (second_so (is_one (run_terms (take n cs))) (is_starred (drop n cs)) e)) (length-drop n cs) })
     (λ e. record { some = some; whole = whole })
 

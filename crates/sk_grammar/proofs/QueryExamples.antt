@@ -1,37 +1,44 @@
 -- Texts and their queries, worked out by hand from the rules.
-use Rattle.std.proofs.Common.{◌≡◌, ℕ, List, [], ◌∷◌, ◌++◌, Option, Some, None, map, refl, codes}
+use Rattle.std.proofs.Common.{◌≡◌, ℕ, List, [], ◌∷◌, ◌++◌, Result, Ok, Err, map, refl, codes}
+use Rattle.std.specs.Prelude.{encode_utf8_all}
 use Rattle.ucd_table.specs.Rows.{value_in}
 use Rattle.ucd_category.specs.GeneralCategory.{general_category}
 use Rattle.ucd_category.specs.GeneralCategoryRows.{general_category_rows}
 use lib.Utf8.{encode}
 use Rattle.sk_text.specs.Terms.{term_of}
+use Rattle.sk_stem.specs.Terms.{stem_term}
+use Rattle.sk_base.specs.declared.schema.Schema.{Schema}
 use Rattle.sk_base.specs.declared.find.Join.{Join}
 use Rattle.sk_query.specs.declared.form.Form.TheVariants as Form
 use Rattle.sk_query.specs.Trees.{Tree, nothing, all, term, wildcard, near, phrase, range, unbounded, number, bytes, trees_from, parts}
+use Rattle.sk_grammar.specs.declared.fault.FaultKind.{FaultKind}
 use Rattle.sk_grammar.specs.Cutting.{tokens_in}
 use Rattle.sk_grammar.specs.Meaning.{meant_in}
-use Rattle.sk_grammar.proofs.ExampleFields.{schema}
+use Rattle.sk_grammar.proofs.ExampleFields.{schema, stemming}
 
--- A text with its query.
+-- A text with its query, or with its first fault.
 record Row : Type 0 where
   text : List ℕ
-  query : Option Tree
+  meant : Result Tree (FaultKind × ℕ)
 
 abbrev row : List ℕ → Tree → Row
-row text query = record { text = text; query = Some query }
+row text query = record { text = text; meant = Ok query }
 
-abbrev refused : List ℕ → Row
-refused text = record { text = text; query = None }
+abbrev refused : List ℕ → FaultKind → ℕ → Row
+refused text fault place = record { text = text; meant = Err (fault, place) }
 
--- The queries of these texts are those that stand beside them.
+-- These texts mean what stands beside them.
+abbrev AreMeantUnder : Schema → Join → List Row → Type 0
+AreMeantUnder schema join rows = map (λ (r : Row). meant_in schema join (tokens_in schema r.text)) rows ≡ map Row.meant rows
+
 abbrev AreMeant : Join → List Row → Type 0
-AreMeant join rows = map (λ (r : Row). meant_in schema join (tokens_in schema r.text)) rows ≡ map Row.query rows
+AreMeant = AreMeantUnder schema
 
--- A text with a fault has none.
+-- A text with a fault has no query.
 none : AreMeant Join.Or (
-    refused (codes "red AND") ∷
-    refused (codes "(red") ∷
-    refused (codes "a AND") ∷
+    refused (codes "red AND") FaultKind.MissingOperand 4 ∷
+    refused (codes "(red") FaultKind.UnclosedBracket 0 ∷
+    refused (codes "a AND") FaultKind.MissingOperand 2 ∷
     [])
 unfolding value_in general_category general_category_rows encode
 none = refl
@@ -187,3 +194,32 @@ excluded : AreMeant Join.Or (
     [])
 unfolding value_in general_category general_category_rows encode
 excluded = refl
+
+-- Where stems are asked for, a word that stands alone and has no capital in front asks for its stem.
+stemmed : AreMeantUnder stemming Join.Or (
+    row (codes "hopes +Hope") (parts Form.AndMaybe (trees_from (term (term_of (codes "Hope")) ∷ term (stem_term [] (term_of (codes "hopes"))) ∷ []))) ∷
+    row (codes "title:cats") (term (stem_term (codes "S") (term_of (codes "cats")))) ∷
+    row (codes "title:Cats") (term ((codes "S") ++ (term_of (codes "Cats")))) ∷
+    row (codes "title:(cats body:dogs)") (parts Form.Or (trees_from (term (stem_term (codes "S") (term_of (codes "cats"))) ∷ term (stem_term [] (term_of (codes "dogs"))) ∷ []))) ∷
+    row (codes "-cats AND (dogs)") (parts Form.And (trees_from (parts Form.AndNot (trees_from (all ∷ term (stem_term [] (term_of (codes "cats"))) ∷ [])) ∷ term (stem_term [] (term_of (codes "dogs"))) ∷ []))) ∷
+    row (codes "caTS") (term (stem_term [] (term_of (codes "caTS")))) ∷
+    row (codes "_Cats") (term (stem_term [] (term_of (codes "_Cats")))) ∷
+    row (codes "Écats") (term (term_of (encode_utf8_all (codes "Écats")))) ∷
+    row (codes "ǅa") (term (stem_term [] (term_of (encode_utf8_all (codes "ǅa"))))) ∷
+    row (codes "lang:cats") (parts Form.Filter (trees_from (all ∷ term (codes "Lcats") ∷ []))) ∷
+    [])
+unfolding value_in general_category general_category_rows encode
+stemmed = refl
+
+-- Nothing else is stemmed: no quote, no words that are joined, no wildcard, no word of a chain.
+unstemmed : AreMeantUnder stemming Join.Or (
+    row (codes "\"cats\"") (term (term_of (codes "cats"))) ∷
+    row (codes "\"cats dogs\"") (phrase 2 (term_of (codes "cats") ∷ term_of (codes "dogs") ∷ [])) ∷
+    row (codes "cats-dogs") (phrase 2 (term_of (codes "cats") ∷ term_of (codes "dogs") ∷ [])) ∷
+    row (codes "cats*") (wildcard (term_of (codes "cats"))) ∷
+    row (codes "cats NEAR dogs") (near 11 (term_of (codes "cats") ∷ term_of (codes "dogs") ∷ [])) ∷
+    row (codes "cats ADJ dogs ADJ cows") (phrase 12 (term_of (codes "cats") ∷ term_of (codes "dogs") ∷ term_of (codes "cows") ∷ [])) ∷
+    row (codes "cats dogs ADJ cows") (parts Form.Or (trees_from (term (stem_term [] (term_of (codes "cats"))) ∷ phrase 11 (term_of (codes "dogs") ∷ term_of (codes "cows") ∷ []) ∷ []))) ∷
+    [])
+unfolding value_in general_category general_category_rows encode
+unstemmed = refl

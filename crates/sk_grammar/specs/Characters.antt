@@ -3,8 +3,13 @@ use Rattle.std.specs.Prelude.{ℕ, zero, suc, ◌+◌, min, ◌==◌, ◌&&◌, 
 use Rattle.std.specs.List.{list_any, prefix_len}
 use Rattle.std.specs.Char.{is_whitespace}
 use Rattle.sk_text.specs.declared.word.Word.{Word}
-use Rattle.sk_text.specs.Characters.{is_word_char, belongs}
+use Rattle.sk_text.specs.Characters.{is_word_char, is_capital, belongs}
 use Rattle.sk_text.specs.Words.{words_from}
+
+-- The first of these characters is a capital letter.
+abbrev pub begins_capital : List ℕ → Bool
+begins_capital [] = false
+begins_capital (c ∷ cs) = is_capital c
 
 -- A joiner: one of `.` (46), `-` (45), `/` (47), `:` (58), `\` (92) and `@` (64).
 abbrev pub is_joiner : ℕ → Bool

@@ -4,14 +4,13 @@ use Rattle.std.specs.List.{slice_get}
 use Rattle.sk_base.specs.declared.schema.Field.{Field}
 use Rattle.sk_base.specs.declared.schema.Schema.{Schema}
 use Rattle.sk_grammar.specs.Bounds.{halves, is_number_kind, are_numbers}
-use Rattle.sk_grammar.specs.Cutting.{tokens_of}
 use Rattle.sk_grammar.specs.declared.fault.FaultKind.{FaultKind}
 use Rattle.sk_grammar.specs.declared.token.Kind.{Kind}
 use Rattle.sk_grammar.specs.declared.token.Token.{Token}
 
 -- A word, a filter or a range, alone or several: what a query is made of.
 abbrev pub is_item : Kind → Bool
-is_item (Kind.Word field text) = true
+is_item (Kind.Word field text capital) = true
 is_item (Kind.Wild field text) = true
 is_item (Kind.Joined field texts) = true
 is_item (Kind.Quote field texts) = true
@@ -21,7 +20,7 @@ is_item _ = false
 
 -- A word.
 abbrev pub is_word : Kind → Bool
-is_word (Kind.Word field text) = true
+is_word (Kind.Word field text capital) = true
 is_word _ = false
 
 -- A bracket that opens.
@@ -191,10 +190,6 @@ fault_behind schema before [] = None
 fault_behind schema before (t ∷ ts) =
     fault_or (fault_at schema before (Token.kind t) (kinds_of ts)) (Token.from t) (fault_behind schema (Token.kind t ∷ before) ts)
 
--- The fault of tokens.
+-- The first fault of tokens with its byte; none where they are a query.
 abbrev pub fault_in : Schema → List Token → Option (FaultKind × ℕ)
 fault_in schema tokens = fault_behind schema [] tokens
-
--- The fault of a text with its byte: the one at the least place, and there the first of the table; none where the text is a query.
-abbrev pub fault_of : Schema → List ℕ → Option (FaultKind × ℕ)
-fault_of schema text = fault_in schema (tokens_of schema text)

@@ -1,5 +1,5 @@
 -- The query of a text, by splitting.
-use Rattle.std.specs.Prelude.{ℕ, not, Bool, true, false, List, [], ◌∷◌, map, reverse, filter, if◌then◌else◌, Option, Some, None}
+use Rattle.std.specs.Prelude.{ℕ, not, Bool, true, false, List, [], ◌∷◌, map, reverse, filter, if◌then◌else◌, Option, Some, None, Result, Ok, Err}
 use Rattle.sk_base.specs.declared.schema.Schema.{Schema}
 use Rattle.sk_base.specs.declared.find.Join.{Join}
 use Rattle.sk_query.specs.declared.form.Form.TheVariants as Form
@@ -106,15 +106,15 @@ abbrev mutual
 abbrev pub tree_in : Schema → Join → List Kind → Tree
 tree_in schema join ks = parts_tree join (reverse (chained [] (nest_parts schema join [] (Levels.here (levels_of ks)))))
 
--- The query of tokens that have this fault or none.
-abbrev pub meant_or : Schema → Join → Option (FaultKind × ℕ) → List Token → Option Tree
-meant_or schema join None tokens = Some (tree_in schema join (kinds_of tokens))
-meant_or schema join (Some fault) tokens = None
+-- This query, or else the fault, with its byte, for which there is none.
+abbrev pub unless_fault : Option (FaultKind × ℕ) → Tree → Result Tree (FaultKind × ℕ)
+unless_fault None query = Ok query
+unless_fault (Some fault) query = Err fault
 
--- The query of tokens, where they have no fault.
-abbrev pub meant_in : Schema → Join → List Token → Option Tree
-meant_in schema join tokens = meant_or schema join (fault_in schema tokens) tokens
+-- The query of tokens, or else their first fault.
+abbrev pub meant_in : Schema → Join → List Token → Result Tree (FaultKind × ℕ)
+meant_in schema join tokens = unless_fault (fault_in schema tokens) (tree_in schema join (kinds_of tokens))
 
--- The query of a text, where it has no fault.
-abbrev pub query_meant : Schema → Join → List ℕ → Option Tree
+-- The query that a text means, or else its first fault: the one at the least byte, and there the first of the table.
+abbrev pub query_meant : Schema → Join → List ℕ → Result Tree (FaultKind × ℕ)
 query_meant schema join text = meant_in schema join (tokens_of schema text)

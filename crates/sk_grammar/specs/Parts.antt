@@ -1,5 +1,5 @@
 -- The tokens of a list as parts of a query, each bracket being one part already.
-use Rattle.std.specs.Prelude.{ℕ, ◌+◌, ◌-◌, max, Bool, true, false, List, [], ◌∷◌, ◌++◌, length, map, if◌then◌else◌, Option, Some, None, unwrap_or}
+use Rattle.std.specs.Prelude.{ℕ, ◌+◌, ◌-◌, ◌&&◌, not, max, Bool, true, false, List, [], ◌∷◌, ◌++◌, length, map, if◌then◌else◌, Option, Some, None, unwrap_or}
 use Rattle.std.specs.List.{slice_get}
 use Rattle.std.specs.Str.Parse.{digits_value}
 use Rattle.sk_base.specs.declared.schema.Field.{Field}
@@ -7,14 +7,15 @@ use Rattle.sk_base.specs.declared.schema.Schema.{Schema}
 use Rattle.sk_base.specs.declared.schema.FieldKind.{FieldKind}
 use Rattle.sk_base.specs.Fields.{kind_prefix, kind_slot}
 use Rattle.sk_base.specs.Terms.{prefixed}
+use Rattle.sk_stem.specs.Terms.{stem_term}
 use Rattle.sk_query.specs.Trees.{Tree, nothing, term, wildcard, near, phrase, range, Limit, unbounded, number, bytes}
 use Rattle.sk_grammar.specs.declared.token.Kind.{Kind}
 use Rattle.sk_grammar.specs.Bounds.{halves, is_number_kind}
 
 -- A part of a list of tokens.
 pub data Part : Type 0 where
-  -- Words that NEAR or, where the order counts, ADJ holds together, with the greatest distance; or a word alone.
-  chain : Bool → ℕ → List (List ℕ) → Part
+  -- Words that NEAR or, where the order counts, ADJ holds together, with the greatest distance; or a word alone, with the term of its stem where that is asked for in its place.
+  chain : Bool → ℕ → Option (List ℕ) → List (List ℕ) → Part
   -- Another unit that is no filter.
   unit : Tree → Part
   -- A filter or a range, with its field.
@@ -61,9 +62,14 @@ range_in (Some field) text =
 abbrev pub all_prefixed : List ℕ → List (List ℕ) → List (List ℕ)
 all_prefixed prefix terms = map (prefixed prefix) terms
 
+-- The term that is asked for in the place of a word that stands alone: its stem's, where the schema asks for stems and no capital letter begins the word.
+abbrev pub stem_asked : Bool → Bool → List ℕ → List ℕ → Option (List ℕ)
+stem_asked stems capital prefix t = if stems && not capital then Some (stem_term prefix t) else None
+
 -- The part that a token is, which is no bracket, where the brackets around it give this prefix.
 abbrev pub part_of : Schema → List ℕ → Kind → Part
-part_of schema around (Kind.Word field t) = chain false 0 (prefixed (prefix_in schema around field) t ∷ [])
+part_of schema around (Kind.Word field t capital) =
+    chain false 0 (stem_asked schema.stem capital (prefix_in schema around field) t) (prefixed (prefix_in schema around field) t ∷ [])
 part_of schema around (Kind.Wild field t) = unit (wildcard (prefixed (prefix_in schema around field) t))
 part_of schema around (Kind.Joined field ts) = unit (side_by_side (all_prefixed (prefix_in schema around field) ts))
 part_of schema around (Kind.Quote field ts) = unit (side_by_side (all_prefixed (prefix_in schema around field) ts))
@@ -73,19 +79,19 @@ part_of schema around (Kind.Near n) = link false n
 part_of schema around (Kind.Adj n) = link true n
 part_of schema around k = operator k
 
--- Words behind a link, with what stands before that, the last first: they go to the chain there, which then has the greater distance.
-abbrev pub linked : Bool → ℕ → List Part → Bool → ℕ → List (List ℕ) → List Part
-linked ordered n (chain o m ts ∷ before) p k us = chain ordered (max m n) (ts ++ us) ∷ before
-linked ordered n before p k us = chain p k us ∷ link ordered n ∷ before
+-- Words behind a link, with what stands before that, the last first: they go to the chain there, which then has the greater distance, and asks for no stem.
+abbrev pub linked : Bool → ℕ → List Part → Bool → ℕ → Option (List ℕ) → List (List ℕ) → List Part
+linked ordered n (chain o m s ts ∷ before) p k r us = chain ordered (max m n) None (ts ++ us) ∷ before
+linked ordered n before p k r us = chain p k r us ∷ link ordered n ∷ before
 
 -- Words behind other parts, the last of which stands first.
-abbrev pub with_words : List Part → Bool → ℕ → List (List ℕ) → List Part
-with_words (link ordered n ∷ before) p k us = linked ordered n before p k us
-with_words before p k us = chain p k us ∷ before
+abbrev pub with_words : List Part → Bool → ℕ → Option (List ℕ) → List (List ℕ) → List Part
+with_words (link ordered n ∷ before) p k r us = linked ordered n before p k r us
+with_words before p k r us = chain p k r us ∷ before
 
 -- A part behind others, the last of which stands first.
 abbrev pub with_part : List Part → Part → List Part
-with_part before (chain ordered n ts) = with_words before ordered n ts
+with_part before (chain ordered n s ts) = with_words before ordered n s ts
 with_part before p = p ∷ before
 
 -- Parts behind others, the last of which stands first, with the words that are linked put together.
@@ -93,9 +99,9 @@ abbrev pub chained : List Part → List Part → List Part
 chained before [] = before
 chained before (p ∷ ps) = chained (with_part before p) ps
 
--- The query of a chain: its window is the greatest distance and one for each word but the first. One word is a term.
-abbrev pub chain_tree : Bool → ℕ → List (List ℕ) → Tree
-chain_tree ordered n [] = nothing
-chain_tree ordered n (t ∷ []) = term t
-chain_tree true n (t ∷ u ∷ ts) = phrase (n + length (t ∷ u ∷ ts) - 1) (t ∷ u ∷ ts)
-chain_tree false n (t ∷ u ∷ ts) = near (n + length (t ∷ u ∷ ts) - 1) (t ∷ u ∷ ts)
+-- The query of a chain: its window is the greatest distance and one for each word but the first. One word is its term, or its stem's.
+abbrev pub chain_tree : Bool → ℕ → Option (List ℕ) → List (List ℕ) → Tree
+chain_tree ordered n s [] = nothing
+chain_tree ordered n s (t ∷ []) = term (unwrap_or s t)
+chain_tree true n s (t ∷ u ∷ ts) = phrase (n + length (t ∷ u ∷ ts) - 1) (t ∷ u ∷ ts)
+chain_tree false n s (t ∷ u ∷ ts) = near (n + length (t ∷ u ∷ ts) - 1) (t ∷ u ∷ ts)

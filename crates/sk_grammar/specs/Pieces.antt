@@ -11,7 +11,7 @@ use Rattle.sk_base.specs.Fields.{place_of}
 use Rattle.sk_base.specs.Names.{is_name_byte}
 use Rattle.sk_text.specs.Characters.{is_word_char, begins_word}
 use Rattle.sk_grammar.specs.declared.token.Kind.{Kind}
-use Rattle.sk_grammar.specs.Characters.{group_len, inner, quote_len, is_good, runs_on, run_len, run_terms}
+use Rattle.sk_grammar.specs.Characters.{begins_capital, group_len, inner, quote_len, is_good, runs_on, run_len, run_terms}
 
 -- A piece of a text: a token, or none where it separates, and how many characters it has.
 pub record Piece : Type 0 where
@@ -73,19 +73,19 @@ operator_of text =
     else distant text)))))
 
 -- One word, or several that are joined.
-abbrev pub words_kind : Option ℕ → List (List ℕ) → Kind
-words_kind field terms = if is_one terms then Kind.Word field (first_term terms) else Kind.Joined field terms
+abbrev pub words_kind : Option ℕ → Bool → List (List ℕ) → Kind
+words_kind field capital terms = if is_one terms then Kind.Word field (first_term terms) capital else Kind.Joined field terms
 
--- The token of a group without a star, by how it is written: only without a field is it an operator.
-abbrev pub group_kind : Option ℕ → List ℕ → List (List ℕ) → Kind
-group_kind None text terms = unwrap_or (operator_of text) (words_kind None terms)
-group_kind (Some f) text terms = words_kind (Some f) terms
+-- The token of a group without a star, by how it is written and whether a capital letter begins it: only without a field is it an operator.
+abbrev pub group_kind : Option ℕ → List ℕ → Bool → List (List ℕ) → Kind
+group_kind None text capital terms = unwrap_or (operator_of text) (words_kind None capital terms)
+group_kind (Some f) text capital terms = words_kind (Some f) capital terms
 
 -- The piece of a group of so many characters.
 abbrev pub group_of_len : Option ℕ → ℕ → List ℕ → Piece
 group_of_len field n cs =
     if is_one (run_terms (take n cs)) && is_starred (drop n cs) then token_piece (Kind.Wild field (first_term (run_terms (take n cs)))) (n + 1)
-    else token_piece (group_kind field (encode_utf8_all (take n cs)) (run_terms (take n cs))) n
+    else token_piece (group_kind field (encode_utf8_all (take n cs)) (begins_capital cs) (run_terms (take n cs))) n
 
 -- The piece of the group at this place.
 abbrev pub group_piece : Option ℕ → List ℕ → Piece

@@ -15,7 +15,7 @@ pub record Unit : Type 0 where
 
 -- The unit that a part is, behind this mark, if it is one.
 abbrev pub unit_of : Mark → Part → List Unit
-unit_of mark (chain ordered n ts) = record { mark = mark; field = None; query = chain_tree ordered n ts } ∷ []
+unit_of mark (chain ordered n s ts) = record { mark = mark; field = None; query = chain_tree ordered n s ts } ∷ []
 unit_of mark (unit query) = record { mark = mark; field = None; query = query } ∷ []
 unit_of mark (chosen f query) = record { mark = mark; field = Some f; query = query } ∷ []
 unit_of mark empty = []

@@ -17,8 +17,8 @@ pub type Tokens = Items<Token>;
 /// What a token is. A field is its place in the schema. The texts of words are folded, and have no prefix.
 #[derive(Debug, Drop)]
 pub enum Kind {
-    /// A word.
-    Word(Option<usize>, Text),
+    /// A word, and whether a capital letter begins it as it is written.
+    Word(Option<usize>, Text, bool),
     /// A word with a star behind it: all words that begin so.
     Wild(Option<usize>, Text),
     /// Words that joiners hold together, as in `me@example.org`.

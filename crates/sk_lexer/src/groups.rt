@@ -8,7 +8,7 @@ ghost use Rattle.sk_lexer.specs.Shown.{shown};
 use crate::operators::operator_of;
 use crate::piece::Cut;
 use crate::quotes::{inner, quote_len};
-use crate::runs::{begins_word, group_len};
+use crate::runs::{begins_capital, begins_word, group_len};
 use sk_base::{Items, Text};
 use sk_grammar::Kind;
 use sk_text::words;
@@ -56,26 +56,32 @@ fn is_one(terms: &[Text]) -> bool
     matches!(terms, [_])
 }
 
-fn words_kind(alloc: Global, field: Option<usize>, terms: Vec<Text>) -> Kind
-    ensures { result ≡ words_kind field terms.items }
+fn words_kind(alloc: Global, field: Option<usize>, capital: bool, terms: Vec<Text>) -> Kind
+    ensures { result ≡ words_kind field capital terms.items }
 {
     if is_one(terms.as_slice()) {
-        Kind::Word(field, only(alloc, terms))
+        Kind::Word(field, only(alloc, terms), capital)
     } else {
         Kind::Joined(field, Items::from_vec(terms))
     }
 }
 
-/// The token of a group that is written so and has these terms.
-fn group_kind(alloc: Global, field: Option<usize>, text: &str, terms: Vec<Text>) -> Kind
-    ensures { result ≡ group_kind field text.now terms.items }
+/// The token of a group that is written so, where a capital letter begins it or none does, and has these terms.
+fn group_kind(
+    alloc: Global,
+    field: Option<usize>,
+    text: &str,
+    capital: bool,
+    terms: Vec<Text>,
+) -> Kind
+    ensures { result ≡ group_kind field text.now capital terms.items }
 {
     if field.is_some() {
-        return words_kind(alloc, field, terms);
+        return words_kind(alloc, field, capital, terms);
     }
     match operator_of(text) {
         Some(kind) => kind,
-        None => words_kind(alloc, field, terms),
+        None => words_kind(alloc, field, capital, terms),
     }
 }
 
@@ -106,7 +112,8 @@ fn group_of_len(
     if is_one(terms.as_slice()) && is_starred(&cs[n..]) {
         return Ok(Cut::token(Kind::Wild(field, only(alloc, terms)), n + 1));
     }
-    Ok(Cut::token(group_kind(alloc, field, text.as_str(), terms), n))
+    let kind = group_kind(alloc, field, text.as_str(), begins_capital(cs), terms);
+    Ok(Cut::token(kind, n))
 }
 
 /// The piece of the group at the front.

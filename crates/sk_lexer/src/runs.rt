@@ -3,9 +3,9 @@ ghost use Rattle.std.specs.Prelude.{◌≡◌, ◌≤◌, ◌<◌, ◌+◌, fals
 ghost use Rattle.std.specs.List.{prefix_len, slice_get};
 ghost use Rattle.sk_base.specs.Names.{is_name_byte};
 ghost use Rattle.sk_text.specs.Characters.{begins_word};
-ghost use Rattle.sk_grammar.specs.Characters.{is_joiner, group_len, runs_on, run_len};
+ghost use Rattle.sk_grammar.specs.Characters.{begins_capital, is_joiner, group_len, runs_on, run_len};
 
-use sk_text::{belongs, is_word};
+use sk_text::{belongs, is_capital, is_word};
 
 pub(crate) fn is_joiner(c: char) -> bool
     ensures { result ≡ is_joiner c }
@@ -18,6 +18,16 @@ pub(crate) fn begins_word(cs: &[char]) -> bool
 {
     match cs {
         [c, ..] => is_word(*c),
+        [] => false,
+    }
+}
+
+/// Whether a capital letter stands first.
+pub(crate) fn begins_capital(cs: &[char]) -> bool
+    ensures { result ≡ begins_capital cs.now }
+{
+    match cs {
+        [c, ..] => is_capital(*c),
         [] => false,
     }
 }

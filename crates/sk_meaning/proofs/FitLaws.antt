@@ -1,5 +1,5 @@
 -- The query of a text fits.
-use Rattle.std.proofs.Common.{◌≡◌, ◌≤◌, ℕ, true, ◌&&◌, nat_le, List, [], Option, Some, None, refl, sym, ap, ◌∙◌, arith}
+use Rattle.std.proofs.Common.{◌≡◌, ◌≤◌, ℕ, true, ◌&&◌, nat_le, List, [], Option, Some, None, Ok, refl, sym, ap, ◌∙◌, arith}
 use Rattle.std.proofs.lemmas.Bool.Decides.{nat_tests}
 use Rattle.std.specs.List.{list_all}
 use Rattle.std.proofs.lemmas.Bool.{and_from}
@@ -13,7 +13,7 @@ use Rattle.sk_grammar.specs.declared.fault.FaultKind.{FaultKind}
 use Rattle.sk_grammar.specs.declared.token.Token.{Token}
 use Rattle.sk_grammar.specs.Cutting.{tokens_of}
 use Rattle.sk_grammar.specs.Faults.{fault_in, kinds_of}
-use Rattle.sk_grammar.specs.Meaning.{tree_in, meant_or, query_meant}
+use Rattle.sk_grammar.specs.Meaning.{tree_in, unless_fault, query_meant}
 use Rattle.sk_meaning.proofs.TokenLemmas.{tokens_filled, AreFaultless, faultless_in}
 use Rattle.sk_meaning.proofs.FitLemmas.{Fits}
 use Rattle.sk_meaning.proofs.NestLemmas.{are_good, tree_in_fits, tree_in_leaves}
@@ -34,15 +34,14 @@ tree_fits schema join text sound none =
     (tree_in_fits schema join (kinds_of (tokens_of schema text)) sound (are_good schema (kinds_of (tokens_of schema text)) (tokens_filled schema text sound) faultless.links) faultless.shallow)
     (omega (arith, few, leaves))
 
-or_fits : (schema : Schema) (join : Join) (o : Option (FaultKind × ℕ)) (tokens : List Token) (t : Tree) → (o ≡ None → fits_tree (tree_in schema join (kinds_of tokens)) ≡ true)
-    → meant_or schema join o tokens ≡ Some t → fits_tree t ≡ true
-or_fits schema join None tokens t f e = let same : t ≡ tree_in schema join (kinds_of tokens) = cc in ap fits_tree same ∙ f refl
-or_fits schema join (Some fault) tokens t f e = absurd (cc)
+unless_fits : (o : Option (FaultKind × ℕ)) (query t : Tree) → (o ≡ None → fits_tree query ≡ true) → unless_fault o query ≡ Ok t → fits_tree t ≡ true
+unless_fits None query t f e = let same : t ≡ query = cc in ap fits_tree same ∙ f refl
+unless_fits (Some fault) query t f e = absurd (cc)
 
 -- The query that a text means.
-pub meant_fits : (schema : Schema) (join : Join) (text : List ℕ) (t : Tree) → IsSchema schema → query_meant schema join text ≡ Some t → fits_tree t ≡ true
+pub meant_fits : (schema : Schema) (join : Join) (text : List ℕ) (t : Tree) → IsSchema schema → query_meant schema join text ≡ Ok t → fits_tree t ≡ true
 meant_fits schema join text t is e =
-    or_fits schema join (fault_in schema (tokens_of schema text)) (tokens_of schema text) t
+    unless_fits (fault_in schema (tokens_of schema text)) (tree_in schema join (kinds_of (tokens_of schema text))) t
     (tree_fits schema join text (first_so (list_all is_field schema.fields) (are_apart schema.fields) is.sound)) e
 
 -- So does the one that is made of a text's tokens, which have no fault.

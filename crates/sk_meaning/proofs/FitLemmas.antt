@@ -1,5 +1,5 @@
 -- How deep the query of parts is, and that each query in it keeps its conditions where there are not too many leaves.
-use Rattle.std.proofs.Common.{◌≡◌, ◌≤◌, ℕ, suc, ◌+◌, ◌-◌, Bool, true, false, ◌&&◌, ◌==◌, nat_lt, cond, if◌then◌else◌, List, [], ◌∷◌, ◌++◌, length, map, reverse, filter, Option, Some, None, refl, sym, ◌∙◌, arith, length-append, subst}
+use Rattle.std.proofs.Common.{◌≡◌, ◌≤◌, ℕ, suc, ◌+◌, ◌-◌, Bool, true, false, ◌&&◌, ◌==◌, nat_lt, cond, if◌then◌else◌, List, [], ◌∷◌, ◌++◌, length, map, reverse, filter, Option, Some, None, IfSome, refl, sym, ◌∙◌, arith, length-append, subst}
 use Rattle.std.proofs.lemmas.Bool.Decides.{nat_tests}
 use Rattle.std.proofs.lemmas.List.{reverse-append}
 use Rattle.std.proofs.lemmas.List.Folds.{list_all-append}
@@ -172,9 +172,9 @@ units_tree_fits d join (u ∷ us) h =
     (filtered_fits d (base_of join (u ∷ us)) (groups_after [] (u ∷ us)) (base_fits d join (u ∷ us) h) (after_fit d (u ∷ us) [] h tt))
     (queries_fit d is_hated (u ∷ us) h))
 
--- A part fits: its distance is no more than 10,000, and its terms are not empty.
+-- A part fits: its distance is no more than 10,000, and its terms are not empty, nor is that of a stem.
 abbrev pub PartFits : ℕ → Part → Type 0
-PartFits d (chain ordered n ts) = (n ≤ 10000) × (list_all is_given ts ≡ true)
+PartFits d (chain ordered n s ts) = (n ≤ 10000) × (list_all is_given ts ≡ true) × IfSome s (λ t. is_given t ≡ true)
 PartFits d (unit t) = Fits d t
 PartFits d (chosen f t) = Fits d t
 PartFits d empty = Unit {0}
@@ -189,19 +189,19 @@ PartsFit d (p ∷ ps) = PartFits d p × PartsFit d ps
 words_given : (ts us : List (List ℕ)) → list_all is_given ts ≡ true → list_all is_given us ≡ true → list_all is_given (ts ++ us) ≡ true
 words_given ts us f g = list_all-append is_given ts us ∙ and_from (list_all is_given ts) (list_all is_given us) f g
 
-linked_fit : (d : ℕ) (ordered : Bool) (n : ℕ) (before : List Part) (p : Bool) (k : ℕ) (us : List (List ℕ)) → n ≤ 10000 → k ≤ 10000 → list_all is_given us ≡ true → PartsFit d before
-    → PartsFit d (linked ordered n before p k us)
-linked_fit d ordered n [] p k us h i g f = ((i, g), (h, tt))
-linked_fit d ordered n (chain o m ts ∷ before) p k us h i g f = let own = f.0.0 in ((omega arith, words_given ts us f.0.1 g), f.1)
-linked_fit d ordered n (q ∷ before) p k us h i g f = ((i, g), (h, f))
+linked_fit : (d : ℕ) (ordered : Bool) (n : ℕ) (before : List Part) (p : Bool) (k : ℕ) (r : Option (List ℕ)) (us : List (List ℕ)) → n ≤ 10000 → PartFits d (chain p k r us) → PartsFit d before
+    → PartsFit d (linked ordered n before p k r us)
+linked_fit d ordered n [] p k r us h g f = (g, (h, tt))
+linked_fit d ordered n (chain o m s ts ∷ before) p k r us h g f = let own = f.0.0 in ((omega arith, words_given ts us f.0.1 g.1, tt), f.1)
+linked_fit d ordered n (q ∷ before) p k r us h g f = (g, (h, f))
 
-with_words_fit : (d : ℕ) (before : List Part) (p : Bool) (k : ℕ) (us : List (List ℕ)) → k ≤ 10000 → list_all is_given us ≡ true → PartsFit d before → PartsFit d (with_words before p k us)
-with_words_fit d [] p k us i g f = ((i, g), tt)
-with_words_fit d (link ordered n ∷ before) p k us i g f = linked_fit d ordered n before p k us f.0 i g f.1
-with_words_fit d (q ∷ before) p k us i g f = ((i, g), f)
+with_words_fit : (d : ℕ) (before : List Part) (p : Bool) (k : ℕ) (r : Option (List ℕ)) (us : List (List ℕ)) → PartFits d (chain p k r us) → PartsFit d before → PartsFit d (with_words before p k r us)
+with_words_fit d [] p k r us g f = (g, tt)
+with_words_fit d (link ordered n ∷ before) p k r us g f = linked_fit d ordered n before p k r us f.0 g f.1
+with_words_fit d (q ∷ before) p k r us g f = (g, f)
 
 with_part_fit : (d : ℕ) (before : List Part) (p : Part) → PartsFit d before → PartFits d p → PartsFit d (with_part before p)
-with_part_fit d before (chain ordered n ts) f g = with_words_fit d before ordered n ts g.0 g.1 f
+with_part_fit d before (chain ordered n s ts) f g = with_words_fit d before ordered n s ts g f
 with_part_fit d before p f g = (g, f)
 
 pub chained_fit : (d : ℕ) (before ps : List Part) → PartsFit d before → PartsFit d ps → PartsFit d (chained before ps)
@@ -215,9 +215,9 @@ window_fits n m h k = grind (arith, nat_tests)
 near_sound : (n m : ℕ) (ok : Bool) → n ≤ 10000 → suc (suc m) ≤ 1024 → ok ≡ true → (is_window (n + suc (suc m) - 1) && (nat_lt 0 (suc (suc m)) && ok)) ≡ true
 near_sound n m ok h k e = and_from (is_window (n + suc (suc m) - 1)) (nat_lt 0 (suc (suc m)) && ok) (window_fits n m h (omega arith)) (and_from (nat_lt 0 (suc (suc m))) ok (grind (arith, nat_tests)) e)
 
-chain_fits : (d : ℕ) (ordered : Bool) (n : ℕ) (ts : List (List ℕ)) → 1 ≤ d → n ≤ 10000 → list_all is_given ts ≡ true → Fits d (chain_tree ordered n ts)
-chain_fits d ordered n [] some h g = nothing_fits d some
-chain_fits d ordered n (t ∷ []) some h g = record { sound = λ few. first t g; deep = some }
+chain_fits : (d : ℕ) (ordered : Bool) (n : ℕ) (s : Option (List ℕ)) (ts : List (List ℕ)) → 1 ≤ d → PartFits d (chain ordered n s ts) → Fits d (chain_tree ordered n s ts)
+chain_fits d ordered n s [] some h = nothing_fits d some
+chain_fits d ordered n None (t ∷ []) some h = record { sound = λ few. first t h.1; deep = some }
   where
     first : (t : List ℕ) → (is_given t && true) ≡ true → is_given t ≡ true
     first t e = by (is_given t) e
@@ -225,12 +225,13 @@ chain_fits d ordered n (t ∷ []) some h g = record { sound = λ few. first t g;
         by : (b : Bool) → (b && true) ≡ true → b ≡ true
         by true e = refl
         by false e = e
-chain_fits d true n (t ∷ u ∷ ts) some h g = record { sound = λ few. near_sound n (length ts) (list_all is_given (t ∷ u ∷ ts)) h few g; deep = some }
-chain_fits d false n (t ∷ u ∷ ts) some h g = record { sound = λ few. near_sound n (length ts) (list_all is_given (t ∷ u ∷ ts)) h few g; deep = some }
+chain_fits d ordered n (Some s) (t ∷ []) some h = record { sound = λ few. h.2; deep = some }
+chain_fits d true n s (t ∷ u ∷ ts) some h = record { sound = λ few. near_sound n (length ts) (list_all is_given (t ∷ u ∷ ts)) h.0 few h.1; deep = some }
+chain_fits d false n s (t ∷ u ∷ ts) some h = record { sound = λ few. near_sound n (length ts) (list_all is_given (t ∷ u ∷ ts)) h.0 few h.1; deep = some }
 
 -- The units of a run.
 unit_fits : (d : ℕ) (mark : Mark) (p : Part) → 1 ≤ d → PartFits d p → UnitsFit d (unit_of mark p)
-unit_fits d mark (chain ordered n ts) some h = (chain_fits d ordered n ts some h.0 h.1, tt)
+unit_fits d mark (chain ordered n s ts) some h = (chain_fits d ordered n s ts some h, tt)
 unit_fits d mark (unit t) some h = (h, tt)
 unit_fits d mark (chosen f t) some h = (h, tt)
 unit_fits d mark empty some h = tt
@@ -343,7 +344,7 @@ closed_fits d join [] some h = tt
 closed_fits d join (p ∷ ps) some h = parts_tree_fits d join (reverse (p ∷ ps)) some (reverse_fit d (p ∷ ps) h)
 
 pub part_deeper : (d e : ℕ) (p : Part) → d ≤ e → PartFits d p → PartFits e p
-part_deeper d e (chain ordered n ts) h f = f
+part_deeper d e (chain ordered n s ts) h f = f
 part_deeper d e (unit t) h f = deeper d e t h f
 part_deeper d e (chosen k t) h f = deeper d e t h f
 part_deeper d e empty h f = f

@@ -145,7 +145,7 @@ units_tree_leaves join (u ∷ us) =
 
 -- The leaves of parts.
 abbrev pub part_leaves : Part → ℕ
-part_leaves (chain ordered n ts) = length ts
+part_leaves (chain ordered n s ts) = length ts
 part_leaves (unit t) = leaves_of t
 part_leaves (chosen f t) = leaves_of t
 part_leaves empty = 0
@@ -157,18 +157,18 @@ parts_leaves [] = 0
 parts_leaves (p ∷ ps) = part_leaves p + parts_leaves ps
 
 -- Words that are linked together.
-linked_leaves : (ordered : Bool) (n : ℕ) (before : List Part) (p : Bool) (k : ℕ) (us : List (List ℕ)) → parts_leaves (linked ordered n before p k us) ≡ parts_leaves before + length us
-linked_leaves ordered n [] p k us = omega arith
-linked_leaves ordered n (chain o m ts ∷ before) p k us = let whole = length-append ts us in omega (arith, whole)
-linked_leaves ordered n (q ∷ before) p k us = omega arith
+linked_leaves : (ordered : Bool) (n : ℕ) (before : List Part) (p : Bool) (k : ℕ) (r : Option (List ℕ)) (us : List (List ℕ)) → parts_leaves (linked ordered n before p k r us) ≡ parts_leaves before + length us
+linked_leaves ordered n [] p k r us = omega arith
+linked_leaves ordered n (chain o m s ts ∷ before) p k r us = let whole = length-append ts us in omega (arith, whole)
+linked_leaves ordered n (q ∷ before) p k r us = omega arith
 
-words_leaves : (before : List Part) (p : Bool) (k : ℕ) (us : List (List ℕ)) → parts_leaves (with_words before p k us) ≡ parts_leaves before + length us
-words_leaves [] p k us = omega arith
-words_leaves (link ordered n ∷ before) p k us = linked_leaves ordered n before p k us ∙ omega arith
-words_leaves (q ∷ before) p k us = omega arith
+words_leaves : (before : List Part) (p : Bool) (k : ℕ) (r : Option (List ℕ)) (us : List (List ℕ)) → parts_leaves (with_words before p k r us) ≡ parts_leaves before + length us
+words_leaves [] p k r us = omega arith
+words_leaves (link ordered n ∷ before) p k r us = linked_leaves ordered n before p k r us ∙ omega arith
+words_leaves (q ∷ before) p k r us = omega arith
 
 with_leaves : (before : List Part) (p : Part) → parts_leaves (with_part before p) ≡ parts_leaves before + part_leaves p
-with_leaves before (chain ordered n ts) = words_leaves before ordered n ts
+with_leaves before (chain ordered n s ts) = words_leaves before ordered n s ts
 with_leaves before p = omega arith
 
 pub chained_leaves : (before ps : List Part) → parts_leaves (chained before ps) ≡ parts_leaves before + parts_leaves ps
@@ -176,14 +176,14 @@ chained_leaves before [] = omega arith
 chained_leaves before (p ∷ ps) = let first = with_leaves before p in let more = chained_leaves (with_part before p) ps in omega (arith, first, more)
 
 -- The units of a run.
-chain_leaves : (ordered : Bool) (n : ℕ) (ts : List (List ℕ)) → leaves_of (chain_tree ordered n ts) ≡ length ts
-chain_leaves ordered n [] = refl
-chain_leaves ordered n (t ∷ []) = refl
-chain_leaves true n (t ∷ u ∷ ts) = refl
-chain_leaves false n (t ∷ u ∷ ts) = refl
+chain_leaves : (ordered : Bool) (n : ℕ) (s : Option (List ℕ)) (ts : List (List ℕ)) → leaves_of (chain_tree ordered n s ts) ≡ length ts
+chain_leaves ordered n s [] = refl
+chain_leaves ordered n s (t ∷ []) = refl
+chain_leaves true n s (t ∷ u ∷ ts) = refl
+chain_leaves false n s (t ∷ u ∷ ts) = refl
 
 unit_leaves : (mark : Mark) (p : Part) → units_leaves (unit_of mark p) ≡ part_leaves p
-unit_leaves mark (chain ordered n ts) = let one = chain_leaves ordered n ts in omega (arith, one)
+unit_leaves mark (chain ordered n s ts) = let one = chain_leaves ordered n s ts in omega (arith, one)
 unit_leaves mark (unit t) = omega arith
 unit_leaves mark (chosen f t) = omega arith
 unit_leaves mark empty = refl

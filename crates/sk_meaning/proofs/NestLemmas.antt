@@ -1,5 +1,5 @@
 -- The parts of brackets fit, and have no more leaves than their tokens.
-use Rattle.std.proofs.Common.{◌≡◌, ◌≤◌, ◌<◌, ℕ, zero, suc, pred, ◌+◌, ◌*◌, max, true, ◌&&◌, nat_le, nat_lt, List, [], ◌∷◌, length, reverse, Option, Some, None, IfSome, refl, ap, ◌∙◌, arith}
+use Rattle.std.proofs.Common.{◌≡◌, ◌≤◌, ◌<◌, ℕ, zero, suc, pred, ◌+◌, ◌*◌, max, Bool, true, false, ◌&&◌, nat_le, nat_lt, List, [], ◌∷◌, length, reverse, Option, Some, None, IfSome, refl, ap, ◌∙◌, arith}
 use Rattle.std.proofs.lemmas.Bool.Decides.{nat_tests}
 use Rattle.std.proofs.lemmas.List.{length-map}
 use Rattle.std.specs.List.{list_all, slice_get}
@@ -15,7 +15,8 @@ use Rattle.sk_query.specs.Fits.{is_slot, leaves_of as tree_leaves}
 use Rattle.sk_grammar.specs.declared.token.Kind.{Kind}
 use Rattle.sk_grammar.specs.Brackets.{Nest, single, bracket, Nests, no_nests, nest, Levels, opened, with_token, levels_of}
 use Rattle.sk_grammar.specs.Faults.{is_open, is_distance, depth_behind, leaves_by, leaves_among}
-use Rattle.sk_grammar.specs.Parts.{Part, prefix_of, prefix_in, side_by_side, slot_of, range_in, all_prefixed, part_of, chained}
+use Rattle.sk_stem.specs.Stems.{stem}
+use Rattle.sk_grammar.specs.Parts.{Part, prefix_of, prefix_in, side_by_side, slot_of, range_in, all_prefixed, stem_asked, part_of, chained}
 use Rattle.sk_grammar.specs.Meaning.{closed_part, nest_part, nest_parts, tree_in}
 use Rattle.sk_meaning.proofs.TermLemmas.{text_prefixed, prefix_prefixed}
 use Rattle.sk_meaning.proofs.PieceLemmas.{is_filled, field_sound, kind_sound}
@@ -81,9 +82,18 @@ range_leaves (Some field) text = omega arith
 distance_within : (n : ℕ) → is_distance n ≡ true → n ≤ 10000
 distance_within n e = grind (arith, nat_tests)
 
+stem_fits : (stems capital : Bool) (prefix t : List ℕ) → IfSome (stem_asked stems capital prefix t) (λ s. is_given s ≡ true)
+stem_fits true true prefix t = tt
+stem_fits true false prefix t = one_more (length (prefixed prefix (stem t)))
+  where
+    one_more : (n : ℕ) → nat_lt 0 (suc n) ≡ true
+    one_more n = grind (arith, nat_tests)
+stem_fits false capital prefix t = tt
+
 -- The part that a token is.
 part_fits : (schema : Schema) (around : List ℕ) (k : Kind) → list_all is_field schema.fields ≡ true → IsGood schema k → PartFits 1 (part_of schema around k)
-part_fits schema around (Kind.Word field t) sound h = (omega arith, and_from (is_given (prefixed (prefix_in schema around field) t)) true (text_prefixed (prefix_in schema around field) t h.0) refl)
+part_fits schema around (Kind.Word field t capital) sound h =
+    (omega arith, and_from (is_given (prefixed (prefix_in schema around field) t)) true (text_prefixed (prefix_in schema around field) t h.0) refl, stem_fits schema.stem capital (prefix_in schema around field) t)
 part_fits schema around (Kind.Wild field t) sound h = record { sound = λ few. text_prefixed (prefix_in schema around field) t h.0; deep = omega arith }
 part_fits schema around (Kind.Joined field ts) sound h = side_fits (all_prefixed (prefix_in schema around field) ts) (all_given (prefix_in schema around field) ts h.0)
 part_fits schema around (Kind.Quote field ts) sound h = side_fits (all_prefixed (prefix_in schema around field) ts) (all_given (prefix_in schema around field) ts h.0)
@@ -94,7 +104,7 @@ part_fits schema around (Kind.Adj n) sound h = distance_within n h.1
 part_fits schema around k sound h = tt
 
 part_few : (schema : Schema) (around : List ℕ) (k : Kind) → part_leaves (part_of schema around k) ≤ leaves_by k
-part_few schema around (Kind.Word field t) = omega arith
+part_few schema around (Kind.Word field t capital) = omega arith
 part_few schema around (Kind.Wild field t) = omega arith
 part_few schema around (Kind.Joined field ts) =
     let a = side_leaves (all_prefixed (prefix_in schema around field) ts) in let b = length-map ts (prefixed (prefix_in schema around field)) in omega (arith, a, b)

@@ -13,7 +13,7 @@ use Rattle.sk_base.specs.Fields.{is_kind, is_field, place_of}
 use Rattle.sk_text.specs.Characters.{is_word_char}
 use Rattle.sk_base.specs.Terms.{is_given}
 use Rattle.sk_grammar.specs.declared.token.Kind.{Kind}
-use Rattle.sk_grammar.specs.Characters.{group_len, inner, is_good, runs_on, run_terms}
+use Rattle.sk_grammar.specs.Characters.{begins_capital, group_len, inner, is_good, runs_on, run_terms}
 use Rattle.sk_grammar.specs.Pieces.{Piece, token_piece, longer, quote_piece, is_starred, is_one, first_term, distance, distant, operator_of, words_kind, group_kind, group_of_len, group_piece, text_piece, filter_piece, range_piece, value_piece, colon_piece, field_piece, mark_piece, takes_mark, is_marked, last_piece, piece_at}
 use Rattle.sk_base.specs.Fields.{kind_prefix}
 use Rattle.sk_grammar.specs.Parts.{prefix_of}
@@ -21,7 +21,7 @@ use Rattle.sk_meaning.proofs.TermLemmas.{terms_given}
 
 -- The words of a token are not empty, and the prefix of a filter's field is not.
 abbrev pub is_filled : Schema → Kind → Bool
-is_filled schema (Kind.Word field t) = is_given t
+is_filled schema (Kind.Word field t capital) = is_given t
 is_filled schema (Kind.Wild field t) = is_given t
 is_filled schema (Kind.Joined field ts) = list_all is_given ts
 is_filled schema (Kind.Quote field ts) = list_all is_given ts
@@ -93,23 +93,23 @@ or_kind schema None k f g = g
 or_kind schema (Some l) k f g = f
 
 -- A group's token.
-words_filled : (schema : Schema) (field : Option ℕ) (ts : List (List ℕ)) → list_all is_given ts ≡ true → is_filled schema (words_kind field ts) ≡ true
-words_filled schema field ts e = by (is_one ts) refl
+words_filled : (schema : Schema) (field : Option ℕ) (capital : Bool) (ts : List (List ℕ)) → list_all is_given ts ≡ true → is_filled schema (words_kind field capital ts) ≡ true
+words_filled schema field capital ts e = by (is_one ts) refl
   where
-    by : (b : Bool) → is_one ts ≡ b → is_filled schema (if b then Kind.Word field (first_term ts) else Kind.Joined field ts) ≡ true
+    by : (b : Bool) → is_one ts ≡ b → is_filled schema (if b then Kind.Word field (first_term ts) capital else Kind.Joined field ts) ≡ true
     by true f = first_given ts e f
     by false f = e
 
-group_kind_filled : (schema : Schema) (field : Option ℕ) (text : List ℕ) (ts : List (List ℕ)) → list_all is_given ts ≡ true → is_filled schema (group_kind field text ts) ≡ true
-group_kind_filled schema None text ts e = or_kind schema (operator_of text) (words_kind None ts) (operator_filled schema text) (words_filled schema None ts e)
-group_kind_filled schema (Some f) text ts e = words_filled schema (Some f) ts e
+group_kind_filled : (schema : Schema) (field : Option ℕ) (text : List ℕ) (capital : Bool) (ts : List (List ℕ)) → list_all is_given ts ≡ true → is_filled schema (group_kind field text capital ts) ≡ true
+group_kind_filled schema None text capital ts e = or_kind schema (operator_of text) (words_kind None capital ts) (operator_filled schema text) (words_filled schema None capital ts e)
+group_kind_filled schema (Some f) text capital ts e = words_filled schema (Some f) capital ts e
 
 of_len_filled : (schema : Schema) (field : Option ℕ) (n : ℕ) (cs : List ℕ) → PieceFilled schema (group_of_len field n cs)
 of_len_filled schema field n cs =
     if_piece schema (is_one (run_terms (take n cs)) && is_starred (drop n cs)) (token_piece (Kind.Wild field (first_term (run_terms (take n cs)))) (n + 1))
-    (token_piece (group_kind field (encode_utf8_all (take n cs)) (run_terms (take n cs))) n)
+    (token_piece (group_kind field (encode_utf8_all (take n cs)) (begins_capital cs) (run_terms (take n cs))) n)
     (λ e. first_given (run_terms (take n cs)) (terms_given (take n cs)) (first_so (is_one (run_terms (take n cs))) (is_starred (drop n cs)) e))
-    (λ _. group_kind_filled schema field (encode_utf8_all (take n cs)) (run_terms (take n cs)) (terms_given (take n cs)))
+    (λ _. group_kind_filled schema field (encode_utf8_all (take n cs)) (begins_capital cs) (run_terms (take n cs)) (terms_given (take n cs)))
 
 group_filled : (schema : Schema) (field : Option ℕ) (cs : List ℕ) → PieceFilled schema (group_piece field cs)
 group_filled schema field cs = of_len_filled schema field (group_len false cs) cs

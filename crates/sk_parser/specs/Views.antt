@@ -17,7 +17,7 @@ use Rattle.sk_parser.specs.declared.split.Border.{Border}
 
 -- A part.
 abbrev pub part_view : Part → PartMeant
-part_view (Part.Chain ordered n words) = chain ordered n words.items
+part_view (Part.Chain ordered n stem words) = chain ordered n stem words.items
 part_view (Part.Unit query) = unit (query_view query)
 part_view (Part.Chosen field query) = chosen field (query_view query)
 part_view Part.Empty = empty

@@ -1,11 +1,13 @@
 //! From what a find asks for to its query.
 ghost use Rattle.std.specs.Prelude.{◌≡◌, ◌≤◌, true, length, IfOk};
+ghost use Rattle.std.specs.Option.{ok_or};
 ghost use Rattle.serde_json.specs.View.{view};
 ghost use Rattle.sk_base.specs.Finds.{FitsAsk, ask_over};
 ghost use Rattle.sk_query.specs.Trees.{query_view};
 ghost use Rattle.sk_query.specs.Fits.{fits_tree};
 ghost use Rattle.sk_query_json.specs.Reading.{tree_of};
-ghost use Rattle.sk_parser.specs.Asked.{asked, text_asked, unless_none, ReadsAs};
+ghost use Rattle.sk_parser.specs.declared.asked.AskError.TheVariants.{BadTree};
+ghost use Rattle.sk_parser.specs.Asked.{asked, text_asked, ReadsAs};
 
 use crate::{ParseError, parse};
 use serde_json::Value;
@@ -57,7 +59,7 @@ pub fn text_query(alloc: Global, schema: &Schema, join: Join, text: &str) -> Res
 
 /// The query of a tree.
 fn tree_query(alloc: Global, value: &Value) -> Result<Query, AskError>
-    ensures reads { ReadsAs (unless_none (tree_of (view value.now))) result }
+    ensures reads { ReadsAs (ok_or (tree_of (view value.now)) BadTree) result }
     ensures fits { IfOk result (λ query. fits_tree (query_view query) ≡ true) }
 {
     match from_json(alloc, value) {

@@ -15,27 +15,28 @@ fn link(
     distance: u32,
     in_order: bool,
     own: u32,
+    stem: Option<Text>,
     words: Vec<Text>,
 ) -> Result<(), AllocError>
-    ensures { OnOk result (parts_behind parts.new.items ≡ linked ordered distance (parts_behind parts.old.items) in_order own words.items) }
+    ensures { OnOk result (parts_behind parts.new.items ≡ linked ordered distance (parts_behind parts.old.items) in_order own stem words.items) }
 {
     let mut words = words;
     match parts.pop() {
-        Some(Part::Chain(_, greatest, before)) => {
+        Some(Part::Chain(_, greatest, _, before)) => {
             let mut all = before;
             all.append(&mut words)?;
-            parts.push(Part::Chain(ordered, greatest.max(distance), all))?;
+            parts.push(Part::Chain(ordered, greatest.max(distance), None, all))?;
             Ok(())
         }
         Some(other) => {
             parts.push(other)?;
             parts.push(Part::Link(ordered, distance))?;
-            parts.push(Part::Chain(in_order, own, words))?;
+            parts.push(Part::Chain(in_order, own, stem, words))?;
             Ok(())
         }
         None => {
             parts.push(Part::Link(ordered, distance))?;
-            parts.push(Part::Chain(in_order, own, words))?;
+            parts.push(Part::Chain(in_order, own, stem, words))?;
             Ok(())
         }
     }
@@ -47,21 +48,22 @@ fn add_words(
     parts: &mut Vec<Part>,
     in_order: bool,
     own: u32,
+    stem: Option<Text>,
     words: Vec<Text>,
 ) -> Result<(), AllocError>
-    ensures { OnOk result (parts_behind parts.new.items ≡ with_words (parts_behind parts.old.items) in_order own words.items) }
+    ensures { OnOk result (parts_behind parts.new.items ≡ with_words (parts_behind parts.old.items) in_order own stem words.items) }
 {
     match parts.pop() {
         Some(Part::Link(ordered, distance)) => {
-            link(parts, ordered, distance, in_order, own, words)
+            link(parts, ordered, distance, in_order, own, stem, words)
         }
         Some(other) => {
             parts.push(other)?;
-            parts.push(Part::Chain(in_order, own, words))?;
+            parts.push(Part::Chain(in_order, own, stem, words))?;
             Ok(())
         }
         None => {
-            parts.push(Part::Chain(in_order, own, words))?;
+            parts.push(Part::Chain(in_order, own, stem, words))?;
             Ok(())
         }
     }
@@ -73,7 +75,7 @@ pub(crate) fn add(parts: &mut Vec<Part>, part: Part) -> Result<(), AllocError>
     ensures { OnOk result (parts_behind parts.new.items ≡ with_part (parts_behind parts.old.items) (part_view part)) }
 {
     match part {
-        Part::Chain(in_order, own, words) => add_words(parts, in_order, own, words),
+        Part::Chain(in_order, own, stem, words) => add_words(parts, in_order, own, stem, words),
         other => {
             parts.push(other)?;
             Ok(())

@@ -1,9 +1,8 @@
 //! From a text to its query.
-ghost use Rattle.std.specs.Prelude.{◌≡◌, ◌≤◌, ℕ, Some, Err, IfOk, length, true};
+ghost use Rattle.std.specs.Prelude.{◌≡◌, ◌≤◌, ℕ, Ok, Err, IfOk, length, true};
 ghost use Rattle.sk_query.specs.Fits.{fits_tree};
 ghost use Rattle.sk_query.specs.Trees.{query_view};
 ghost use Rattle.sk_grammar.specs.declared.fault.FaultKind.{FaultKind};
-ghost use Rattle.sk_grammar.specs.Faults.{fault_of};
 ghost use Rattle.sk_grammar.specs.Meaning.{query_meant};
 ghost use Rattle.sk_parser.specs.declared.parsing.ParseError.TheVariants as ParseError;
 
@@ -42,9 +41,9 @@ impl From<AllocError> for ParseError {
 /// stands.
 pub fn parse(alloc: Global, text: &str, schema: &Schema, join: Join) -> Result<Query, ParseError>
     requires { length text.now ≤ 1048576 }
-    ensures ok { IfOk result (λ q. query_meant schema.now join text.now ≡ Some (query_view q)) }
+    ensures ok { IfOk result (λ q. query_meant schema.now join text.now ≡ Ok (query_view q)) }
     ensures fits { IfOk result (λ q. fits_tree (query_view q) ≡ true) }
-    ensures fault { (kind : FaultKind) (place : ℕ) → result ≡ Err (ParseError.Fault kind place) → fault_of schema.now text.now ≡ Some (kind, place) }
+    ensures fault { (kind : FaultKind) (place : ℕ) → result ≡ Err (ParseError.Fault kind place) → query_meant schema.now join text.now ≡ Err (kind, place) }
 {
     let found = tokens(alloc, text, schema)?;
     // The fields keep their rules, so the query keeps its limits.

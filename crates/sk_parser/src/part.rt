@@ -5,20 +5,22 @@ ghost use Rattle.sk_base.specs.Terms.{prefixed};
 ghost use Rattle.sk_query.specs.Trees.{limit_of, query_view};
 ghost use Rattle.sk_grammar.specs.Bounds.{halves, is_number, is_number_kind, are_numbers};
 ghost use Rattle.sk_grammar.specs.Faults.{is_bad_range, takes_numbers};
-ghost use Rattle.sk_grammar.specs.Parts.{chain, unit, prefix_of, prefix_in, side_by_side, limit_in, slot_of, range_in, all_prefixed, part_of, chain_tree};
+ghost use Rattle.sk_grammar.specs.Parts.{chain, unit, prefix_of, prefix_in, side_by_side, limit_in, slot_of, range_in, all_prefixed, stem_asked, part_of, chain_tree};
 ghost use Rattle.sk_parser.specs.Views.{part_view, kind_range};
 
 use sk_base::{Field, FieldKind, Items, Schema, Text, prefixed};
 use sk_faults::{halves, number};
 use sk_grammar::Kind;
 use sk_query::{Bound, Query};
+use sk_stem::stem_term;
 use std::alloc::{AllocError, Global};
 
 /// A part of a list of tokens.
 #[derive(Drop)]
 pub(crate) enum Part {
-    /// Words that NEAR or, where the order counts, ADJ holds together, with the greatest distance; or a word alone.
-    Chain(bool, u32, Vec<Text>),
+    /// Words that NEAR or, where the order counts, ADJ holds together, with the greatest distance; or a word alone,
+    /// with the term of its stem where that is asked for in its place.
+    Chain(bool, u32, Option<Text>, Vec<Text>),
     /// Another unit that is no filter.
     Unit(Query),
     /// A filter or a range, with its field.
@@ -93,9 +95,10 @@ fn side_by_side(terms: Vec<Text>) -> Result<Query, AllocError>
 pub(crate) fn chain_tree(
     ordered: bool,
     distance: u32,
+    stem: Option<Text>,
     words: Vec<Text>,
 ) -> Result<Query, AllocError>
-    ensures { IfOk result (λ q. query_view q ≡ chain_tree ordered distance words.items) }
+    ensures { IfOk result (λ q. query_view q ≡ chain_tree ordered distance stem words.items) }
 {
     let mut words = words;
     if words.len() > 1 {
@@ -108,7 +111,7 @@ pub(crate) fn chain_tree(
         });
     }
     match words.pop() {
-        Some(word) => Ok(Query::Term(word)),
+        Some(word) => Ok(Query::Term(stem.unwrap_or(word))),
         None => Ok(Query::Nothing),
     }
 }
@@ -162,8 +165,10 @@ pub(crate) fn part_of(
     ensures { IfOk result (λ p. part_view p ≡ part_of schema.now around.now kind.now) }
 {
     match kind {
-        Kind::Word(field, term) => word_part(
+        Kind::Word(field, term, capital) => word_part(
             alloc,
+            schema.stem(),
+            *capital,
             prefix_in(schema, around, *field),
             term.as_str(),
         ),
@@ -212,12 +217,36 @@ fn range_in(alloc: Global, fields: &[Field], place: usize, text: &str) -> Result
 }
 
 /// A word alone.
-fn word_part(alloc: Global, prefix: &str, term: &str) -> Result<Part, AllocError>
-    ensures { IfOk result (λ p. part_view p ≡ chain false 0 (prefixed prefix.now term.now ∷ [])) }
+fn word_part(
+    alloc: Global,
+    stems: bool,
+    capital: bool,
+    prefix: &str,
+    term: &str,
+) -> Result<Part, AllocError>
+    ensures { IfOk result (λ p. part_view p ≡ chain false 0 (stem_asked stems capital prefix.now term.now) (prefixed prefix.now term.now ∷ [])) }
 {
+    let stem = stem_asked(alloc, stems, capital, prefix, term)?;
     let mut words = Vec::new(alloc);
     words.push(prefixed(alloc, prefix, term)?)?;
-    Ok(Part::Chain(false, 0, words))
+    Ok(Part::Chain(false, 0, stem, words))
+}
+
+/// The term of the stem of a word, where the schema asks for stems and no capital letter begins the word.
+fn stem_asked(
+    alloc: Global,
+    stems: bool,
+    capital: bool,
+    prefix: &str,
+    term: &str,
+) -> Result<Option<Text>, AllocError>
+    ensures { IfOk result (λ stem. stem ≡ stem_asked stems capital prefix.now term.now) }
+{
+    if stems && !capital {
+        Ok(Some(stem_term(alloc, prefix, term)?))
+    } else {
+        Ok(None)
+    }
 }
 
 /// Words that stand side by side.

@@ -42,8 +42,8 @@ fn add(made: &mut Vec<Unit>, mark: Mark, part: Part) -> Result<(), AllocError>
     ensures { OnOk result (map unit_view made.new.items ≡ map unit_view made.old.items ++ unit_of mark (part_view part)) }
 {
     match part {
-        Part::Chain(ordered, distance, words) => {
-            let query = chain_tree(ordered, distance, words)?;
+        Part::Chain(ordered, distance, stem, words) => {
+            let query = chain_tree(ordered, distance, stem, words)?;
             made.push(Unit {
                 mark,
                 field: None,
