@@ -20,7 +20,7 @@ use Rattle.sk_model.proofs.CoverLaws.{covers_itself}
 use Rattle.sk_decay.specs.Heads.{IsHead}
 use Rattle.sk_nodes.specs.declared.top.Top.{Top}
 use Rattle.sk_nodes.specs.declared.leaf.Leaf.{Leaf}
-use Rattle.sk_nodes.specs.Leaves.{runs_of, entries_of, weighed, leaf_rest, head_of, WeighBelow, AtMost, IsLeafOn, IsLeafTop}
+use Rattle.sk_nodes.specs.Leaves.{runs_of, entries_of, weighed, leaf_rest, head_of, WeighBelow, AtMost, IsLeafOn}
 use Rattle.sk_nodes.specs.Left.{from_on}
 use Rattle.sk_nodes.specs.Shapes.{leaf}
 use Rattle.sk_nodes.specs.Sound.{IsTop}
@@ -189,12 +189,12 @@ first_small id (p ∷ ps) sorted e = let here : id ≡ p.0 = cc in omega (arith,
 
 -- what is written of a leaf at an entry
 pub leaf_shown : (i : Indexed) (t : Top) (l : Leaf) (id wdf : ℕ) → IsLeafOn i l → Some id ≡ first_id (entries_of i l) → wdf ≡ first_wdf (entries_of i l)
-    → t.head ≡ id → t.weight ≡ weigh_by l.factor l.scheme wdf → t.greatest ≡ l.greatest → IsLeafTop i t l
+    → t.head ≡ id → t.weight ≡ weigh_by l.factor l.scheme wdf → t.greatest ≡ l.greatest → IsTop i t (leaf l)
 leaf_shown i t l id wdf on here much same weighs greatest = record {
   head = same_head id wdf t.head t.weight l.factor l.scheme (leaf_rest i l) same weighs
       (weighed-head l.factor l.scheme id wdf (entries_of i l) (AreSorted-left l.cursor (runs_of i l.source) on.runs on.on) here much);
   bound = subst (λ g. AtMost g (leaf_rest i l)) (sym greatest) on.bound;
-  exact = λ lt. greatest;
+  summed = λ lt. omega (arith, greatest);
   closed = λ end. absurd (omega (arith, end, same, first_small id (entries_of i l) (AreSorted-left l.cursor (runs_of i l.source) on.runs on.on) here));
 }
 

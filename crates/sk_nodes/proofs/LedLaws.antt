@@ -436,12 +436,12 @@ split_follows i form other ta a tb b s fs bs lists s0 s1 s2 s3 so is some more o
     by (inr e) = absurd (long split.whole e)
 
 -- an xor of three parts or more follows nothing
-pub odd_follows : (form : Form) (ts : Trees.Trees) (lists : List (List ℕ)) → is_nest form (part_count ts) ≡ false → (form ≡ Form.Or) ⊎ (length lists ≡ 1) → terms_in ts ≡ Some lists → ⊥
-odd_follows form ts lists three (inl is) terms = other (ap (λ f. is_nest f (part_count ts)) (sym is) ∙ three)
+pub xor_follows : (form : Form) (ts : Trees.Trees) (lists : List (List ℕ)) → is_nest form (part_count ts) ≡ false → (form ≡ Form.Or) ⊎ (length lists ≡ 1) → terms_in ts ≡ Some lists → ⊥
+xor_follows form ts lists three (inl is) terms = other (ap (λ f. is_nest f (part_count ts)) (sym is) ∙ three)
   where
     other : is_nest Form.Or (part_count ts) ≡ false → ⊥
     other e = cc
-odd_follows form ts lists three (inr one) terms = alone form (ap (is_nest form) (sym one ∙ sym (terms_count ts lists terms).0) ∙ three)
+xor_follows form ts lists three (inr one) terms = alone form (ap (is_nest form) (sym one ∙ sym (terms_count ts lists terms).0) ∙ three)
   where
     alone : (form : Form) → is_nest form 1 ≡ false → ⊥
     alone Form.And e = cc

@@ -21,7 +21,7 @@ use Rattle.sk_nodes.proofs.SynonymLaws.{wild_apart, only_one}
 use Rattle.sk_nodes.specs.declared.top.Top.{Top}
 use Rattle.sk_nodes.specs.declared.leaf.ListOf.{ListOf}
 use Rattle.sk_nodes.specs.Leaves.{list_in}
-use Rattle.sk_nodes.specs.Shapes.{Shape, ended, leaf, pair, any, Sides, no_sides, side}
+use Rattle.sk_nodes.specs.Shapes.{Shape, ended, leaf, pair, or_many, Sides, no_sides, side}
 use Rattle.sk_nodes.specs.Left.{rest}
 use Rattle.sk_nodes.specs.Proximity.{numbered}
 use Rattle.sk_base.specs.declared.find.Scheme.{Scheme}
@@ -39,7 +39,7 @@ mutual
   nest_flat (leaf l) h = tt
   nest_flat (pair form ta a tb b) h =
       subst (λ (f : Form). IsFlat 0 (pair f ta a tb b)) (sym h.0) (tt, (flat-mono a 0 (0 - tb.greatest) (omega arith) (nest_flat a h.1.0), flat-mono b 0 (0 - ta.greatest) (omega arith) (nest_flat b h.1.1)))
-  nest_flat (any ss) h = nests_flat ss h.1
+  nest_flat (or_many ss) h = nests_flat ss h.1
   nest_flat _ h = h
 
   pub nests_flat : (ss : Sides) → AreNests Form.Or ss → AreFlat ss
@@ -50,7 +50,7 @@ pub nest_plain : (s : Shape) → IsNest Form.Max s → IsPlain s
 nest_plain ended h = tt
 nest_plain (leaf l) h = tt
 nest_plain (pair form ta a tb b) h = subst (λ (f : Form). IsPlain (pair f ta a tb b)) (sym h.0) (nest_plain a h.1.0, nest_plain b h.1.1)
-nest_plain (any ss) h = absurd (other h.0)
+nest_plain (or_many ss) h = absurd (other h.0)
   where
     other : Form.Max ≡ Form.Or → ⊥
     other e = cc
@@ -217,8 +217,8 @@ parts_flat query form ts lists docs is e = by form (ap (λ q. flat_lists q docs)
     by _ e = cc
 
 -- an xor of several parts is not joint
-pub odd_joint : (form : Form) (n : ℕ) → is_nest form n ≡ false → IsJoint form → ⊥
-odd_joint form n e joint = by (is_xor form n e) joint
+pub xor_joint : (form : Form) (n : ℕ) → is_nest form n ≡ false → IsJoint form → ⊥
+xor_joint form n e joint = by (is_xor form n e) joint
   where
     by : form ≡ Form.Xor → IsJoint form → ⊥
     by e (inl f) = cc

@@ -18,8 +18,8 @@ use Rattle.sk_nodes.specs.declared.node.Node.TheVariants as Node
 use Rattle.sk_nodes.specs.Leaves.{AtMost}
 use Rattle.sk_nodes.specs.declared.proximity.Proximity.{Proximity}
 use Rattle.sk_nodes.specs.declared.leaf.Leaf.{Leaf}
-use Rattle.sk_nodes.specs.Shapes.{Shape, ended, leaf, pair, odd, any, tested, shape_of, size_of, sides_on}
-use Rattle.sk_nodes.specs.Decayed.{changed_pair, decayed}
+use Rattle.sk_nodes.specs.Shapes.{Shape, ended, leaf, range, pair, xor_many, or_many, positional, shape_of, size_of, sides_on}
+use Rattle.sk_nodes.specs.Decayed.{changed_pair, decayed, SidesFit}
 use Rattle.sk_nodes.specs.Left.{rest, from_on, unread_of, greatest_held}
 use Rattle.sk_nodes.specs.Skips.{WeighsBelow}
 use Rattle.sk_nodes.specs.Moved.{WasSought}
@@ -37,14 +37,14 @@ shape_of-Leaf l = search (rules, the_lemmas)
 pub shape_of-Pair : (form : Form) (ta tb : Top) (a b : Box Node Global) → shape_of (Node.Pair form ta a tb b) ≡ pair form ta (shape_of a.value) tb (shape_of b.value)
 shape_of-Pair form ta tb a b = search (rules, the_lemmas)
 
-pub shape_of-Odd : (tops : Vec Top Global) (nodes : Vec Node Global) → shape_of (Node.Odd tops nodes) ≡ odd (sides_on tops.items nodes.items)
-shape_of-Odd tops nodes = search (rules, the_lemmas)
+pub shape_of-XorMany : (tops : Vec Top Global) (nodes : Vec Node Global) → shape_of (Node.XorMany tops nodes) ≡ xor_many (sides_on tops.items nodes.items)
+shape_of-XorMany tops nodes = search (rules, the_lemmas)
 
-pub shape_of-Any : (tops : Vec Top Global) (nodes : Vec Node Global) → shape_of (Node.Any tops nodes) ≡ any (sides_on tops.items nodes.items)
-shape_of-Any tops nodes = search (rules, the_lemmas)
+pub shape_of-OrMany : (tops : Vec Top Global) (nodes : Vec Node Global) → shape_of (Node.OrMany tops nodes) ≡ or_many (sides_on tops.items nodes.items)
+shape_of-OrMany tops nodes = search (rules, the_lemmas)
 
-pub shape_of-Tested : (p : Proximity) (t : Top) (b : Box Node Global) → shape_of (Node.Tested p t b) ≡ tested p t (shape_of b.value)
-shape_of-Tested p t b = search (rules, the_lemmas)
+pub shape_of-Positional : (p : Proximity) (t : Top) (b : Box Node Global) → shape_of (Node.Positional p t b) ≡ positional p t (shape_of b.value)
+shape_of-Positional p t b = search (rules, the_lemmas)
 
 -- ---- one side
 
@@ -92,6 +92,14 @@ weight_le i t s top =
     given : (a : Option ℕ) → a ≡ Some t.weight → unwrap_or a 0 ≤ t.greatest → t.weight ≤ t.greatest
     given None e h = cc
     given (Some v) e h = let same : v ≡ t.weight = cc in omega (arith, same, h)
+
+-- what a node that has not ended can weigh bounds its top
+pub greatest_within : (i : Indexed) (t : Top) (s : Shape) → IsTop i t s → t.greatest ≤ greatest_held s
+greatest_within i t s top =
+    elim (cases_lt t.head (2 ^ 32)) as (λ _. t.greatest ≤ greatest_held s) [
+      | inl lt ↦ top.summed lt
+      | inr le ↦ let none : t.greatest ≡ 0 = top.closed (omega (arith, le, top.head.within)) in omega (arith, none)
+    ]
 
 -- a node as a side, for the rules
 pub IsTop-side : (i : Indexed) (t : Top) (s : Shape) (test : Bool) → (test ≡ true → t.head ≡ 2 ^ 32) → IsTop i t s → (id : ℕ) → IsSide t.greatest test (rest i s id)
@@ -281,6 +289,15 @@ goes_on_light target need next f g covers light = λ id.
 
 -- ---- what is put in a node's place
 
+pub sound_fits : (i : Indexed) (s : Shape) → Sound i s → SidesFit s
+sound_fits i ended sound = tt
+sound_fits i (leaf l) sound = tt
+sound_fits i (range r) sound = tt
+sound_fits i (pair form ta a tb b) sound = sound.fits
+sound_fits i (xor_many ss) sound = tt
+sound_fits i (or_many ss) sound = tt
+sound_fits i (positional p t s) sound = tt
+
 pub decays_itself : (i : Indexed) (need : ℕ) (s : Shape) → Sound i s → Replaces i need s s
 decays_itself i need s sound = record {
   sound = sound;
@@ -314,22 +331,22 @@ pub leaf_shape : (node : Node) (l m : Leaf) → node ≡ Node.Leaf l → m ≡ l
 leaf_shape node l m e f = ap shape_of e ∙ shape_of-Leaf l ∙ (λ i. leaf (sym f i))
 
 -- a test of a node
-pub tested_shape : (node : Node) (p : Proximity) (t : Top) (b : Box Node Global) (q : Proximity) (u : Top) (x : Node) → node ≡ Node.Tested p t b → q ≡ p → u ≡ t → x ≡ b.value → shape_of node ≡ tested q u (shape_of x)
-tested_shape node p t b q u x e f g h = ap shape_of e ∙ shape_of-Tested p t b ∙ (λ i. tested (sym f i) (sym g i) (shape_of (sym h i)))
+pub positional_shape : (node : Node) (p : Proximity) (t : Top) (b : Box Node Global) (q : Proximity) (u : Top) (x : Node) → node ≡ Node.Positional p t b → q ≡ p → u ≡ t → x ≡ b.value → shape_of node ≡ positional q u (shape_of x)
+positional_shape node p t b q u x e f g h = ap shape_of e ∙ shape_of-Positional p t b ∙ (λ i. positional (sym f i) (sym g i) (shape_of (sym h i)))
 
 -- many sides
-pub odd_shape : (node : Node) (tops : Vec Top Global) (nodes : Vec Node Global) (ts : List Top) (ns : List Node) → node ≡ Node.Odd tops nodes → ts ≡ tops.items → ns ≡ nodes.items → shape_of node ≡ odd (sides_on ts ns)
-odd_shape node tops nodes ts ns e f g = ap shape_of e ∙ shape_of-Odd tops nodes ∙ (λ i. odd (sides_on (sym f i) (sym g i)))
+pub xor_many_shape : (node : Node) (tops : Vec Top Global) (nodes : Vec Node Global) (ts : List Top) (ns : List Node) → node ≡ Node.XorMany tops nodes → ts ≡ tops.items → ns ≡ nodes.items → shape_of node ≡ xor_many (sides_on ts ns)
+xor_many_shape node tops nodes ts ns e f g = ap shape_of e ∙ shape_of-XorMany tops nodes ∙ (λ i. xor_many (sides_on (sym f i) (sym g i)))
 
 -- the same, where new sides were written over them
-pub odd_written : (v : Vec Top Global) (w : Vec Node Global) (ts : List Top) (ns : List Node) → length ts ≡ v.len → length ns ≡ w.len → shape_of (Node.Odd (with_items v ts) (with_items w ns)) ≡ odd (sides_on ts ns)
-odd_written v w ts ns e f = shape_of-Odd (with_items v ts) (with_items w ns) ∙ (λ i. odd (sides_on (with_items_is v ts e i) (with_items_is w ns f i)))
+pub xor_many_written : (v : Vec Top Global) (w : Vec Node Global) (ts : List Top) (ns : List Node) → length ts ≡ v.len → length ns ≡ w.len → shape_of (Node.XorMany (with_items v ts) (with_items w ns)) ≡ xor_many (sides_on ts ns)
+xor_many_written v w ts ns e f = shape_of-XorMany (with_items v ts) (with_items w ns) ∙ (λ i. xor_many (sides_on (with_items_is v ts e i) (with_items_is w ns f i)))
 
-pub any_shape : (node : Node) (tops : Vec Top Global) (nodes : Vec Node Global) (ts : List Top) (ns : List Node) → node ≡ Node.Any tops nodes → ts ≡ tops.items → ns ≡ nodes.items → shape_of node ≡ any (sides_on ts ns)
-any_shape node tops nodes ts ns e f g = ap shape_of e ∙ shape_of-Any tops nodes ∙ (λ i. any (sides_on (sym f i) (sym g i)))
+pub or_many_shape : (node : Node) (tops : Vec Top Global) (nodes : Vec Node Global) (ts : List Top) (ns : List Node) → node ≡ Node.OrMany tops nodes → ts ≡ tops.items → ns ≡ nodes.items → shape_of node ≡ or_many (sides_on ts ns)
+or_many_shape node tops nodes ts ns e f g = ap shape_of e ∙ shape_of-OrMany tops nodes ∙ (λ i. or_many (sides_on (sym f i) (sym g i)))
 
-pub any_written : (v : Vec Top Global) (w : Vec Node Global) (ts : List Top) (ns : List Node) → length ts ≡ v.len → length ns ≡ w.len → shape_of (Node.Any (with_items v ts) (with_items w ns)) ≡ any (sides_on ts ns)
-any_written v w ts ns e f = shape_of-Any (with_items v ts) (with_items w ns) ∙ (λ i. any (sides_on (with_items_is v ts e i) (with_items_is w ns f i)))
+pub or_many_written : (v : Vec Top Global) (w : Vec Node Global) (ts : List Top) (ns : List Node) → length ts ≡ v.len → length ns ≡ w.len → shape_of (Node.OrMany (with_items v ts) (with_items w ns)) ≡ or_many (sides_on ts ns)
+or_many_written v w ts ns e f = shape_of-OrMany (with_items v ts) (with_items w ns) ∙ (λ i. or_many (sides_on (with_items_is v ts e i) (with_items_is w ns f i)))
 
 -- a side alone, and the sides under another form
 pub decays_first : (i : Indexed) (need : ℕ) (form : Form) (ta : Top) (a : Shape) (tb : Top) (b : Shape) (a_ended b_ended : Bool) → (a_ended ≡ true → ta.head ≡ 2 ^ 32) → (b_ended ≡ true → tb.head ≡ 2 ^ 32)

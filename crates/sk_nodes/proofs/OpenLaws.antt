@@ -21,7 +21,7 @@ use Rattle.sk_model.proofs.CoverLaws.{two_xor}
 use Rattle.sk_model.proofs.WeightLaws.{ceil_small}
 use Rattle.sk_decay.specs.Sides.{paired, greatest_under}
 use Rattle.sk_decay.proofs.SideLaws.{paired-none}
-use Rattle.sk_nodes.proofs.OddLaws.{none_odd}
+use Rattle.sk_nodes.proofs.ManyLaws.{none_xor}
 use Rattle.sk_nodes.specs.Opened.{part_count, joint_score_of, others_of, query_size, parts_size, is_nest, part_scores, score_of, AreParts}
 
 -- ---- parts, one behind the other
@@ -277,22 +277,22 @@ part_scores-none : (ts : Trees.Trees) (scheme : Scheme) (factor : ℕ) → sum_o
 part_scores-none no_trees scheme factor = refl
 part_scores-none (tree t ts) scheme factor = part_scores-none ts scheme factor
 
-pub joint-odd : (ts : Trees.Trees) (scheme : Scheme) (factor : ℕ) (o : Option Document) → combined Form.Xor (part_scores ts scheme factor o) ≡ joint_score_of Form.Xor ts scheme factor o
-joint-odd ts scheme factor None = none_odd (part_scores ts scheme factor None) (part_scores-none ts scheme factor)
-joint-odd ts scheme factor (Some d) = ap (combined Form.Xor) (part_scores-some ts scheme factor d)
+pub joint-xor : (ts : Trees.Trees) (scheme : Scheme) (factor : ℕ) (o : Option Document) → combined Form.Xor (part_scores ts scheme factor o) ≡ joint_score_of Form.Xor ts scheme factor o
+joint-xor ts scheme factor None = none_xor (part_scores ts scheme factor None) (part_scores-none ts scheme factor)
+joint-xor ts scheme factor (Some d) = ap (combined Form.Xor) (part_scores-some ts scheme factor d)
 
 module _ (form : Form) (factor : ℕ) (ts : Trees.Trees) (n : ℕ) (e : is_nest form n ≡ false) where
-  pub odd_are : AreParts form factor ts → AreParts Form.Xor factor ts
-  odd_are are = record { some = are.some; sound = are.sound; leaves = are.leaves }
+  pub xor_are : AreParts form factor ts → AreParts Form.Xor factor ts
+  xor_are are = record { some = are.some; sound = are.sound; leaves = are.leaves }
 
-  pub odd_scores : (scheme : Scheme) (o : Option Document) → joint_score_of form ts scheme factor o ≡ combined Form.Xor (part_scores ts scheme factor o)
-  odd_scores scheme o = ap (λ (f : Form). joint_score_of f ts scheme factor o) (is_xor form n e) ∙ sym (joint-odd ts scheme factor o)
+  pub xor_scores : (scheme : Scheme) (o : Option Document) → joint_score_of form ts scheme factor o ≡ combined Form.Xor (part_scores ts scheme factor o)
+  xor_scores scheme o = ap (λ (f : Form). joint_score_of f ts scheme factor o) (is_xor form n e) ∙ sym (joint-xor ts scheme factor o)
 
-  pub odd_ceiling : (scheme : Scheme) (docs : Docs) → ceil_of form (ceils ts scheme factor docs) ≡ sum_in (ceils ts scheme factor docs)
-  odd_ceiling scheme docs = ap (λ (f : Form). ceil_of f (ceils ts scheme factor docs)) (is_xor form n e)
+  pub xor_ceiling : (scheme : Scheme) (docs : Docs) → ceil_of form (ceils ts scheme factor docs) ≡ sum_in (ceils ts scheme factor docs)
+  xor_ceiling scheme docs = ap (λ (f : Form). ceil_of f (ceils ts scheme factor docs)) (is_xor form n e)
 
-  pub odd_fits : AreParts form factor ts → factor ≤ 65536 → (scheme : Scheme) (docs : Docs) → All IsLight docs → sum_in (ceils ts scheme factor docs) < 2 ^ 63
-  odd_fits are small scheme docs light =
+  pub xor_fits : AreParts form factor ts → factor ≤ 65536 → (scheme : Scheme) (docs : Docs) → All IsLight docs → sum_in (ceils ts scheme factor docs) < 2 ^ 63
+  xor_fits are small scheme docs light =
       let whole = ceil_small scheme docs light (parts Form.Xor ts) factor (and_from (has_parts ts) (are_sound factor ts) (has_parts-some ts are.some) are.sound) small are.leaves in
       omega (arith, whole)
 

@@ -172,8 +172,8 @@ pub many_not_one : (ts : Trees.Trees) (term : List ℕ) → 2 ≤ part_count ts 
 many_not_one ts term many e = let n = terms_count ts (term ∷ []) e in omega (arith, n.0, many)
 
 -- an xor of three parts or more is no or
-pub odd_not_or : (form : Form) (n : ℕ) → is_nest form n ≡ false → form ≡ Form.Or → ⊥
-odd_not_or form n e is = other (ap (λ f. is_nest f n) (sym is) ∙ e)
+pub xor_not_or : (form : Form) (n : ℕ) → is_nest form n ≡ false → form ≡ Form.Or → ⊥
+xor_not_or form n e is = other (ap (λ f. is_nest f n) (sym is) ∙ e)
   where
     other : is_nest Form.Or n ≡ false → ⊥
     other e = cc

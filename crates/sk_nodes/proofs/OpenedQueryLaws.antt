@@ -15,17 +15,17 @@ use Rattle.sk_nodes.proofs.NodeLaws.{greatest_under-mono}
 use Rattle.sk_model.specs.Sharp.{terms_in}
 use Rattle.sk_index.specs.Indexed.{Indexed}
 use Rattle.sk_nodes.specs.declared.top.Top.{Top}
-use Rattle.sk_nodes.specs.Shapes.{Shape, ended, pair, any, Sides, no_sides, side}
-use Rattle.sk_nodes.specs.Opened.{part_count, score_of, part_scores, joint_score_of, is_nest, others_of, OpensSides, Gathers, Opens}
+use Rattle.sk_nodes.specs.Shapes.{Shape, ended, pair, or_many, Sides, no_sides, side}
+use Rattle.sk_nodes.specs.Opened.{part_count, score_of, part_scores, joint_score_of, is_nest, others_of, OpensSides, Yields, Gathers, Opens}
 use Rattle.sk_nodes.specs.Moved.{Accounts, SeekAccounts}
-use Rattle.sk_nodes.specs.Any.{OpensTerms}
+use Rattle.sk_nodes.specs.OrMany.{OpensTerms}
 use Rattle.sk_nodes.specs.Flat.{IsNest, IsJoint, OpensNest, OpensFlat, PairsNest, SplitsTerms}
 use Rattle.sk_nodes.specs.OpenedLed.{CanLead, SplitsLed, OpensLed, OpensFollowing}
 use Rattle.sk_nodes.specs.OpenedAccounts.{OpensTerm, OpensQuery, OpensParts}
 use Rattle.sk_nodes.proofs.NestLaws.{parts_flat, nest_opens, split_nest, joint_others, one_term, term_flat}
-use Rattle.sk_nodes.proofs.LedLaws.{odd_follows, parts_rare, rare_opened, lone_leads, lone_following, split_leads, split_follows, none_lone}
-use Rattle.sk_nodes.proofs.OpenedFadingLaws.{split_decays, one_alone, one_not_two, many_not_one, odd_not_or, parts_or, none_alone}
-use Rattle.sk_nodes.proofs.AnyOpenLaws.{terms_nest, terms_follow, many_not_two, or_leads_not}
+use Rattle.sk_nodes.proofs.LedLaws.{xor_follows, parts_rare, rare_opened, lone_leads, lone_following, split_leads, split_follows, none_lone}
+use Rattle.sk_nodes.proofs.OpenedFadingLaws.{split_decays, one_alone, one_not_two, many_not_one, xor_not_or, parts_or, none_alone}
+use Rattle.sk_nodes.proofs.OrManyOpenLaws.{terms_nest, terms_follow, many_not_two, or_leads_not}
 
 -- ---- a term
 
@@ -126,23 +126,18 @@ one_side_opened i ts query scheme factor ss t s alone is opens =
 -- the node of two
 pub pair_opened : (i : Indexed) (form other : Form) (factor : ℕ) (ts fs bs : Trees.Trees) (scheme : Scheme) (ta : Top) (a : Shape) (tb : Top) (b : Shape) (t : Top) (s : Shape) → other ≡ others_of form → Splits form factor ts fs bs
     → Opens i ta a (joint_score_of form fs scheme factor) (ceil_of form (ceils fs scheme factor i.live.documents)) → Opens i tb b (joint_score_of other bs scheme factor) (ceil_of other (ceils bs scheme factor i.live.documents))
-    → IsTop i t s → Sound i s → ((id : ℕ) → rest i s id ≡ paired form (rest i a id) (rest i b id)) → t.greatest ≤ greatest_under form ta.greatest tb.greatest
+    → Yields i t s (λ id. paired form (rest i a id) (rest i b id)) (greatest_under form ta.greatest tb.greatest)
     → Opens i t s (joint_score_of form ts scheme factor) (ceil_of form (ceils ts scheme factor i.live.documents))
-pair_opened i form other factor ts fs bs scheme ta a tb b t s is splits one two top sound gives ceiling =
+pair_opened i form other factor ts fs bs scheme ta a tb b t s is splits one two h =
     let docs = i.live.documents in
     let second = subst (λ (f : Form). Opens i tb b (joint_score_of f bs scheme factor) (ceil_of f (ceils bs scheme factor docs))) is two in
     let most = greatest_under-mono form (ceil_of form (ceils fs scheme factor docs)) (ceil_of (others_of form) (ceils bs scheme factor docs)) ta.greatest tb.greatest one.ceiling second.ceiling in
     record {
-      top = top;
-      sound = sound;
-      gives = λ id. gives id ∙ (λ j. paired form (one.gives id j) (second.gives id j)) ∙ sym (splits.scores scheme (document_at id docs));
-      ceiling = omega (arith, ceiling, most, splits.ceiling scheme docs);
+      top = h.top;
+      sound = h.sound;
+      gives = λ id. h.gives id ∙ (λ j. paired form (one.gives id j) (second.gives id j)) ∙ sym (splits.scores scheme (document_at id docs));
+      ceiling = omega (arith, h.ceiling, most, splits.ceiling scheme docs);
     }
-
--- four facts of one answer
-pub IfOk-four : {T E : Type 0} (r : Result T E) (A B C D F : T → Type 0) → ((p : T) → A p → B p → C p → D p → F p) → IfOk r A → IfOk r B → IfOk r C → IfOk r D → IfOk r F
-IfOk-four (Ok p) A B C D F h a b c d = h p a b c d
-IfOk-four (Err e) A B C D F h a b c d = a
 
 -- ---- parts
 
@@ -158,35 +153,35 @@ only_query i form ts query scheme factor t s before after alone h = record {
 }
 
 -- the sides of an xor
-pub odd_parts_query : (i : Indexed) (form : Form) (ts : Trees.Trees) (scheme : Scheme) (factor : ℕ) (t : Top) (s : Shape) (before after : ℕ) → is_nest form (part_count ts) ≡ false → 2 ≤ part_count ts → OpensParts i form ts scheme factor t s before after
-odd_parts_query i form ts scheme factor t s before after odd many = record {
-  nest = λ lists joint e. absurd (joint_not form joint odd);
-  led = λ lists can e. absurd (leads_not form lists can odd);
-  follows = λ lists so e. absurd (odd_follows form ts lists odd so e);
+pub xor_parts_query : (i : Indexed) (form : Form) (ts : Trees.Trees) (scheme : Scheme) (factor : ℕ) (t : Top) (s : Shape) (before after : ℕ) → is_nest form (part_count ts) ≡ false → 2 ≤ part_count ts → OpensParts i form ts scheme factor t s before after
+xor_parts_query i form ts scheme factor t s before after wide many = record {
+  nest = λ lists joint e. absurd (joint_not form joint wide);
+  led = λ lists can e. absurd (leads_not form lists can wide);
+  follows = λ lists so e. absurd (xor_follows form ts lists wide so e);
   alone = λ term e. absurd (many_not_one ts term many e);
-  fading = λ x y is e. absurd (odd_not_or form (part_count ts) odd is);
+  fading = λ x y is e. absurd (xor_not_or form (part_count ts) wide is);
 }
   where
     joint_not : (form : Form) → IsJoint form → is_nest form (part_count ts) ≡ false → ⊥
-    joint_not form (inl e) odd = odd_not_or form (part_count ts) odd e
-    joint_not form (inr e) odd = by (ap (λ f. is_nest f (part_count ts)) (sym e) ∙ odd)
+    joint_not form (inl e) wide = xor_not_or form (part_count ts) wide e
+    joint_not form (inr e) wide = by (ap (λ f. is_nest f (part_count ts)) (sym e) ∙ wide)
       where
         by : is_nest Form.Max (part_count ts) ≡ false → ⊥
         by f = cc
 
     leads_not : (form : Form) (lists : List (List ℕ)) → CanLead form lists → is_nest form (part_count ts) ≡ false → ⊥
-    leads_not Form.Xor lists can odd = can
-    leads_not Form.Or lists can odd = can
-    leads_not Form.Max lists can odd = can
-    leads_not Form.And lists can odd = cc
-    leads_not Form.AndNot lists can odd = cc
-    leads_not Form.Filter lists can odd = cc
-    leads_not Form.AndMaybe lists can odd = cc
+    leads_not Form.Xor lists can wide = can
+    leads_not Form.Or lists can wide = can
+    leads_not Form.Max lists can wide = can
+    leads_not Form.And lists can wide = cc
+    leads_not Form.AndNot lists can wide = cc
+    leads_not Form.Filter lists can wide = cc
+    leads_not Form.AndMaybe lists can wide = cc
 
 -- the sides of an or
-pub any_parts_query : (i : Indexed) (form : Form) (ts : Trees.Trees) (ss : Sides) (scheme : Scheme) (factor : ℕ) (t : Top) (s : Shape) (before between after : ℕ) → form ≡ Form.Or → 3 ≤ part_count ts
-    → ((lists : List (List ℕ)) → terms_in ts ≡ Some lists → OpensTerms i ss lists before between) → Accounts i 0 0 between after (any ss) s → OpensParts i form ts scheme factor t s before after
-any_parts_query i form ts ss scheme factor t s before between after is many opens accounts = record {
+pub or_parts_query : (i : Indexed) (form : Form) (ts : Trees.Trees) (ss : Sides) (scheme : Scheme) (factor : ℕ) (t : Top) (s : Shape) (before between after : ℕ) → form ≡ Form.Or → 3 ≤ part_count ts
+    → ((lists : List (List ℕ)) → terms_in ts ≡ Some lists → OpensTerms i ss lists before between) → Accounts i 0 0 between after (or_many ss) s → OpensParts i form ts scheme factor t s before after
+or_parts_query i form ts ss scheme factor t s before between after is many opens accounts = record {
   nest = λ lists joint e. terms_nest i form ss s lists before between after is (opens lists e) accounts;
   led = λ lists can e. absurd (or_leads_not form lists is can);
   follows = λ lists so e. terms_follow i ts ss s lists before between after many e (opens lists e) accounts;

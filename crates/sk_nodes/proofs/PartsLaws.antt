@@ -11,7 +11,7 @@ use Rattle.sk_model.specs.Allowance.{leaves_readings}
 use Rattle.sk_model.proofs.CombiningLaws.{both-turned}
 use Rattle.sk_nodes.specs.Opened.{IsPart, part_count, score_of, joint_score_of, is_nest, AreParts}
 use Rattle.sk_nodes.specs.Parts.{Splits, Halves, IsOfParts, IsOnlyPart, AreSides}
-use Rattle.sk_nodes.proofs.OpenLaws.{combined-one, halves_scores, halves_ceiling, joined, split_front, split_back, split_front_size, split_back_size, split_scores, split_ceiling, split_readings, split_fits, odd_are, odd_scores, odd_ceiling, odd_fits, or_are, or_scores, or_ceiling, or_fits}
+use Rattle.sk_nodes.proofs.OpenLaws.{combined-one, halves_scores, halves_ceiling, joined, split_front, split_back, split_front_size, split_back_size, split_scores, split_ceiling, split_readings, split_fits, xor_are, xor_scores, xor_ceiling, xor_fits, or_are, or_scores, or_ceiling, or_fits}
 use Rattle.sk_nodes.proofs.NestLaws.{split_terms, turned_terms}
 
 -- pieces in the order of the parts
@@ -47,13 +47,13 @@ turned_splits factor ts fs bs e are front_some back_some small =
     }
 
 -- the parts of an xor that is no nest
-pub odd_sides : (form : Form) (factor : ℕ) (ts : Trees.Trees) (n : ℕ) → is_nest form n ≡ false → AreParts form factor ts → factor ≤ 65536 → AreSides form Form.Xor factor ts ts
-odd_sides form factor ts n e are small = record {
-  parts = odd_are form factor ts n e are;
+pub xor_sides : (form : Form) (factor : ℕ) (ts : Trees.Trees) (n : ℕ) → is_nest form n ≡ false → AreParts form factor ts → factor ≤ 65536 → AreSides form Form.Xor factor ts ts
+xor_sides form factor ts n e are small = record {
+  parts = xor_are form factor ts n e are;
   size = refl;
-  scores = odd_scores form factor ts n e;
-  ceiling = odd_ceiling form factor ts n e;
-  fits = odd_fits form factor ts n e are small;
+  scores = xor_scores form factor ts n e;
+  ceiling = xor_ceiling form factor ts n e;
+  fits = xor_fits form factor ts n e are small;
   readings = λ docs. refl;
 }
 

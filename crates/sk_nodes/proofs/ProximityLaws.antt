@@ -4,7 +4,7 @@ use mathlib.Core.Bool.{true≢false}
 use Rattle.std.specs.List.{AllByRecursion}
 use Rattle.std.proofs.lemmas.Bool.{cases_lt}
 use Rattle.std.proofs.lemmas.List.Elements.{All-from_recursion}
-use Rattle.sk_nodes.proofs.StandingLaws.{from_zero}
+use Rattle.sk_nodes.proofs.ProximityOpenLaws.{from_zero}
 use Rattle.sk_sorted.specs.Entries.{RiseAbove, from, found, has}
 use Rattle.sk_sorted.proofs.EntryLaws.{from-below, from-at, found-other, found-below}
 use Rattle.sk_chunks.specs.Postings.{Postings}
@@ -17,10 +17,11 @@ use Rattle.sk_nodes.specs.declared.top.Top.{Top}
 use Rattle.sk_nodes.specs.declared.proximity.Proximity.{Proximity}
 use Rattle.sk_nodes.specs.declared.leaf.ListOf.{ListOf}
 use Rattle.sk_nodes.specs.Leaves.{list_in}
-use Rattle.sk_nodes.specs.Shapes.{Shape, ended, tested, size_of}
+use Rattle.sk_nodes.specs.Shapes.{Shape, ended, positional, size_of}
 use Rattle.sk_nodes.specs.Left.{rest, from_on}
 use Rattle.sk_nodes.specs.Proximity.{stand, positions_in, holds_in, entries_unread, AreInOrder, IsInAll, AreThere, CanTest, IsSameTest}
-use Rattle.sk_nodes.specs.Sound.{IsTop, IsTested, Sound}
+use Rattle.sk_nodes.specs.Sound.{IsTop, IsPositional, Sound, Lands}
+use Rattle.sk_nodes.specs.Opened.{Yields}
 use Rattle.sk_nodes.proofs.LeafLaws.{from_on-at, from_on-none, covers_none}
 use Rattle.sk_nodes.specs.Skips.{WeighsBelow}
 use Rattle.sk_nodes.proofs.NodeLaws.{IsHead-none, light_goes, goes_on_light, ended_top, none_bound}
@@ -43,24 +44,24 @@ from_where target h f id = by (nat_le target id)
     by false = sym (where_none (h id))
 
 -- what covers does so under a test
-pub tested_covers : (target need : ℕ) (h : ℕ → Bool) (f g : ℕ → Option ℕ) → Covers (from_on target f) g need
+pub positional_covers : (target need : ℕ) (h : ℕ → Bool) (f g : ℕ → Option ℕ) → Covers (from_on target f) g need
     → Covers (from_on target (λ n. where_so (h n) (f n))) (λ n. where_so (h n) (g n)) need
-tested_covers target need h f g covers = λ id. subst (λ o. CoversAt o (where_so (h id) (g id)) need) (sym (from_where target h f id)) (where_covers (h id) (from_on target f id) (g id) need (covers id))
+positional_covers target need h f g covers = λ id. subst (λ o. CoversAt o (where_so (h id) (g id)) need) (sym (from_where target h f id)) (where_covers (h id) (from_on target f id) (g id) need (covers id))
 
 -- the same test holds in the same documents
 pub same_holds : (i : Indexed) (p q : Proximity) (id : ℕ) → IsSameTest p q → holds_in i q id ≡ holds_in i p id
 same_holds i p q id same =
-    ap (λ s. stand s q.window (positions_in i q.numbers.items id)) same.standing ∙ ap (λ w. stand p.standing w (positions_in i q.numbers.items id)) same.window
-    ∙ ap (λ (ns : List ℕ). stand p.standing p.window (positions_in i ns id)) same.numbers
+    ap (λ s. stand s q.window (positions_in i q.numbers.items id)) same.kind ∙ ap (λ w. stand p.kind w (positions_in i q.numbers.items id)) same.window
+    ∙ ap (λ (ns : List ℕ). stand p.kind p.window (positions_in i ns id)) same.numbers
 
-same_rest : (i : Indexed) (p q : Proximity) (t : Top) (s : Shape) (id : ℕ) → IsSameTest p q → rest i (tested q t s) id ≡ where_so (holds_in i p id) (rest i s id)
+same_rest : (i : Indexed) (p q : Proximity) (t : Top) (s : Shape) (id : ℕ) → IsSameTest p q → rest i (positional q t s) id ≡ where_so (holds_in i p id) (rest i s id)
 same_rest i p q t s id same = ap (λ b. where_so b (rest i s id)) (same_holds i p q id same)
 
 pub same_again : (p q r : Proximity) → IsSameTest p q → IsSameTest q r → IsSameTest p r
-same_again p q r a b = record { standing = b.standing ∙ a.standing; window = b.window ∙ a.window; numbers = b.numbers ∙ a.numbers; marks = b.marks ∙ a.marks; places = b.places ∙ a.places }
+same_again p q r a b = record { kind = b.kind ∙ a.kind; window = b.window ∙ a.window; numbers = b.numbers ∙ a.numbers; marks = b.marks ∙ a.marks; places = b.places ∙ a.places }
 
 pub same_itself : (p : Proximity) → IsSameTest p p
-same_itself p = record { standing = refl; window = refl; numbers = refl; marks = refl; places = refl }
+same_itself p = record { kind = refl; window = refl; numbers = refl; marks = refl; places = refl }
 
 pub same_can : (i : Indexed) (p q : Proximity) → IsSameTest p q → CanTest i p → CanTest i q
 same_can i p q same can = record {
@@ -110,13 +111,13 @@ pub record TestSoFar (i : Indexed) (target need from : ℕ) (p0 : Proximity) (t0
   pub ahead : p.next ≤ t.head + 1
   pub small : p.next ≤ 2 ^ 32
   pub known : from ≤ t.head → t.head < p.next → holds_in i p t.head ≡ true
-  pub covers : Covers (from_on target (rest i (tested p0 t0 s0))) (from_on from (rest i (tested p t s))) need
+  pub covers : Covers (from_on target (rest i (positional p0 t0 s0))) (from_on from (rest i (positional p t s))) need
   pub bound : from < 2 ^ 32
   pub same : IsSameTest p0 p
   pub falls : t.greatest ≤ t0.greatest
   pub smaller : size_of s ≤ size_of s0
 
-pub test_begun : (i : Indexed) (target need : ℕ) (p : Proximity) (t : Top) (s : Shape) → target < 2 ^ 32 → IsTested i p t s (Sound i s) → TestSoFar i target need target p t s p t s
+pub test_begun : (i : Indexed) (target need : ℕ) (p : Proximity) (t : Top) (s : Shape) → target < 2 ^ 32 → IsPositional i p t s (Sound i s) → TestSoFar i target need target p t s p t s
 test_begun i target need p t s lt is = record {
   test = is.test;
   top = is.top;
@@ -125,7 +126,7 @@ test_begun i target need p t s lt is = record {
   ahead = is.ahead;
   small = is.small;
   known = λ le. is.known;
-  covers = λ id. covers_itself (from_on target (rest i (tested p t s)) id) need;
+  covers = λ id. covers_itself (from_on target (rest i (positional p t s)) id) need;
   bound = lt;
   same = same_itself p;
   falls = le_refl t.greatest;
@@ -154,23 +155,23 @@ module _ (i : Indexed) (target need from : ℕ) (p0 : Proximity) (t0 : Top) (s0 
   pub moved_ahead : p.next ≤ t2.head + 1
   moved_ahead = omega (arith, far.ahead, rises)
 
-  pub moved_covers : Covers (from_on target (rest i (tested p0 t0 s0))) (rest i (tested p t2 s2)) need
-  moved_covers = λ id. covers_then (from_on target (rest i (tested p0 t0 s0)) id) (from_on from (rest i (tested p t s)) id) (rest i (tested p t2 s2) id) need need (le_refl need) (far.covers id)
-      (tested_covers from need (holds_in i p) (rest i s) (rest i s2) covers id)
+  pub moved_covers : Covers (from_on target (rest i (positional p0 t0 s0))) (rest i (positional p t2 s2)) need
+  moved_covers = λ id. covers_then (from_on target (rest i (positional p0 t0 s0)) id) (from_on from (rest i (positional p t s)) id) (rest i (positional p t2 s2) id) need need (le_refl need) (far.covers id)
+      (positional_covers from need (holds_in i p) (rest i s) (rest i s2) covers id)
 
   -- it has ended
-  pub moved_ended : t2.head ≡ 2 ^ 32 → IsTested i p t2 s2 (Sound i s2)
+  pub moved_ended : t2.head ≡ 2 ^ 32 → IsPositional i p t2 s2 (Sound i s2)
   moved_ended end = record { test = far.test; top = top; sound = sound; within = moved_within; ahead = moved_ahead; small = far.small; known = moved_known }
 
   module _ (q : Proximity) (same : IsSameTest p q) (next : q.next ≤ max p.next (t2.head + 1)) (lt : t2.head < 2 ^ 32) where
     q_all : (id w : ℕ) → rest i s2 id ≡ Some w → IsInAll i id q.numbers.items
     q_all id w e = subst (λ (ns : List ℕ). IsInAll i id ns) (sym same.numbers) (moved_within id w e)
 
-    q_covers : Covers (from_on target (rest i (tested p0 t0 s0))) (rest i (tested q t2 s2)) need
-    q_covers = λ id. subst (λ o. CoversAt (from_on target (rest i (tested p0 t0 s0)) id) o need) (sym (same_rest i p q t2 s2 id same)) (moved_covers id)
+    q_covers : Covers (from_on target (rest i (positional p0 t0 s0))) (rest i (positional q t2 s2)) need
+    q_covers = λ id. subst (λ o. CoversAt (from_on target (rest i (positional p0 t0 s0)) id) o need) (sym (same_rest i p q t2 s2 id same)) (moved_covers id)
 
     -- it passed the test
-    pub passed_sound : holds_in i p t2.head ≡ true → IsTested i q t2 s2 (Sound i s2)
+    pub passed_sound : holds_in i p t2.head ≡ true → IsPositional i q t2 s2 (Sound i s2)
     passed_sound passes = record {
       test = same_can i p q same far.test;
       top = top;
@@ -181,10 +182,10 @@ module _ (i : Indexed) (target need from : ℕ) (p0 : Proximity) (t0 : Top) (s0 
       known = λ less. same_holds i p q t2.head same ∙ passes;
     }
 
-    pub passed_covers : Covers (from_on target (rest i (tested p0 t0 s0))) (rest i (tested q t2 s2)) need
+    pub passed_covers : Covers (from_on target (rest i (positional p0 t0 s0))) (rest i (positional q t2 s2)) need
     passed_covers = q_covers
 
-    pub passed_top : holds_in i p t2.head ≡ true → IsTop i t2 (tested q t2 s2)
+    pub passed_top : holds_in i p t2.head ≡ true → IsTop i t2 (positional q t2 s2)
     passed_top passes = record {
       head = record {
         within = top.head.within;
@@ -203,7 +204,7 @@ module _ (i : Indexed) (target need from : ℕ) (p0 : Proximity) (t0 : Top) (s0 
         less false o n h = omega arith
 
     -- it did not, or weighs too little
-    failed_light : WeighsBelow need (where_so (holds_in i p t2.head) (Some t2.weight)) → (id : ℕ) → id < t2.head + 1 → WeighsBelow need (rest i (tested q t2 s2) id)
+    failed_light : WeighsBelow need (where_so (holds_in i p t2.head) (Some t2.weight)) → (id : ℕ) → id < t2.head + 1 → WeighsBelow need (rest i (positional q t2 s2) id)
     failed_light fails id less =
         subst (λ (o : Option ℕ). WeighsBelow need o) (sym (same_rest i p q t2 s2 id same)) (elim (cases_lt id t2.head) as (λ _. WeighsBelow need (where_so (holds_in i p id) (rest i s2 id))) [
           | inl before ↦ subst (λ (o : Option ℕ). WeighsBelow need o) (sym (ap (where_so (holds_in i p id)) (top.head.below id before) ∙ where_none (holds_in i p id))) tt
@@ -220,27 +221,27 @@ module _ (i : Indexed) (target need from : ℕ) (p0 : Proximity) (t0 : Top) (s0 
       ahead = omega (arith, next, moved_ahead);
       small = omega (arith, next, far.small, lt);
       known = λ le. absurd (omega (arith, le));
-      covers = goes_on_light target need (t2.head + 1) (rest i (tested p0 t0 s0)) (rest i (tested q t2 s2)) q_covers (failed_light fails);
+      covers = goes_on_light target need (t2.head + 1) (rest i (positional p0 t0 s0)) (rest i (positional q t2 s2)) q_covers (failed_light fails);
       bound = less;
       same = same_again p0 p q far.same same;
       falls = omega (arith, falls, far.falls);
       smaller = omega (arith, smaller, far.smaller);
     }
 
-    ended_light : WeighsBelow need (where_so (holds_in i p t2.head) (Some t2.weight)) → 2 ^ 32 ≤ t2.head + 1 → (id : ℕ) → WeighsBelow need (rest i (tested q t2 s2) id)
+    ended_light : WeighsBelow need (where_so (holds_in i p t2.head) (Some t2.weight)) → 2 ^ 32 ≤ t2.head + 1 → (id : ℕ) → WeighsBelow need (rest i (positional q t2 s2) id)
     ended_light fails le id =
-        elim (cases_lt id (t2.head + 1)) as (λ _. WeighsBelow need (rest i (tested q t2 s2) id)) [
+        elim (cases_lt id (t2.head + 1)) as (λ _. WeighsBelow need (rest i (positional q t2 s2) id)) [
           | inl less ↦ failed_light fails id less
           | inr more ↦ subst (λ (o : Option ℕ). WeighsBelow need o) (sym (ap (where_so (holds_in i q id)) (top.head.past id (omega (arith, le, more))) ∙ where_none (holds_in i q id))) tt
         ]
 
     -- and nothing lies behind it
-    pub failed_ended_covers : WeighsBelow need (where_so (holds_in i p t2.head) (Some t2.weight)) → 2 ^ 32 ≤ t2.head + 1 → (u : Top) → Covers (from_on target (rest i (tested p0 t0 s0))) (rest i (tested q u ended)) need
+    pub failed_ended_covers : WeighsBelow need (where_so (holds_in i p t2.head) (Some t2.weight)) → 2 ^ 32 ≤ t2.head + 1 → (u : Top) → Covers (from_on target (rest i (positional p0 t0 s0))) (rest i (positional q u ended)) need
     failed_ended_covers fails le u = λ id.
-        subst (λ o. CoversAt (from_on target (rest i (tested p0 t0 s0)) id) o need) (sym (where_none (holds_in i q id)))
-        (light_goes need (from_on target (rest i (tested p0 t0 s0)) id) (rest i (tested q t2 s2) id) (q_covers id) (ended_light fails le id))
+        subst (λ o. CoversAt (from_on target (rest i (positional p0 t0 s0)) id) o need) (sym (where_none (holds_in i q id)))
+        (light_goes need (from_on target (rest i (positional p0 t0 s0)) id) (rest i (positional q t2 s2) id) (q_covers id) (ended_light fails le id))
 
-    pub failed_ended_sound : IsTested i q (record { head = 2 ^ 32; weight = 0; greatest = 0 }) ended (Sound i ended)
+    pub failed_ended_sound : IsPositional i q (record { head = 2 ^ 32; weight = 0; greatest = 0 }) ended (Sound i ended)
     failed_ended_sound = record {
       test = same_can i p q same far.test;
       top = ended_top i;
@@ -255,7 +256,7 @@ module _ (i : Indexed) (target need from : ℕ) (p0 : Proximity) (t0 : Top) (s0 
         none_some w e = cc
 
 -- a test of what gives nothing
-pub none_top : (i : Indexed) (p : Proximity) (t : Top) (s : Shape) → ((id : ℕ) → rest i s id ≡ None) → IsTop i (record { head = 2 ^ 32; weight = 0; greatest = 0 }) (tested p t s)
+pub none_top : (i : Indexed) (p : Proximity) (t : Top) (s : Shape) → ((id : ℕ) → rest i s id ≡ None) → IsTop i (record { head = 2 ^ 32; weight = 0; greatest = 0 }) (positional p t s)
 none_top i p t s none = record {
   head = record {
     within = le_refl (2 ^ 32);
@@ -264,12 +265,12 @@ none_top i p t s none = record {
     past = λ id le. gone id;
     ended = λ same. refl;
   };
-  bound = λ id. none_bound (rest i (tested p t s) id) 0 (gone id);
+  bound = λ id. none_bound (rest i (positional p t s) id) 0 (gone id);
   summed = λ lt. omega arith;
   closed = λ end. refl;
 }
   where
-    gone : (id : ℕ) → rest i (tested p t s) id ≡ None
+    gone : (id : ℕ) → rest i (positional p t s) id ≡ None
     gone id = ap (where_so (holds_in i p id)) (none id) ∙ where_none (holds_in i p id)
 
 pub ended_none : (i : Indexed) (t : Top) (s : Shape) → IsTop i t s → 2 ^ 32 ≤ t.head → (id : ℕ) → rest i s id ≡ None
@@ -330,7 +331,7 @@ lengths_next i ns k n most more start e f before =
     omega (arith, here, whole, f, before)
 
 -- the node below has ended
-pub ended_test : (i : Indexed) (p : Proximity) (t : Top) (s : Shape) → IsTop i t s → 2 ^ 32 ≤ t.head → IsTop i (record { head = 2 ^ 32; weight = 0; greatest = 0 }) (tested p t s)
+pub ended_test : (i : Indexed) (p : Proximity) (t : Top) (s : Shape) → IsTop i t s → 2 ^ 32 ≤ t.head → IsTop i (record { head = 2 ^ 32; weight = 0; greatest = 0 }) (positional p t s)
 ended_test i p t s top end = none_top i p t s (λ id. IsHead-none t.weight id (rest i s) (subst (λ h. IsHead h t.weight (rest i s)) (is end top.head.within) top.head))
   where
     is : 2 ^ 32 ≤ t.head → t.head ≤ 2 ^ 32 → t.head ≡ 2 ^ 32
@@ -339,7 +340,13 @@ ended_test i p t s top end = none_top i p t s (λ id. IsHead-none t.weight id (r
 -- ---- without a need
 
 -- a test that was moved on from 0 without a need gives what passes it
-pub tested_gives : (i : Indexed) (p q : Proximity) (t u : Top) (s r : Shape) (node : Shape) (id : ℕ) → Covers (from_on 0 (rest i (tested p t s))) (rest i (tested q u r)) 0 → node ≡ tested q u r
-    → rest i node id ≡ where_so (holds_in i p id) (rest i s id)
-tested_gives i p q t u s r node id covers e =
-    ap (λ (n : Shape). rest i n id) e ∙ covers_exactly (from_on 0 (rest i (tested p t s)) id) (rest i (tested q u r) id) (covers id) ∙ from_on-at 0 (rest i (tested p t s)) id (omega arith)
+pub positional_yields : (i : Indexed) (p q : Proximity) (t u : Top) (s r : Shape) (node : Shape) (top : Top) → Lands i 0 0 (positional p t s) (positional q u r) top → top.greatest ≤ t.greatest → node ≡ positional q u r
+    → Yields i top node (λ id. where_so (holds_in i p id) (rest i s id)) t.greatest
+positional_yields i p q t u s r node top lands falls e =
+    subst (λ (n : Shape). Yields i top n (λ id. where_so (holds_in i p id) (rest i s id)) t.greatest) (sym e)
+    (record {
+      top = lands.top;
+      sound = lands.sound;
+      gives = λ id. covers_exactly (from_on 0 (rest i (positional p t s)) id) (rest i (positional q u r) id) (lands.covers id) ∙ from_on-at 0 (rest i (positional p t s)) id (omega arith);
+      ceiling = falls;
+    })

@@ -12,7 +12,7 @@ use Rattle.sk_decay.specs.Heads.{MeetsAt}
 use Rattle.sk_decay.specs.Sides.{is_led, second_target}
 use Rattle.sk_nodes.specs.declared.top.Top.{Top}
 use Rattle.sk_nodes.specs.Leaves.{entries_of, head_of, leaf_unread}
-use Rattle.sk_nodes.specs.Shapes.{Shape, ended, leaf, pair, any, Sides, no_sides, side}
+use Rattle.sk_nodes.specs.Shapes.{Shape, ended, leaf, pair, or_many, Sides, no_sides, side}
 use Rattle.sk_nodes.specs.Decayed.{changed_pair, decayed}
 use Rattle.sk_nodes.specs.Flat.{IsNest}
 use Rattle.sk_nodes.specs.Led.{IsLone, lead_head, lead_unread, owed, follow_room, follow_rooms, led_room, IsAtLead, MayFollow, IsLed, Advances, IsFollowing}
@@ -51,7 +51,7 @@ mutual
   pub follow_on : (i : Indexed) (h u h2 u2 : ℕ) (s : Shape) → Advances h u h2 u2 → follow_room i h2 u2 s ≤ follow_room i h u s
   follow_on i h u h2 u2 (leaf l) on = min_le (leaf_unread i l) (owed h2 (head_of (entries_of i l)) + 128 * u2) (owed h (head_of (entries_of i l)) + 128 * u) (owed_on h u h2 u2 (head_of (entries_of i l)) on)
   follow_on i h u h2 u2 (pair form ta a tb b) on = let one = follow_on i h u h2 u2 a on in let two = follow_on i h u h2 u2 b on in omega (arith, one, two)
-  follow_on i h u h2 u2 (any ss) on = follows_on i h u h2 u2 ss on
+  follow_on i h u h2 u2 (or_many ss) on = follows_on i h u h2 u2 ss on
   follow_on i h u h2 u2 _ on = omega arith
 
   follows_on : (i : Indexed) (h u h2 u2 : ℕ) (ss : Sides) → Advances h u h2 u2 → follow_rooms i h2 u2 ss ≤ follow_rooms i h u ss
@@ -224,7 +224,7 @@ decayed_nest _ need none nest = nest
 pub decayed_follow : (i : Indexed) (h u : ℕ) (s : Shape) (need : ℕ) → follow_room i h u (decayed need s) ≤ follow_room i h u s
 decayed_follow i h u (leaf l) need = le_refl (follow_room i h u (leaf l))
 decayed_follow i h u (pair form ta a tb b) need = changed_follow i h u (change_of form ta.greatest tb.greatest (ta.head == 2 ^ 32) (tb.head == 2 ^ 32) need) form ta a tb b
-decayed_follow i h u (any ss) need = le_refl (follow_rooms i h u ss)
+decayed_follow i h u (or_many ss) need = le_refl (follow_rooms i h u ss)
 decayed_follow i h u _ need = omega arith
 
 -- ---- two sides

@@ -11,7 +11,7 @@ use Rattle.sk_decay.specs.Heads.{GoesOnOnly}
 use Rattle.sk_decay.specs.Sides.{paired, is_led, second_target}
 use Rattle.sk_nodes.specs.declared.top.Top.{Top}
 use Rattle.sk_nodes.specs.Leaves.{AtMost}
-use Rattle.sk_nodes.specs.Shapes.{Shape, ended, leaf, pair, any}
+use Rattle.sk_nodes.specs.Shapes.{Shape, ended, leaf, pair, or_many}
 use Rattle.sk_nodes.specs.Left.{rest, from_on}
 use Rattle.sk_nodes.specs.Sound.{IsTop}
 use Rattle.sk_nodes.specs.Decayed.{changed_pair, decayed}
@@ -348,7 +348,7 @@ decayed_plain _ need plain = plain
 pub decayed_room : (i : Indexed) (point : ℕ) (s : Shape) (need : ℕ) → room_to i point (decayed need s) ≤ room_to i point s
 decayed_room i point (leaf l) need = le_refl (room_to i point (leaf l))
 decayed_room i point (pair form ta a tb b) need = changed_room i point (change_of form ta.greatest tb.greatest (ta.head == 2 ^ 32) (tb.head == 2 ^ 32) need) form ta a tb b
-decayed_room i point (any ss) need = le_refl (rooms_to i point ss)
+decayed_room i point (or_many ss) need = le_refl (rooms_to i point ss)
 decayed_room i point _ need = omega arith
 
 -- ---- two sides

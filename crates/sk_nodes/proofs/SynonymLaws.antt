@@ -41,7 +41,7 @@ use Rattle.sk_nodes.specs.Opened.{score_of, joint_form, Opens}
 use Rattle.sk_nodes.proofs.NodeLaws.{capped_top}
 use Rattle.sk_index.proofs.NumberLemmas.{wdf_of-none}
 use Rattle.sk_nodes.proofs.ListLaws.{nothing_opened}
-use Rattle.sk_nodes.proofs.StandingLaws.{some_number, has_none}
+use Rattle.sk_nodes.proofs.ProximityOpenLaws.{some_number, has_none}
 
 -- ---- terms, one behind the other
 
@@ -261,9 +261,9 @@ query_capped i t u s query f scheme factor most bound e g h is opens same at_mos
 
 -- ---- a synonym
 
-any_step : (b has : Bool) (t : List ℕ) (us : List (List ℕ)) (f : List ℕ → Bool) (rest : Bool) → f t ≡ has → (b ≡ false → has ≡ false) → list_any f us ≡ rest → list_any f (cond b (t ∷ us) us) ≡ (has || rest)
-any_step true has t us f rest e none more = λ i. e i || more i
-any_step false has t us f rest e none more = more ∙ sym (ap (λ (c : Bool). c || rest) (none refl))
+or_step : (b has : Bool) (t : List ℕ) (us : List (List ℕ)) (f : List ℕ → Bool) (rest : Bool) → f t ≡ has → (b ≡ false → has ≡ false) → list_any f us ≡ rest → list_any f (cond b (t ∷ us) us) ≡ (has || rest)
+or_step true has t us f rest e none more = λ i. e i || more i
+or_step false has t us f rest e none more = more ∙ sym (ap (λ (c : Bool). c || rest) (none refl))
 
 sum_step : (b : Bool) (w : ℕ) (t : List ℕ) (us : List (List ℕ)) (terms : List DocTerm) (rest : ℕ) → wdf_of t terms ≡ w → (b ≡ false → w ≡ 0) → wdf_sum us terms ≡ rest → wdf_sum (cond b (t ∷ us) us) terms ≡ w + rest
 sum_step true w t us terms rest e none more = omega (arith, e, more)
@@ -277,7 +277,7 @@ module _ (i : Indexed) (complete : AreNumbered i) where
   numbered_any : (id : ℕ) (d : Document) (ts : List (List ℕ)) → document_at id i.live.documents ≡ Some d → list_any (λ t. has_term t d.terms) (numbered i ts) ≡ list_any (λ t. has_term t d.terms) ts
   numbered_any id d [] at = refl
   numbered_any id d (t ∷ ts) at =
-      any_step (is_some (number_of t i.terms)) (has_term t d.terms) t (numbered i ts) (λ t. has_term t d.terms) (list_any (λ t. has_term t d.terms) ts) refl (λ e. without id d t at e) (numbered_any id d ts at)
+      or_step (is_some (number_of t i.terms)) (has_term t d.terms) t (numbered i ts) (λ t. has_term t d.terms) (list_any (λ t. has_term t d.terms) ts) refl (λ e. without id d t at e) (numbered_any id d ts at)
 
   numbered_sum : (id : ℕ) (d : Document) (ts : List (List ℕ)) → document_at id i.live.documents ≡ Some d → wdf_sum (numbered i ts) d.terms ≡ wdf_sum ts d.terms
   numbered_sum id d [] at = refl
@@ -334,9 +334,9 @@ synonym_at_most i query ts scheme factor e sound light id =
 
 -- ---- a wildcard
 
-any-named : (p : List ℕ → Bool) (f : ℕ → List ℕ) (ns : List ℕ) → list_any (λ n. p (f n)) ns ≡ list_any p (map f ns)
-any-named p f [] = refl
-any-named p f (n ∷ ns) = ap (λ b. p (f n) || b) (any-named p f ns)
+or_many-named : (p : List ℕ → Bool) (f : ℕ → List ℕ) (ns : List ℕ) → list_any (λ n. p (f n)) ns ≡ list_any p (map f ns)
+or_many-named p f [] = refl
+or_many-named p f (n ∷ ns) = ap (λ b. p (f n) || b) (or_many-named p f ns)
 
 sum-named : (f : ℕ → List ℕ) (terms : List DocTerm) (ns : List ℕ) → sum_by (λ n. wdf_of (f n) terms) ns ≡ wdf_sum (map f ns) terms
 sum-named f terms [] = refl
@@ -353,7 +353,7 @@ module _ (i : Indexed) (prefix : List ℕ) (ns : List ℕ) (are : AreAllWith pre
       by : (o : Option Document) → document_at id i.live.documents ≡ o → score_of (Trees.synonym (map (term_at i.terms) ns)) scheme factor o ≡ score_of (Trees.wildcard prefix) scheme factor o
       by None at = refl
       by (Some d) at =
-          λ j. weight_if ((sym (any-named (λ t. has_term t d.terms) (term_at i.terms) ns) ∙ sym (are.matches id d at)) j) (weigh_by factor scheme ((sym (sum-named (term_at i.terms) d.terms ns) ∙ sym (are.wdfs id d at)) j))
+          λ j. weight_if ((sym (or_many-named (λ t. has_term t d.terms) (term_at i.terms) ns) ∙ sym (are.matches id d at)) j) (weigh_by factor scheme ((sym (sum-named (term_at i.terms) d.terms ns) ∙ sym (are.wdfs id d at)) j))
 
   pub wild_readings : lengths_of (map (term_at i.terms) ns) i.live.documents ≡ leaf_readings (Trees.wildcard prefix) i.live.documents
   wild_readings = sym (lengths-named (term_at i.terms) i.live.documents ns) ∙ are.lengths

@@ -17,13 +17,13 @@ use Rattle.sk_decay.proofs.SideLaws.{paired-none}
 use Rattle.sk_decay.specs.Sides.{paired}
 use Rattle.sk_nodes.specs.declared.top.Top.{Top}
 use Rattle.sk_nodes.specs.Proximity.{holds_in}
-use Rattle.sk_nodes.specs.Shapes.{Shape, ended, leaf, span, pair, odd, any, tested, Sides, no_sides, side}
+use Rattle.sk_nodes.specs.Shapes.{Shape, ended, leaf, range, pair, xor_many, or_many, positional, Sides, no_sides, side}
 use Rattle.sk_nodes.specs.Left.{rest, rests, from_on}
 use Rattle.sk_nodes.specs.Sound.{IsTop, Sound, AreSound}
 use Rattle.sk_nodes.specs.Built.{weighed_ids, first_weight}
 use Rattle.sk_nodes.proofs.LeafLaws.{from_on-at, from_on-below}
 use Rattle.sk_nodes.proofs.NodeLaws.{IsHead-none}
-use Rattle.sk_nodes.proofs.OddLaws.{either_none, none_odd}
+use Rattle.sk_nodes.proofs.ManyLaws.{either_none, none_xor}
 use Rattle.sk_nodes.proofs.ProximityLaws.{where_none}
 
 -- where nothing is given nothing is left
@@ -72,12 +72,12 @@ mutual
   pub rest-live : (i : Indexed) (s : Shape) → Sound i s → (id : ℕ) → document_at id i.live.documents ≡ None → rest i s id ≡ None
   rest-live i ended sound id none = refl
   rest-live i (leaf l) sound id none = sound.live id none
-  rest-live i (span r) sound id none = sound.live id none
+  rest-live i (range r) sound id none = sound.live id none
   rest-live i (pair form ta a tb b) sound id none =
       ap (λ o. paired form o (rest i b id)) (rest-live i a sound.first_sound id none) ∙ ap (paired form None) (rest-live i b sound.second_sound id none) ∙ paired-none form
-  rest-live i (odd ss) sound id none = none_odd (rests i ss id) (rests-live i ss sound.sides id none)
-  rest-live i (any ss) sound id none = rests-live i ss sound.sides id none
-  rest-live i (tested p t s) sound id none = ap (where_so (holds_in i p id)) (rest-live i s sound.sound id none) ∙ where_none (holds_in i p id)
+  rest-live i (xor_many ss) sound id none = none_xor (rests i ss id) (rests-live i ss sound.sides id none)
+  rest-live i (or_many ss) sound id none = rests-live i ss sound.sides id none
+  rest-live i (positional p t s) sound id none = ap (where_so (holds_in i p id)) (rest-live i s sound.sound id none) ∙ where_none (holds_in i p id)
 
   rests-live : (i : Indexed) (ss : Sides) → AreSound i ss → (id : ℕ) → document_at id i.live.documents ≡ None → sum_of_any (rests i ss id) ≡ None
   rests-live i no_sides sound id none = refl

@@ -1,5 +1,5 @@
 -- What is put in a node's place under a need.
-use Rattle.std.specs.Prelude.{ℕ, ◌^◌, ◌==◌}
+use Rattle.std.specs.Prelude.{ℕ, ◌<◌, ◌+◌, ◌^◌, ◌==◌}
 use Rattle.sk_query.specs.declared.form.Form.{Form}
 use Rattle.sk_decay.specs.declared.change.Change.{Change}
 use Rattle.sk_decay.specs.Changes.{change_of}
@@ -17,6 +17,11 @@ changed_pair Change.MaybeSwap form ta a tb b = pair Form.AndMaybe tb b ta a
 changed_pair Change.Both form ta a tb b = pair Form.And ta a tb b
 changed_pair Change.Not form ta a tb b = pair Form.AndNot ta a tb b
 changed_pair Change.NotSwap form ta a tb b = pair Form.AndNot tb b ta a
+
+-- What two sides can weigh together fits into 63 bits.
+abbrev pub SidesFit : Shape → Type 0
+SidesFit (pair form ta a tb b) = ta.greatest + tb.greatest < 2 ^ 63
+SidesFit _ = Unit {0}
 
 -- What stands for a node under a need: of two sides what the table of the form says, and any other node itself.
 abbrev pub decayed : ℕ → Shape → Shape

@@ -7,14 +7,14 @@ use Rattle.sk_model.specs.Covers.{first_need, second_need}
 use Rattle.sk_model.specs.Sharp.{up, ups}
 use Rattle.sk_index.specs.Indexed.{Indexed}
 use Rattle.sk_nodes.specs.Leaves.{entries_of}
-use Rattle.sk_nodes.specs.Shapes.{Shape, ended, leaf, pair, any, Sides, no_sides, side}
+use Rattle.sk_nodes.specs.Shapes.{Shape, ended, leaf, pair, or_many, Sides, no_sides, side}
 
 abbrev mutual
   -- How many entries a node of terms has left with ids up to a point.
   pub room_to : Indexed → ℕ → Shape → ℕ
   room_to i point (leaf l) = count_to point (entries_of i l)
   room_to i point (pair form ta a tb b) = room_to i point a + room_to i point b
-  room_to i point (any ss) = rooms_to i point ss
+  room_to i point (or_many ss) = rooms_to i point ss
   room_to i point _ = 0
 
   -- How many all sides have left.
@@ -35,7 +35,7 @@ abbrev mutual
   IsFlat need ended = Unit {0}
   IsFlat need (leaf l) = Unit {0}
   IsFlat need (pair form ta a tb b) = IsFlatForm form need × (IsFlat (first_need form need tb.greatest) a × IsFlat (second_need form need ta.greatest) b)
-  IsFlat need (any ss) = AreFlat ss
+  IsFlat need (or_many ss) = AreFlat ss
   IsFlat need _ = ⊥
 
   -- The sides of an or of many sides, which are moved under no need.
@@ -67,7 +67,7 @@ abbrev mutual
   IsNest form ended = Unit {0}
   IsNest form (leaf l) = Unit {0}
   IsNest form (pair other ta a tb b) = (other ≡ form) × (IsNest form a × IsNest form b)
-  IsNest form (any ss) = (form ≡ Form.Or) × AreNests form ss
+  IsNest form (or_many ss) = (form ≡ Form.Or) × AreNests form ss
   IsNest form _ = ⊥
 
   -- Sides of which each is one.

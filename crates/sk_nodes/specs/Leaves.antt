@@ -11,8 +11,6 @@ use Rattle.sk_dict.specs.Terms.{term_at}
 use Rattle.sk_model.specs.Edits.{document_at}
 use Rattle.sk_model.specs.Weights.{weigh_by}
 use Rattle.sk_index.specs.Indexed.{Indexed, list_runs, postings, all_postings}
-use Rattle.sk_decay.specs.Heads.{IsHead}
-use Rattle.sk_nodes.specs.declared.top.Top.{Top}
 use Rattle.sk_nodes.specs.declared.leaf.Leaf.{Leaf}
 use Rattle.sk_nodes.specs.declared.leaf.ListOf.{ListOf}
 
@@ -73,10 +71,3 @@ pub record IsLeafOn (i : Indexed) (l : Leaf) : Type 0 where
   pub light : WeighBelow l.factor l.scheme l.need_wdf l.need
   pub bound : AtMost l.greatest (leaf_rest i l)
   pub live : (id : ℕ) → document_at id i.live.documents ≡ None → leaf_rest i l id ≡ None
-
--- What is kept of a leaf beside it.
-pub record IsLeafTop (i : Indexed) (t : Top) (l : Leaf) : Type 0 where
-  pub head : IsHead t.head t.weight (leaf_rest i l)
-  pub bound : AtMost t.greatest (leaf_rest i l)
-  pub exact : t.head < 2 ^ 32 → t.greatest ≡ l.greatest
-  pub closed : t.head ≡ 2 ^ 32 → t.greatest ≡ 0

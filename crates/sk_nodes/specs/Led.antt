@@ -7,7 +7,7 @@ use Rattle.sk_index.specs.Indexed.{Indexed}
 use Rattle.sk_nodes.specs.declared.top.Top.{Top}
 use Rattle.sk_nodes.specs.declared.leaf.Leaf.{Leaf}
 use Rattle.sk_nodes.specs.Leaves.{entries_of, head_of, leaf_unread}
-use Rattle.sk_nodes.specs.Shapes.{Shape, ended, leaf, pair, any, Sides, no_sides, side}
+use Rattle.sk_nodes.specs.Shapes.{Shape, ended, leaf, pair, or_many, Sides, no_sides, side}
 use Rattle.sk_nodes.specs.Flat.{IsNest}
 
 -- How many entries have ids behind a point.
@@ -43,7 +43,7 @@ abbrev mutual
   pub follow_room : Indexed → ℕ → ℕ → Shape → ℕ
   follow_room i head unread (leaf l) = min (leaf_unread i l) (owed head (head_of (entries_of i l)) + 128 * unread)
   follow_room i head unread (pair form ta a tb b) = follow_room i head unread a + follow_room i head unread b
-  follow_room i head unread (any ss) = follow_rooms i head unread ss
+  follow_room i head unread (or_many ss) = follow_rooms i head unread ss
   follow_room i head unread _ = 0
 
   -- How much all sides may.

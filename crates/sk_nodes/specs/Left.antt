@@ -5,8 +5,8 @@ use Rattle.sk_model.specs.Combining.{combined, where_so}
 use Rattle.sk_index.specs.Indexed.{Indexed}
 use Rattle.sk_decay.specs.Sides.{paired, greatest_under}
 use Rattle.sk_nodes.specs.Leaves.{leaf_rest, leaf_unread}
-use Rattle.sk_nodes.specs.Span.{span_rest, span_unread}
-use Rattle.sk_nodes.specs.Shapes.{Shape, ended, leaf, span, pair, odd, any, tested, Sides, no_sides, side}
+use Rattle.sk_nodes.specs.RangeNode.{range_rest, range_unread}
+use Rattle.sk_nodes.specs.Shapes.{Shape, ended, leaf, range, pair, xor_many, or_many, positional, Sides, no_sides, side}
 use Rattle.sk_nodes.specs.Proximity.{holds_in, entries_unread}
 
 abbrev mutual
@@ -14,11 +14,11 @@ abbrev mutual
   pub rest : Indexed → Shape → ℕ → Option ℕ
   rest i ended id = None
   rest i (leaf l) id = leaf_rest i l id
-  rest i (span r) id = span_rest i r id
+  rest i (range r) id = range_rest i r id
   rest i (pair form ta a tb b) id = paired form (rest i a id) (rest i b id)
-  rest i (odd ss) id = combined Form.Xor (rests i ss id)
-  rest i (any ss) id = combined Form.Or (rests i ss id)
-  rest i (tested p t s) id = where_so (holds_in i p id) (rest i s id)
+  rest i (xor_many ss) id = combined Form.Xor (rests i ss id)
+  rest i (or_many ss) id = combined Form.Or (rests i ss id)
+  rest i (positional p t s) id = where_so (holds_in i p id) (rest i s id)
 
   -- The weights that sides still give at an id.
   pub rests : Indexed → Sides → ℕ → List (Option ℕ)
@@ -30,11 +30,11 @@ abbrev mutual
   pub unread_of : Indexed → Shape → ℕ
   unread_of i ended = 0
   unread_of i (leaf l) = leaf_unread i l
-  unread_of i (span r) = span_unread i r
+  unread_of i (range r) = range_unread i r
   unread_of i (pair form ta a tb b) = unread_of i a + unread_of i b
-  unread_of i (odd ss) = unread_in i ss
-  unread_of i (any ss) = unread_in i ss
-  unread_of i (tested p t s) = unread_of i s + entries_unread i p.next p.numbers.items
+  unread_of i (xor_many ss) = unread_in i ss
+  unread_of i (or_many ss) = unread_in i ss
+  unread_of i (positional p t s) = unread_of i s + entries_unread i p.next p.numbers.items
 
   -- How many entries of their lists sides have not read.
   pub unread_in : Indexed → Sides → ℕ
@@ -50,11 +50,11 @@ greatest_sum (side t s ss) = t.greatest + greatest_sum ss
 abbrev pub greatest_held : Shape → ℕ
 greatest_held ended = 0
 greatest_held (leaf l) = l.greatest
-greatest_held (span r) = 0
+greatest_held (range r) = 0
 greatest_held (pair form ta a tb b) = greatest_under form ta.greatest tb.greatest
-greatest_held (odd ss) = greatest_sum ss
-greatest_held (any ss) = greatest_sum ss
-greatest_held (tested p t s) = t.greatest
+greatest_held (xor_many ss) = greatest_sum ss
+greatest_held (or_many ss) = greatest_sum ss
+greatest_held (positional p t s) = t.greatest
 
 -- What is given from an id on.
 abbrev pub from_on : ℕ → (ℕ → Option ℕ) → ℕ → Option ℕ

@@ -52,19 +52,20 @@ abbrev pub part_scores : Query.Trees → Scheme → ℕ → Option Document → 
 part_scores Query.no_trees scheme factor o = []
 part_scores (Query.tree t ts) scheme factor o = score_of t scheme factor o ∷ part_scores ts scheme factor o
 
--- A node stands at the first of these scores, and gives them; it weighs no more than this.
-pub record Opens (i : Indexed) (t : Top) (s : Shape) (f : Option Document → Option ℕ) (most : ℕ) : Type 0 where
+-- A node stands at the first of these weights, and gives them; it weighs no more than this.
+pub record Yields (i : Indexed) (t : Top) (s : Shape) (f : ℕ → Option ℕ) (most : ℕ) : Type 0 where
   pub top : IsTop i t s
   pub sound : Sound i s
-  pub gives : (id : ℕ) → rest i s id ≡ f (document_at id i.live.documents)
+  pub gives : (id : ℕ) → rest i s id ≡ f id
   pub ceiling : t.greatest ≤ most
 
--- A node stands at the first match of sides under a form, gives what the form makes of them, and weighs no more than they do together.
-pub record Gathers (i : Indexed) (form : Form) (ss : Sides) (t : Top) (s : Shape) : Type 0 where
-  pub top : IsTop i t s
-  pub sound : Sound i s
-  pub gives : (id : ℕ) → rest i s id ≡ combined form (rests i ss id)
-  pub ceiling : t.greatest ≤ greatest_sum ss
+-- A node yields these scores of the documents.
+abbrev pub Opens : Indexed → Top → Shape → (Option Document → Option ℕ) → ℕ → Type 0
+Opens i t s f most = Yields i t s (λ id. f (document_at id i.live.documents)) most
+
+-- A node yields what a form makes of sides, and weighs no more than they do together.
+abbrev pub Gathers : Indexed → Form → Sides → Top → Shape → Type 0
+Gathers i form ss t s = Yields i t s (λ id. combined form (rests i ss id)) (greatest_sum ss)
 
 abbrev mutual
   -- How many queries there are in one, itself counted. Near and phrase are opened as an and of terms.

@@ -1,18 +1,22 @@
 -- How the parts of a query come to nodes of two sides, and to the sides of one node.
-use Rattle.std.specs.Prelude.{◌≡◌, ◌≤◌, ◌<◌, ◌+◌, ◌^◌, ◌++◌, ℕ, All, List, Option, Some}
+use Rattle.std.specs.Prelude.{◌≡◌, ◌≤◌, ◌<◌, ◌+◌, ◌^◌, ◌++◌, ℕ, true, All, List, length, map, Option, Some}
 use Rattle.sk_base.specs.declared.find.Scheme.{Scheme}
 use Rattle.sk_base.specs.Loads.{IsLight}
 use Rattle.sk_base.specs.Numbers.{Docs}
 use Rattle.sk_query.specs.declared.form.Form.{Form}
 use Rattle.sk_query.specs.Trees as Query
+use Rattle.sk_query.specs.Fits.{are_different}
 use Rattle.sk_model.specs.Documents.{Document}
 use Rattle.sk_model.specs.Combining.{combined}
-use Rattle.sk_model.specs.Bounds.{sum_in, ceil, ceils, ceil_of}
+use Rattle.sk_model.specs.Bounds.{sum_in, ceil, ceils, ceil_of, lengths_of}
 use Rattle.sk_model.specs.Allowance.{leaf_readings, leaves_readings}
 use Rattle.sk_model.specs.Sharp.{terms_in}
+use Rattle.sk_dict.specs.Terms.{term_at}
+use Rattle.sk_index.specs.Indexed.{Indexed}
 use Rattle.sk_decay.specs.Sides.{paired, greatest_under}
 use Rattle.sk_nodes.specs.Flat.{SplitsTerms}
-use Rattle.sk_nodes.specs.Opened.{IsPart, score_of, part_scores, joint_score_of, others_of, query_size, parts_size, AreParts}
+use Rattle.sk_nodes.specs.Proximity.{AreThere}
+use Rattle.sk_nodes.specs.Opened.{IsPart, joint_form, synonym_of, score_of, part_scores, joint_score_of, others_of, query_size, parts_size, AreParts}
 
 -- The parts of a form were split into those that are put together first and the others: a node of two sides gives what the form does.
 pub record Splits (form : Form) (factor : ℕ) (whole first others : Query.Trees) : Type 0 where
@@ -36,6 +40,18 @@ pub record Halves (factor : ℕ) (whole first others : Query.Trees) : Type 0 whe
   pub ceiling : (scheme : Scheme) (docs : Docs) → sum_in (ceils whole scheme factor docs) ≡ sum_in (ceils first scheme factor docs) + sum_in (ceils others scheme factor docs)
   pub readings : (docs : Docs) → leaves_readings whole docs ≡ leaves_readings first docs + leaves_readings others docs
   pub terms : (lists : List (List ℕ)) → terms_in whole ≡ Some lists → SplitsTerms lists (terms_in first) (terms_in others)
+
+-- The numbers of terms that count as one were split into halves.
+pub record NumberHalves (i : Indexed) (whole first others : List ℕ) : Type 0 where
+  pub front_there : AreThere i first
+  pub back_there : AreThere i others
+  pub front_apart : are_different (map (term_at i.terms) first) ≡ true
+  pub back_apart : are_different (map (term_at i.terms) others) ≡ true
+  pub front_shorter : length first < length whole
+  pub back_shorter : length others < length whole
+  pub scores : (scheme : Scheme) (factor : ℕ) (o : Option Document) → score_of (synonym_of i whole) scheme factor o ≡ paired (joint_form scheme) (score_of (synonym_of i first) scheme factor o) (score_of (synonym_of i others) scheme factor o)
+  pub terms : map (term_at i.terms) whole ≡ map (term_at i.terms) first ++ map (term_at i.terms) others
+  pub readings : lengths_of (map (term_at i.terms) whole) i.live.documents ≡ lengths_of (map (term_at i.terms) first) i.live.documents + lengths_of (map (term_at i.terms) others) i.live.documents
 
 -- A query of several parts is opened as its parts are, under its factor.
 pub record IsOfParts (factor : ℕ) (query : Query.Tree) (form : Form) (ts : Query.Trees) : Type 0 where

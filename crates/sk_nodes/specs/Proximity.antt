@@ -6,20 +6,20 @@ use Rattle.sk_query.specs.Trees as Query
 use Rattle.sk_model.specs.Edits.{document_at}
 use Rattle.sk_model.specs.Positions.{is_near, is_phrase}
 use Rattle.sk_index.specs.Indexed.{Indexed, term_positions}
-use Rattle.sk_nodes.specs.declared.proximity.Standing.{Standing}
+use Rattle.sk_nodes.specs.declared.proximity.ProximityKind.{ProximityKind}
 use Rattle.sk_nodes.specs.declared.proximity.Proximity.{Proximity}
 use Rattle.sk_nodes.specs.declared.leaf.ListOf.{ListOf}
 use Rattle.sk_nodes.specs.Leaves.{list_in}
 
 -- The query of terms that stand so.
-abbrev pub standing_query : Standing → ℕ → List (List ℕ) → Query.Tree
-standing_query Standing.Near window ts = Query.near window ts
-standing_query Standing.Phrase window ts = Query.phrase window ts
+abbrev pub proximity_query : ProximityKind → ℕ → List (List ℕ) → Query.Tree
+proximity_query ProximityKind.Near window ts = Query.near window ts
+proximity_query ProximityKind.Phrase window ts = Query.phrase window ts
 
 -- Whether these positions stand so.
-abbrev pub stand : Standing → ℕ → List (List ℕ) → Bool
-stand Standing.Near window places = is_near window places
-stand Standing.Phrase window places = is_phrase window places
+abbrev pub stand : ProximityKind → ℕ → List (List ℕ) → Bool
+stand ProximityKind.Near window places = is_near window places
+stand ProximityKind.Phrase window places = is_phrase window places
 
 -- The positions of the terms with these numbers in a document.
 abbrev pub positions_in : Indexed → List ℕ → ℕ → List (List ℕ)
@@ -27,7 +27,7 @@ positions_in i ns id = map (λ n. term_positions (term_at i.terms n) (document_a
 
 -- Whether the terms stand so in a document.
 abbrev pub holds_in : Indexed → Proximity → ℕ → Bool
-holds_in i p id = stand p.standing p.window (positions_in i p.numbers.items id)
+holds_in i p id = stand p.kind p.window (positions_in i p.numbers.items id)
 
 -- How many entries the lists of these terms have from an id on.
 abbrev pub entries_unread : Indexed → ℕ → List ℕ → ℕ
@@ -60,7 +60,7 @@ pub record CanTest (i : Indexed) (p : Proximity) : Type 0 where
 
 -- The test is the same.
 pub record IsSameTest (old new : Proximity) : Type 0 where
-  pub standing : new.standing ≡ old.standing
+  pub kind : new.kind ≡ old.kind
   pub window : new.window ≡ old.window
   pub numbers : new.numbers.items ≡ old.numbers.items
   pub marks : length new.marks.items ≡ length old.marks.items

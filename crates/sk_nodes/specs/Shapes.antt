@@ -3,7 +3,7 @@ use Rattle.std.specs.Prelude.{ℕ, ◌+◌, List, [], ◌∷◌, map}
 use Rattle.sk_query.specs.declared.form.Form.{Form}
 use Rattle.sk_nodes.specs.declared.top.Top.{Top}
 use Rattle.sk_nodes.specs.declared.leaf.Leaf.{Leaf}
-use Rattle.sk_nodes.specs.declared.span.Span.{Span}
+use Rattle.sk_nodes.specs.declared.range_node.RangeNode.{RangeNode}
 use Rattle.sk_nodes.specs.declared.proximity.Proximity.{Proximity}
 use Rattle.sk_nodes.specs.declared.node.Node.{Node, fold-Node}
 use Rattle.sk_nodes.specs.declared.node.Node.TheOpen.{Node-F}
@@ -13,11 +13,11 @@ mutual
   pub data Shape : Type 0 where
     ended : Shape
     leaf : Leaf → Shape
-    span : Span → Shape
+    range : RangeNode → Shape
     pair : Form → Top → Shape → Top → Shape → Shape
-    odd : Sides → Shape
-    any : Sides → Shape
-    tested : Proximity → Top → Shape → Shape
+    xor_many : Sides → Shape
+    or_many : Sides → Shape
+    positional : Proximity → Top → Shape → Shape
 
   -- Sides in order, each with its top.
   pub data Sides : Type 0 where
@@ -34,11 +34,11 @@ sides_of (t ∷ ts) (s ∷ ss) = side t s (sides_of ts ss)
 abbrev pub node_step : Node-F Shape → Shape
 node_step Node-F.Nothing = ended
 node_step (Node-F.Leaf l) = leaf l
-node_step (Node-F.Span r) = span r
+node_step (Node-F.Range r) = range r
 node_step (Node-F.Pair form ta a tb b) = pair form ta a.value tb b.value
-node_step (Node-F.Odd tops nodes) = odd (sides_of tops.items nodes.items)
-node_step (Node-F.Any tops nodes) = any (sides_of tops.items nodes.items)
-node_step (Node-F.Tested p t s) = tested p t s.value
+node_step (Node-F.XorMany tops nodes) = xor_many (sides_of tops.items nodes.items)
+node_step (Node-F.OrMany tops nodes) = or_many (sides_of tops.items nodes.items)
+node_step (Node-F.Positional p t s) = positional p t s.value
 
 -- The shape of a node.
 abbrev pub shape_of : Node → Shape
@@ -52,9 +52,9 @@ abbrev mutual
   -- How many nodes there are.
   pub size_of : Shape → ℕ
   size_of (pair form ta a tb b) = 1 + (size_of a + size_of b)
-  size_of (odd ss) = 1 + sizes_in ss
-  size_of (any ss) = 1 + sizes_in ss
-  size_of (tested p t s) = 1 + size_of s
+  size_of (xor_many ss) = 1 + sizes_in ss
+  size_of (or_many ss) = 1 + sizes_in ss
+  size_of (positional p t s) = 1 + size_of s
   size_of _ = 1
 
   -- How many there are in all sides, each side itself counted.

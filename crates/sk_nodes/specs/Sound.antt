@@ -5,10 +5,10 @@ use Rattle.sk_model.specs.Covers.{Covers}
 use Rattle.sk_decay.specs.Heads.{IsHead}
 use Rattle.sk_nodes.specs.declared.top.Top.{Top}
 use Rattle.sk_nodes.specs.Leaves.{AtMost, IsLeafOn}
-use Rattle.sk_nodes.specs.Span.{IsSpanOn}
+use Rattle.sk_nodes.specs.RangeNode.{IsRangeOn}
 use Rattle.sk_nodes.specs.declared.proximity.Proximity.{Proximity}
 use Rattle.sk_nodes.specs.Proximity.{holds_in, IsInAll, CanTest}
-use Rattle.sk_nodes.specs.Shapes.{Shape, ended, leaf, span, pair, odd, any, tested, Sides, no_sides, side, size_of}
+use Rattle.sk_nodes.specs.Shapes.{Shape, ended, leaf, range, pair, xor_many, or_many, positional, Sides, no_sides, side, size_of}
 use Rattle.sk_nodes.specs.Left.{rest, from_on, unread_of, greatest_sum, greatest_held}
 
 -- A node's head, and how much it can weigh, are those of what it still gives.
@@ -33,12 +33,12 @@ pub record IsFirstSide (i : Indexed) (t : Top) (s : Shape) (A B : Type 0) : Type
   pub others : B
 
 -- The sides of an xor or of an or of many sides, by what holds of them.
-pub record IsOdd (ss : Sides) (A : Type 0) : Type 0 where
+pub record IsMany (ss : Sides) (A : Type 0) : Type 0 where
   pub sides : A
   pub fits : greatest_sum ss < 2 ^ 63
 
 -- A test of what a node gives, which has all the terms, with its top, by what holds of it. No document before `next` is read any more: where the node stands before that, the terms stand so.
-pub record IsTested (i : Indexed) (p : Proximity) (t : Top) (s : Shape) (A : Type 0) : Type 0 where
+pub record IsPositional (i : Indexed) (p : Proximity) (t : Top) (s : Shape) (A : Type 0) : Type 0 where
   pub test : CanTest i p
   pub top : IsTop i t s
   pub sound : A
@@ -52,11 +52,11 @@ abbrev mutual
   pub Sound : Indexed → Shape → Type 0
   Sound i ended = Unit {0}
   Sound i (leaf l) = IsLeafOn i l
-  Sound i (span r) = IsSpanOn i r
+  Sound i (range r) = IsRangeOn i r
   Sound i (pair form ta a tb b) = IsPair i ta a tb b (Sound i a) (Sound i b)
-  Sound i (odd ss) = IsOdd ss (AreSound i ss)
-  Sound i (any ss) = IsOdd ss (AreSound i ss)
-  Sound i (tested p t s) = IsTested i p t s (Sound i s)
+  Sound i (xor_many ss) = IsMany ss (AreSound i ss)
+  Sound i (or_many ss) = IsMany ss (AreSound i ss)
+  Sound i (positional p t s) = IsPositional i p t s (Sound i s)
 
   -- All that is kept in sides and beside them is so.
   pub AreSound : Indexed → Sides → Type 0

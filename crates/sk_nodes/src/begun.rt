@@ -4,16 +4,15 @@ ghost use Rattle.sk_query.specs.declared.form.Form.TheVariants as Form;
 ghost use Rattle.sk_model.specs.Combining.{where_so};
 ghost use Rattle.sk_decay.specs.Sides.{paired, greatest_under};
 ghost use Rattle.sk_nodes.specs.Accounts.{Spends};
-ghost use Rattle.sk_nodes.specs.Shapes.{pair, odd, any, no_sides, side, shape_of, sides_on};
+ghost use Rattle.sk_nodes.specs.Shapes.{pair, xor_many, or_many, no_sides, side, shape_of, sides_on};
 ghost use Rattle.sk_nodes.specs.Left.{rest, unread_of, unread_in, greatest_sum};
-ghost use Rattle.sk_nodes.specs.Sound.{IsTop, IsTested, Sound, AreSound};
-ghost use Rattle.sk_nodes.specs.Opened.{Gathers};
-ghost use Rattle.sk_nodes.specs.Flat.{IsNest, IsJoint, PairsNest};
+ghost use Rattle.sk_nodes.specs.Sound.{IsPair, IsPositional, Sound, AreSound};
+ghost use Rattle.sk_nodes.specs.Opened.{Yields, Gathers};
 ghost use Rattle.sk_nodes.specs.Moved.{Accounts, SeekAccounts};
-ghost use Rattle.sk_nodes.specs.Odd.{followed_by};
+ghost use Rattle.sk_nodes.specs.Many.{followed_by};
 ghost use Rattle.sk_nodes.specs.Proximity.{holds_in, entries_unread};
 
-use crate::moves::{seek_any, seek_odd, seek_pair, seek_tested};
+use crate::moves::{seek_or_many, seek_pair, seek_positional, seek_xor_many};
 use crate::node::Node;
 use crate::order::put_in_order;
 use crate::proximity::Proximity;
@@ -36,21 +35,12 @@ pub(crate) fn pair_of<L: Ledger>(
     spent: &mut u128,
     steps: &mut Steps<L>,
 ) -> Result<(Top, Node), AllocError>
-    requires first { IsTop index.now ta (shape_of a) }
-    requires second { IsTop index.now tb (shape_of b) }
-    requires first_sound { Sound index.now (shape_of a) }
-    requires second_sound { Sound index.now (shape_of b) }
-    requires fits { ta.greatest + tb.greatest < 2 ^ 63 }
+    requires pair { IsPair index.now ta (shape_of a) tb (shape_of b) (Sound index.now (shape_of a)) (Sound index.now (shape_of b)) }
     requires room { spent.old + (unread_of index.now (shape_of a) + unread_of index.now (shape_of b)) < 2 ^ 128 }
-    ensures top { IfOk result (λ p. IsTop index.now p.0 (shape_of p.1)) }
-    ensures sound { IfOk result (λ p. Sound index.now (shape_of p.1)) }
-    ensures gives { IfOk result (λ p. (id : ℕ) → rest index.now (shape_of p.1) id ≡ paired form (rest index.now (shape_of a) id) (rest index.now (shape_of b) id)) }
-    ensures ceiling { IfOk result (λ p. p.0.greatest ≤ greatest_under form ta.greatest tb.greatest) }
-    ensures sum { IfOk result (λ p. p.0.greatest ≤ ta.greatest + tb.greatest) }
+    ensures yields { IfOk result (λ p. Yields index.now p.0 (shape_of p.1) (λ id. paired form (rest index.now (shape_of a) id) (rest index.now (shape_of b) id)) (greatest_under form ta.greatest tb.greatest)) }
     ensures paid { IfOk result (λ p. spent.new + unread_of index.now (shape_of p.1) ≤ spent.old + (unread_of index.now (shape_of a) + unread_of index.now (shape_of b))) }
     ensures counted { steps.new + spent.old ≡ steps.old + spent.new }
     ensures later { spent.old ≤ spent.new }
-    ensures nest { IfOk result (λ p. IsJoint form → IsNest form (shape_of a) → IsNest form (shape_of b) → PairsNest index.now form (shape_of a) (shape_of b) (shape_of p.1) spent.old spent.new) }
     ensures accounts { IfOk result (λ p. SeekAccounts index.now 0 0 spent.old spent.new (pair form ta (shape_of a) tb (shape_of b)) (shape_of p.1) p.0) }
 {
     let mut top = Top::ended();
@@ -96,7 +86,7 @@ pub(crate) fn with_more(
 }
 
 /// A node of the sides of an xor, moved on to its first match, and its top.
-pub(crate) fn odd_of<L: Ledger>(
+pub(crate) fn xor_many_of<L: Ledger>(
     index: &Index,
     mut tops: Vec<Top>,
     mut nodes: Vec<Node>,
@@ -110,12 +100,12 @@ pub(crate) fn odd_of<L: Ledger>(
     ensures spends { Spends (unread_in index.now (sides_on tops.items nodes.items)) (unread_of index.now (shape_of result.1)) spent.old spent.new steps.old steps.new }
 {
     let mut top = Top::ended();
-    begin_odd(&mut top, &mut tops, &mut nodes, index, spent, steps);
-    (top, Node::Odd(tops, nodes))
+    begin_xor_many(&mut top, &mut tops, &mut nodes, index, spent, steps);
+    (top, Node::XorMany(tops, nodes))
 }
 
 /// Moves the sides of an xor on to its first match.
-fn begin_odd<L: Ledger>(
+fn begin_xor_many<L: Ledger>(
     top: &mut Top,
     tops: &mut [Top],
     nodes: &mut [Node],
@@ -126,14 +116,14 @@ fn begin_odd<L: Ledger>(
     requires sound { AreSound index.now (sides_on tops.old nodes.old) }
     requires fits { greatest_sum (sides_on tops.old nodes.old) < 2 ^ 63 }
     requires room { spent.old + unread_in index.now (sides_on tops.old nodes.old) < 2 ^ 128 }
-    ensures gathers { Gathers index.now Form.Xor (sides_on tops.old nodes.old) top.new (odd (sides_on tops.new nodes.new)) }
+    ensures gathers { Gathers index.now Form.Xor (sides_on tops.old nodes.old) top.new (xor_many (sides_on tops.new nodes.new)) }
     ensures spends { Spends (unread_in index.now (sides_on tops.old nodes.old)) (unread_in index.now (sides_on tops.new nodes.new)) spent.old spent.new steps.old steps.new }
 {
-    seek_odd(top, tops, nodes, index, 0, spent, steps);
+    seek_xor_many(top, tops, nodes, index, 0, spent, steps);
 }
 
 /// A node of the sides of an or, moved on to its first match, and its top.
-pub(crate) fn any_of<L: Ledger>(
+pub(crate) fn or_many_of<L: Ledger>(
     index: &Index,
     mut tops: Vec<Top>,
     mut nodes: Vec<Node>,
@@ -145,15 +135,15 @@ pub(crate) fn any_of<L: Ledger>(
     requires room { spent.old + unread_in index.now (sides_on tops.items nodes.items) < 2 ^ 128 }
     ensures gathers { Gathers index.now Form.Or (sides_on tops.items nodes.items) result.0 (shape_of result.1) }
     ensures spends { Spends (unread_in index.now (sides_on tops.items nodes.items)) (unread_of index.now (shape_of result.1)) spent.old spent.new steps.old steps.new }
-    ensures accounts { Accounts index.now 0 0 spent.old spent.new (any (sides_on tops.items nodes.items)) (shape_of result.1) }
+    ensures accounts { Accounts index.now 0 0 spent.old spent.new (or_many (sides_on tops.items nodes.items)) (shape_of result.1) }
 {
     let mut top = Top::ended();
-    begin_any(&mut top, &mut tops, &mut nodes, index, spent, steps);
-    (top, Node::Any(tops, nodes))
+    begin_or_many(&mut top, &mut tops, &mut nodes, index, spent, steps);
+    (top, Node::OrMany(tops, nodes))
 }
 
 /// Puts the sides of an or in order, and moves them on to its first match.
-fn begin_any<L: Ledger>(
+fn begin_or_many<L: Ledger>(
     top: &mut Top,
     tops: &mut [Top],
     nodes: &mut [Node],
@@ -164,16 +154,16 @@ fn begin_any<L: Ledger>(
     requires sound { AreSound index.now (sides_on tops.old nodes.old) }
     requires fits { greatest_sum (sides_on tops.old nodes.old) < 2 ^ 63 }
     requires room { spent.old + unread_in index.now (sides_on tops.old nodes.old) < 2 ^ 128 }
-    ensures gathers { Gathers index.now Form.Or (sides_on tops.old nodes.old) top.new (any (sides_on tops.new nodes.new)) }
+    ensures gathers { Gathers index.now Form.Or (sides_on tops.old nodes.old) top.new (or_many (sides_on tops.new nodes.new)) }
     ensures spends { Spends (unread_in index.now (sides_on tops.old nodes.old)) (unread_in index.now (sides_on tops.new nodes.new)) spent.old spent.new steps.old steps.new }
-    ensures accounts { Accounts index.now 0 0 spent.old spent.new (any (sides_on tops.old nodes.old)) (any (sides_on tops.new nodes.new)) }
+    ensures accounts { Accounts index.now 0 0 spent.old spent.new (or_many (sides_on tops.old nodes.old)) (or_many (sides_on tops.new nodes.new)) }
 {
     put_in_order(tops, nodes);
-    seek_any(top, tops, nodes, index, 0, 0, spent, steps);
+    seek_or_many(top, tops, nodes, index, 0, 0, spent, steps);
 }
 
 /// A test of what a node gives, moved on to the first that passes, and its top.
-pub(crate) fn tested_of<L: Ledger>(
+pub(crate) fn positional_of<L: Ledger>(
     alloc: Global,
     index: &Index,
     mut test: Proximity,
@@ -182,20 +172,17 @@ pub(crate) fn tested_of<L: Ledger>(
     spent: &mut u128,
     steps: &mut Steps<L>,
 ) -> Result<(Top, Node), AllocError>
-    requires tested { IsTested index.now test below (shape_of node) (Sound index.now (shape_of node)) }
+    requires positional { IsPositional index.now test below (shape_of node) (Sound index.now (shape_of node)) }
     requires room { spent.old + (unread_of index.now (shape_of node) + entries_unread index.now test.next test.numbers.items) < 2 ^ 128 }
-    ensures top { IfOk result (λ p. IsTop index.now p.0 (shape_of p.1)) }
-    ensures sound { IfOk result (λ p. Sound index.now (shape_of p.1)) }
-    ensures gives { IfOk result (λ p. (id : ℕ) → rest index.now (shape_of p.1) id ≡ where_so (holds_in index.now test id) (rest index.now (shape_of node) id)) }
-    ensures ceiling { IfOk result (λ p. p.0.greatest ≤ below.greatest) }
+    ensures yields { IfOk result (λ p. Yields index.now p.0 (shape_of p.1) (λ id. where_so (holds_in index.now test id) (rest index.now (shape_of node) id)) below.greatest) }
     ensures paid { IfOk result (λ p. spent.new + unread_of index.now (shape_of p.1) ≤ spent.old + (unread_of index.now (shape_of node) + entries_unread index.now test.next test.numbers.items)) }
     ensures counted { steps.new + spent.old ≡ steps.old + spent.new }
     ensures later { spent.old ≤ spent.new }
 {
     let mut top = Top::ended();
-    seek_tested(
+    seek_positional(
         &mut top, &mut test, &mut below, &mut node, index, 0, 0, spent, steps,
     );
     let node = Box::new(alloc, node)?;
-    Ok((top, Node::Tested(test, below, node)))
+    Ok((top, Node::Positional(test, below, node)))
 }

@@ -3,12 +3,11 @@ ghost use Rattle.std.specs.Prelude.{◌≡◌, ◌≤◌, ◌<◌, ◌+◌, ◌^
 ghost use Rattle.sk_sorted.specs.Entries.{AreSorted};
 ghost use Rattle.sk_sorted.specs.Runs.{flat};
 ghost use Rattle.sk_lists.specs.Seeks.{count_to};
-ghost use Rattle.sk_model.specs.Covers.{Covers};
 ghost use Rattle.sk_index.specs.Indexed.{Indexed};
 ghost use Rattle.sk_nodes.specs.Accounts.{Spends};
-ghost use Rattle.sk_nodes.specs.Leaves.{list_in, runs_of, weighed, leaf_rest, leaf_unread, leaf_greatest, IsThere, entries_of, head_of, AtMost, IsLeafOn, WeighBelow, IsLeafTop};
-ghost use Rattle.sk_nodes.specs.Sound.{IsTop};
-ghost use Rattle.sk_nodes.specs.Left.{from_on};
+ghost use Rattle.sk_nodes.specs.Leaves.{list_in, runs_of, weighed, leaf_rest, leaf_unread, leaf_greatest, IsThere, entries_of, head_of, AtMost, IsLeafOn, WeighBelow};
+ghost use Rattle.sk_nodes.specs.Sound.{IsTop, Lands};
+ghost use Rattle.sk_nodes.specs.Opened.{Yields};
 ghost use Rattle.sk_nodes.specs.Shapes.{leaf};
 ghost use Rattle.sk_nodes.specs.Led.{Walks};
 ghost use Rattle.sk_nodes.specs.OpenedLed.{OpensLone};
@@ -64,10 +63,7 @@ impl Leaf {
         requires factor { factor ≤ 65536 }
         requires documents { AreSorted index.now.live.documents }
         requires room { spent.old + length (list_in index.now source) < 2 ^ 128 }
-        ensures sound { IsLeafOn index.now result }
-        ensures top { IsLeafTop index.now top.new result }
-        ensures gives { (id : ℕ) → leaf_rest index.now result id ≡ weighed factor scheme (list_in index.now source) id }
-        ensures ceiling { top.new.greatest ≤ leaf_greatest factor scheme (list_in index.now source) }
+        ensures yields { Yields index.now top.new (leaf result) (weighed factor scheme (list_in index.now source)) (leaf_greatest factor scheme (list_in index.now source)) }
         ensures lone { OpensLone index.now top.new (leaf result) (length (list_in index.now source)) spent.old spent.new }
         ensures begun { Begins index.now top.new (leaf result) (list_in index.now source) (leaf_greatest factor scheme (list_in index.now source)) }
         ensures begins { (point : ℕ) → spent.new + count_to point (entries_of index.now result) ≤ spent.old + (min 1 (length (list_in index.now source)) + count_to point (list_in index.now source)) }
@@ -102,10 +98,7 @@ impl Leaf {
         requires sound { IsLeafOn index.now self.old }
         requires target { target < 2 ^ 32 }
         requires room { spent.old + leaf_unread index.now self.old < 2 ^ 128 }
-        ensures sound { IsLeafOn index.now self.new }
-        ensures top { IsLeafTop index.now top.new self.new }
-        ensures covers { Covers (from_on target (leaf_rest index.now self.old)) (leaf_rest index.now self.new) need }
-        ensures reached { target ≤ top.new.head }
+        ensures lands { Lands index.now target need (leaf self.old) (leaf self.new) top.new }
         ensures at { top.new.head ≡ head_of (entries_of index.now self.new) }
         ensures walks { Walks index.now target spent.old spent.new self.old self.new }
         ensures falls { top.new.greatest ≤ self.old.greatest }
@@ -137,10 +130,7 @@ impl Leaf {
         requires below { top.old.head < target }
         requires target { target < 2 ^ 32 }
         requires room { spent.old + leaf_unread index.now self.old < 2 ^ 128 }
-        ensures sound { IsLeafOn index.now self.new }
-        ensures top { IsTop index.now top.new (leaf self.new) }
-        ensures covers { Covers (from_on target (leaf_rest index.now self.old)) (leaf_rest index.now self.new) need }
-        ensures reached { target ≤ top.new.head }
+        ensures lands { Lands index.now target need (leaf self.old) (leaf self.new) top.new }
         ensures at { top.new.head ≡ head_of (entries_of index.now self.new) }
         ensures walks { Walks index.now target spent.old spent.new self.old self.new }
         ensures falls { top.new.greatest ≤ top.old.greatest }
@@ -214,7 +204,7 @@ impl Leaf {
     /// Writes where it stands.
     fn show(&self, top: &mut Top)
         requires { self.now.factor ≤ 65536 }
-        ensures top { (i : Indexed) → IsLeafOn i self.now → IsLeafTop i top.new self.now }
+        ensures top { (i : Indexed) → IsLeafOn i self.now → IsTop i top.new (leaf self.now) }
         ensures at { (i : Indexed) → IsLeafOn i self.now → top.new.head ≡ head_of (entries_of i self.now) }
         ensures falls { top.new.greatest ≤ self.now.greatest }
     {

@@ -2,20 +2,21 @@
 ghost use Rattle.std.specs.Prelude.{◌≡◌, ◌≤◌, ◌<◌, ◌+◌, ◌^◌, ℕ};
 ghost use Rattle.sk_decay.specs.Sides.{greatest_under};
 ghost use Rattle.sk_nodes.specs.Accounts.{Spends};
-ghost use Rattle.sk_nodes.specs.Shapes.{pair, odd, any, tested, shape_of, sides_on, sizes_in};
+ghost use Rattle.sk_nodes.specs.Shapes.{pair, xor_many, or_many, positional, shape_of, sides_on, sizes_in};
 ghost use Rattle.sk_nodes.specs.Left.{unread_of, unread_in, greatest_sum, greatest_held};
-ghost use Rattle.sk_nodes.specs.Sound.{IsTop, IsPair, IsOdd, IsTested, Sound, AreSound};
+ghost use Rattle.sk_nodes.specs.Sound.{IsTop, IsPair, IsMany, IsPositional, Sound, AreSound};
 ghost use Rattle.sk_nodes.specs.Moved.{WasSought, Accounts, SeekAccounts, ReachAccounts};
-ghost use Rattle.sk_nodes.specs.Odd.{AreSought, AreFrom};
-ghost use Rattle.sk_nodes.specs.Any.{AreMoved, HaveLed, AreWeighed, AreEnded};
+ghost use Rattle.sk_nodes.specs.Many.{AreSought, AreFrom};
+ghost use Rattle.sk_nodes.specs.OrMany.{AreMoved, HaveLed, AreWeighed, AreEnded};
 ghost use Rattle.sk_nodes.specs.Proximity.{entries_unread};
 
-use crate::any::{first_of, weight_at};
+use crate::many::{FEW, sides_greatest, sum_of};
 use crate::node::{Node, settle};
-use crate::odd::{FEW, odd_greatest, odd_meeting, sum_of};
+use crate::or_many::{first_of, weight_at};
 use crate::proximity::Proximity;
 use crate::skip::skip;
 use crate::top::{END, Top};
+use crate::xor_many::xor_meeting;
 use sk_base::Weight;
 use sk_decay::{Head, Meeting, first_need, greatest_under, meeting_of, second_need, second_target};
 use sk_index::Index;
@@ -87,7 +88,7 @@ fn reach_inner<L: Ledger>(
     ensures accounts { ReachAccounts index.now target need spent.old spent.new (shape_of node.old) (shape_of node.new) top.old top.new }
 {
     let before = top.greatest;
-    settle(node, index, need);
+    settle(node, need);
     seek(top, node, index, target, need, spent, steps);
     top.greatest = top.greatest.min(before);
 }
@@ -113,13 +114,15 @@ fn seek<L: Ledger>(
     match node {
         Node::Nothing => *top = Top::ended(),
         Node::Leaf(leaf) => leaf.seek(top, index, target, need, spent, steps),
-        Node::Span(span) => span.seek(top, index, target, spent, steps),
+        Node::Range(range) => range.seek(top, index, target, spent, steps),
         Node::Pair(form, ta, a, tb, b) => seek_sides(
             top, *form, ta, a, tb, b, index, target, need, spent, steps,
         ),
-        Node::Odd(tops, nodes) => seek_odd(top, tops, nodes, index, target, spent, steps),
-        Node::Any(tops, nodes) => seek_any(top, tops, nodes, index, target, need, spent, steps),
-        Node::Tested(test, below, node) => seek_tested(
+        Node::XorMany(tops, nodes) => seek_xor_many(top, tops, nodes, index, target, spent, steps),
+        Node::OrMany(tops, nodes) => seek_or_many(
+            top, tops, nodes, index, target, need, spent, steps,
+        ),
+        Node::Positional(test, below, node) => seek_positional(
             top, test, below, node, index, target, need, spent, steps,
         ),
     }
@@ -252,7 +255,7 @@ fn greatest_at(form: Form, head: Head, a: Weight, b: Weight) -> Weight
 
 /// Moves the sides of an xor on to its first match from the target on. It may be lighter than is needed.
 #[cycle(seek)]
-pub(crate) fn seek_odd<L: Ledger>(
+pub(crate) fn seek_xor_many<L: Ledger>(
     top: &mut Top,
     tops: &mut [Top],
     nodes: &mut [Node],
@@ -261,19 +264,19 @@ pub(crate) fn seek_odd<L: Ledger>(
     spent: &mut u128,
     steps: &mut Steps<L>,
 )
-    requires sides { IsOdd (sides_on tops.old nodes.old) (AreSound index.now (sides_on tops.old nodes.old)) }
+    requires sides { IsMany (sides_on tops.old nodes.old) (AreSound index.now (sides_on tops.old nodes.old)) }
     requires target { target < 2 ^ 32 }
     requires room { spent.old + unread_in index.now (sides_on tops.old nodes.old) < 2 ^ 128 }
-    ensures { (need : ℕ) → WasSought index.now target need (greatest_sum (sides_on tops.old nodes.old)) spent.old spent.new steps.old steps.new (odd (sides_on tops.old nodes.old)) (odd (sides_on tops.new nodes.new)) top.new }
+    ensures { (need : ℕ) → WasSought index.now target need (greatest_sum (sides_on tops.old nodes.old)) spent.old spent.new steps.old steps.new (xor_many (sides_on tops.old nodes.old)) (xor_many (sides_on tops.new nodes.new)) top.new }
 {
     let mut from = target;
     'all: loop {
         reach_all(tops, nodes, index, from, spent, steps);
-        match odd_meeting(tops, nodes) {
+        match xor_meeting(tops, nodes) {
             Meeting::At(head, weight) => {
                 top.head = head;
                 top.weight = weight;
-                top.greatest = odd_greatest(head, tops, nodes);
+                top.greatest = sides_greatest(head, tops, nodes);
                 return;
             }
             Meeting::Behind(further) => from = further,
@@ -283,7 +286,7 @@ pub(crate) fn seek_odd<L: Ledger>(
 
 /// Moves the sides of an or of many sides on to its first match from the target on.
 #[cycle(seek)]
-pub(crate) fn seek_any<L: Ledger>(
+pub(crate) fn seek_or_many<L: Ledger>(
     top: &mut Top,
     tops: &mut [Top],
     nodes: &mut [Node],
@@ -293,11 +296,11 @@ pub(crate) fn seek_any<L: Ledger>(
     spent: &mut u128,
     steps: &mut Steps<L>,
 )
-    requires sides { IsOdd (sides_on tops.old nodes.old) (AreSound index.now (sides_on tops.old nodes.old)) }
+    requires sides { IsMany (sides_on tops.old nodes.old) (AreSound index.now (sides_on tops.old nodes.old)) }
     requires target { target < 2 ^ 32 }
     requires room { spent.old + unread_in index.now (sides_on tops.old nodes.old) < 2 ^ 128 }
-    ensures sought { WasSought index.now target need (greatest_sum (sides_on tops.old nodes.old)) spent.old spent.new steps.old steps.new (any (sides_on tops.old nodes.old)) (any (sides_on tops.new nodes.new)) top.new }
-    ensures accounts { Accounts index.now target need spent.old spent.new (any (sides_on tops.old nodes.old)) (any (sides_on tops.new nodes.new)) }
+    ensures sought { WasSought index.now target need (greatest_sum (sides_on tops.old nodes.old)) spent.old spent.new steps.old steps.new (or_many (sides_on tops.old nodes.old)) (or_many (sides_on tops.new nodes.new)) top.new }
+    ensures accounts { Accounts index.now target need spent.old spent.new (or_many (sides_on tops.old nodes.old)) (or_many (sides_on tops.new nodes.new)) }
 {
     if need == 0 {
         seek_all(top, tops, nodes, index, target, spent, steps);
@@ -317,17 +320,17 @@ fn seek_all<L: Ledger>(
     spent: &mut u128,
     steps: &mut Steps<L>,
 )
-    requires sides { IsOdd (sides_on tops.old nodes.old) (AreSound index.now (sides_on tops.old nodes.old)) }
+    requires sides { IsMany (sides_on tops.old nodes.old) (AreSound index.now (sides_on tops.old nodes.old)) }
     requires target { target < 2 ^ 32 }
     requires room { spent.old + unread_in index.now (sides_on tops.old nodes.old) < 2 ^ 128 }
-    ensures sought { (need : ℕ) → WasSought index.now target need (greatest_sum (sides_on tops.old nodes.old)) spent.old spent.new steps.old steps.new (any (sides_on tops.old nodes.old)) (any (sides_on tops.new nodes.new)) top.new }
-    ensures accounts { (need : ℕ) → Accounts index.now target need spent.old spent.new (any (sides_on tops.old nodes.old)) (any (sides_on tops.new nodes.new)) }
+    ensures sought { (need : ℕ) → WasSought index.now target need (greatest_sum (sides_on tops.old nodes.old)) spent.old spent.new steps.old steps.new (or_many (sides_on tops.old nodes.old)) (or_many (sides_on tops.new nodes.new)) top.new }
+    ensures accounts { (need : ℕ) → Accounts index.now target need spent.old spent.new (or_many (sides_on tops.old nodes.old)) (or_many (sides_on tops.new nodes.new)) }
 {
     reach_all(tops, nodes, index, target, spent, steps);
     let first = first_of(tops, nodes, END, 0);
     top.head = first.head;
     top.weight = first.weight;
-    top.greatest = odd_greatest(first.head, tops, nodes);
+    top.greatest = sides_greatest(first.head, tops, nodes);
 }
 
 /// The same where something is needed. The sides that lead are sought, and where the first of them begins all others
@@ -344,11 +347,11 @@ fn seek_some<L: Ledger>(
     steps: &mut Steps<L>,
 )
     requires needed { 0 < need }
-    requires sides { IsOdd (sides_on tops.old nodes.old) (AreSound index.now (sides_on tops.old nodes.old)) }
+    requires sides { IsMany (sides_on tops.old nodes.old) (AreSound index.now (sides_on tops.old nodes.old)) }
     requires target { target < 2 ^ 32 }
     requires room { spent.old + unread_in index.now (sides_on tops.old nodes.old) < 2 ^ 128 }
-    ensures sought { WasSought index.now target need (greatest_sum (sides_on tops.old nodes.old)) spent.old spent.new steps.old steps.new (any (sides_on tops.old nodes.old)) (any (sides_on tops.new nodes.new)) top.new }
-    ensures accounts { Accounts index.now target need spent.old spent.new (any (sides_on tops.old nodes.old)) (any (sides_on tops.new nodes.new)) }
+    ensures sought { WasSought index.now target need (greatest_sum (sides_on tops.old nodes.old)) spent.old spent.new steps.old steps.new (or_many (sides_on tops.old nodes.old)) (or_many (sides_on tops.new nodes.new)) top.new }
+    ensures accounts { Accounts index.now target need spent.old spent.new (or_many (sides_on tops.old nodes.old)) (or_many (sides_on tops.new nodes.new)) }
 {
     let most = sum_of(tops, nodes);
     let mut from = target;
@@ -362,7 +365,7 @@ fn seek_some<L: Ledger>(
         if weight >= need {
             top.head = head;
             top.weight = weight;
-            top.greatest = odd_greatest(head, tops, nodes);
+            top.greatest = sides_greatest(head, tops, nodes);
             return;
         }
         from = head + 1;
@@ -544,7 +547,7 @@ fn reach_few<L: Ledger>(
 
 /// Moves a node on to the first of what it gives from the target on that passes the test.
 #[cycle(seek)]
-pub(crate) fn seek_tested<L: Ledger>(
+pub(crate) fn seek_positional<L: Ledger>(
     top: &mut Top,
     test: &mut Proximity,
     below: &mut Top,
@@ -555,10 +558,10 @@ pub(crate) fn seek_tested<L: Ledger>(
     spent: &mut u128,
     steps: &mut Steps<L>,
 )
-    requires tested { IsTested index.now test.old below.old (shape_of node.old) (Sound index.now (shape_of node.old)) }
+    requires positional { IsPositional index.now test.old below.old (shape_of node.old) (Sound index.now (shape_of node.old)) }
     requires target { target < 2 ^ 32 }
     requires room { spent.old + (unread_of index.now (shape_of node.old) + entries_unread index.now test.old.next test.old.numbers.items) < 2 ^ 128 }
-    ensures { WasSought index.now target need below.old.greatest spent.old spent.new steps.old steps.new (tested test.old below.old (shape_of node.old)) (tested test.new below.new (shape_of node.new)) top.new }
+    ensures { WasSought index.now target need below.old.greatest spent.old spent.new steps.old steps.new (positional test.old below.old (shape_of node.old)) (positional test.new below.new (shape_of node.new)) top.new }
 {
     let mut from = target;
     'tests: loop {

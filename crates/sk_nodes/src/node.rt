@@ -1,45 +1,46 @@
 //! The nodes of a tree, and what may stand for one under a need.
 ghost use Rattle.std.specs.Prelude.{◌≡◌, true, false};
+ghost use Rattle.sk_index.specs.Indexed.{Indexed};
 ghost use Rattle.sk_decay.specs.declared.change.Change.TheVariants as Change;
 ghost use Rattle.sk_decay.specs.Changes.{change_of};
 ghost use Rattle.sk_nodes.specs.Shapes.{shape_of};
-ghost use Rattle.sk_nodes.specs.Decayed.{decayed};
+ghost use Rattle.sk_nodes.specs.Decayed.{decayed, SidesFit};
 ghost use Rattle.sk_nodes.specs.Sound.{Sound, Replaces};
 
 use crate::leaf::Leaf;
 use crate::proximity::Proximity;
-use crate::span::Span;
+use crate::range_node::RangeNode;
 use crate::top::{END, Top};
 use sk_base::Weight;
 use sk_decay::{Change, rule};
-use sk_index::Index;
 use sk_query::Form;
 use std::mem;
 
-/// A node. One of two sides keeps the tops of its sides, so that their heads are read without following a box; so do an
-/// xor of many sides, and a test of what a node gives.
+/// A node: a leaf, a range of values, two sides under a form, an xor or an or of many sides, or a node whose documents are
+/// tested for the positions of terms. The tops of sides are kept beside them, so that their heads are read without
+/// following a box.
 #[derive(Drop)]
 pub(crate) enum Node {
     Nothing,
     Leaf(Leaf),
-    Span(Span),
+    Range(RangeNode),
     Pair(Form, Top, Box<Node>, Top, Box<Node>),
-    Odd(Vec<Top>, Vec<Node>),
-    Any(Vec<Top>, Vec<Node>),
-    Tested(Proximity, Top, Box<Node>),
+    XorMany(Vec<Top>, Vec<Node>),
+    OrMany(Vec<Top>, Vec<Node>),
+    Positional(Proximity, Top, Box<Node>),
 }
 
 /// Puts what is enough under the need in the node's place. The rule is asked only where it may say anything.
 #[inline(always)]
-pub(crate) fn settle(node: &mut Node, index: &Index, need: Weight)
-    requires { Sound index.now (shape_of node.old) }
-    ensures decays { Replaces index.now need (shape_of node.old) (shape_of node.new) }
+pub(crate) fn settle(node: &mut Node, need: Weight)
+    requires { SidesFit (shape_of node.old) }
+    ensures decays { (i : Indexed) → Sound i (shape_of node.old) → Replaces i need (shape_of node.old) (shape_of node.new) }
     ensures stands { shape_of node.new ≡ decayed need (shape_of node.old) }
 {
     if is_settled(node, need) {
         return;
     }
-    decay(node, index, need);
+    decay(node, need);
 }
 
 /// Neither side has ended, or weighs too little for the form.
@@ -50,13 +51,13 @@ fn is_settled(node: &Node, need: Weight) -> bool
     match node {
         Node::Nothing => true,
         Node::Leaf(_) => true,
-        Node::Span(_) => true,
+        Node::Range(_) => true,
         Node::Pair(form, ta, _, tb, _) => {
             ta.head < END && tb.head < END && stands(*form, ta.greatest, tb.greatest, need)
         }
-        Node::Odd(_, _) => true,
-        Node::Any(_, _) => true,
-        Node::Tested(_, _, _) => true,
+        Node::XorMany(_, _) => true,
+        Node::OrMany(_, _) => true,
+        Node::Positional(_, _, _) => true,
     }
 }
 
@@ -75,18 +76,18 @@ fn stands(form: Form, a: Weight, b: Weight, need: Weight) -> bool
 }
 
 #[inline(never)]
-fn decay(node: &mut Node, _index: &Index, need: Weight)
-    requires { Sound _index.now (shape_of node.old) }
-    ensures decays { Replaces _index.now need (shape_of node.old) (shape_of node.new) }
+fn decay(node: &mut Node, need: Weight)
+    requires { SidesFit (shape_of node.old) }
+    ensures decays { (i : Indexed) → Sound i (shape_of node.old) → Replaces i need (shape_of node.old) (shape_of node.new) }
     ensures stands { shape_of node.new ≡ decayed need (shape_of node.old) }
 {
     match node {
         Node::Nothing => {}
         Node::Leaf(_) => {}
-        Node::Span(_) => {}
-        Node::Odd(_, _) => {}
-        Node::Any(_, _) => {}
-        Node::Tested(_, _, _) => {}
+        Node::Range(_) => {}
+        Node::XorMany(_, _) => {}
+        Node::OrMany(_, _) => {}
+        Node::Positional(_, _, _) => {}
         Node::Pair(form, ta, a, tb, b) => {
             let change = rule(
                 *form,

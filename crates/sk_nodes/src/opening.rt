@@ -12,18 +12,17 @@ ghost use Rattle.sk_model.specs.Sharp.{terms_in};
 ghost use Rattle.sk_nodes.specs.Accounts.{Pays, CountsReadings};
 ghost use Rattle.sk_nodes.specs.Leaves.{IsThere, list_in, weighed, leaf_greatest};
 ghost use Rattle.sk_nodes.specs.Shapes.{shape_of, sides_on};
-ghost use Rattle.sk_nodes.specs.Left.{rest, unread_of, unread_in};
-ghost use Rattle.sk_nodes.specs.Sound.{IsTop, Sound};
-ghost use Rattle.sk_nodes.specs.Any.{OpensTerms};
+ghost use Rattle.sk_nodes.specs.Left.{unread_of, unread_in};
+ghost use Rattle.sk_nodes.specs.OrMany.{OpensTerms};
 ghost use Rattle.sk_nodes.specs.OpenedAccounts.{OpensList, OpensTerm, OpensQuery, OpensParts};
-ghost use Rattle.sk_nodes.specs.Proximity.{standing_query};
-ghost use Rattle.sk_nodes.specs.Opened.{CanRead, CanOpen, IsPart, score_of, part_scores, OpensSides, joint_score_of, AreParts, Opens};
+ghost use Rattle.sk_nodes.specs.Proximity.{proximity_query};
+ghost use Rattle.sk_nodes.specs.Opened.{CanRead, CanOpen, IsPart, score_of, part_scores, OpensSides, joint_score_of, AreParts, Yields, Opens};
 
-use crate::begun::{any_of, odd_of, one_side, pair_of, tested_of, with_more};
+use crate::begun::{one_side, or_many_of, pair_of, positional_of, with_more, xor_many_of};
 use crate::leaf::{Leaf, ListOf, list_length};
 use crate::node::Node;
-use crate::parts::{is_many, is_nest, odd_halves, only_part, others_of, parts_of, split_parts};
-use crate::proximity::{Proximity, Standing};
+use crate::parts::{is_many, is_nest, only_part, others_of, parts_of, side_halves, split_parts};
+use crate::proximity::{Proximity, ProximityKind};
 use crate::ranges::open_range;
 use crate::synonym::{open_synonym, open_wildcard};
 use crate::top::Top;
@@ -87,10 +86,10 @@ pub(crate) fn open_node<L: Ledger>(
             )
         }
         Query::Near(window, words) => {
-            open_standing(
+            open_proximity(
                 alloc,
                 index,
-                Standing::Near,
+                ProximityKind::Near,
                 *window,
                 words.as_slice(),
                 scheme,
@@ -101,10 +100,10 @@ pub(crate) fn open_node<L: Ledger>(
             )
         }
         Query::Phrase(window, words) => {
-            open_standing(
+            open_proximity(
                 alloc,
                 index,
-                Standing::Phrase,
+                ProximityKind::Phrase,
                 *window,
                 words.as_slice(),
                 scheme,
@@ -119,20 +118,18 @@ pub(crate) fn open_node<L: Ledger>(
                 alloc, index, query, prefix, scheme, factor, most, spent, steps,
             )
         }
-        Query::Range(slot, lo, hi) => open_range(
-            alloc, index, *slot, lo, hi, scheme, most, spent, steps,
-        ),
+        Query::Range(slot, lo, hi) => open_range(alloc, index, *slot, lo, hi, most, spent, steps),
         // Those of several parts went by `parts_of`.
-        _ => Err(AllocError),
+        _ => unreachable!(),
     }
 }
 
 /// The node of terms that stand near or as a phrase: an and of them, and a test of its documents.
 #[cycle(open_node)]
-fn open_standing<L: Ledger>(
+fn open_proximity<L: Ledger>(
     alloc: Global,
     index: &Index,
-    standing: Standing,
+    kind: ProximityKind,
     window: u32,
     words: &[Text],
     scheme: Scheme,
@@ -144,7 +141,7 @@ fn open_standing<L: Ledger>(
     requires can { CanOpen index.now factor spent.old most.old }
     requires sound { (is_window window && are_given words.now) ≡ true }
     requires leaves { length words.now ≤ 1024 }
-    ensures opens { IfOk result (λ p. Opens index.now p.0 (shape_of p.1) (score_of (standing_query standing window words.now) scheme factor) (terms_ceil scheme factor words.now index.now.live.documents)) }
+    ensures opens { IfOk result (λ p. Opens index.now p.0 (shape_of p.1) (score_of (proximity_query kind window words.now) scheme factor) (terms_ceil scheme factor words.now index.now.live.documents)) }
     ensures pays { IfOk result (λ p. Pays spent.old spent.new most.old most.new (unread_of index.now (shape_of p.1)) (lengths_of words.now index.now.live.documents + lengths_of words.now index.now.live.documents)) }
     ensures counts { CountsReadings spent.old spent.new steps.old steps.new most.new }
 {
@@ -168,14 +165,14 @@ fn open_standing<L: Ledger>(
     let marks = Vec::from_elem(alloc, 0, numbers.len())?;
     let places = Vec::from_elem(alloc, 0, numbers.len())?;
     let test = Proximity {
-        standing,
+        kind,
         window,
         numbers,
         marks,
         places,
         next: 0,
     };
-    let (top, node) = tested_of(alloc, index, test, below, node, spent, steps)?;
+    let (top, node) = positional_of(alloc, index, test, below, node, spent, steps)?;
     Ok((top, node))
 }
 
@@ -204,14 +201,14 @@ fn open_parts<L: Ledger>(
     }
     if !is_nest(form, parts) {
         let (tops, nodes) = open_sides(alloc, index, parts, scheme, factor, most, spent, steps)?;
-        let (top, node) = odd_of(index, tops, nodes, spent, steps);
+        let (top, node) = xor_many_of(index, tops, nodes, spent, steps);
         return Ok((top, node));
     }
     if is_many(form, parts.len()) {
         let (all_tops, all_nodes) = open_sides(
             alloc, index, parts, scheme, factor, most, spent, steps,
         )?;
-        let (top, node) = any_of(index, all_tops, all_nodes, spent, steps);
+        let (top, node) = or_many_of(index, all_tops, all_nodes, spent, steps);
         return Ok((top, node));
     }
     let (front, back) = split_parts(index, form, parts);
@@ -257,7 +254,7 @@ fn open_sides<L: Ledger>(
         let (tops, nodes) = one_side(alloc, top, node)?;
         return Ok((tops, nodes));
     }
-    let (front, back) = odd_halves(parts);
+    let (front, back) = side_halves(parts);
     let (some_tops, some_nodes) = open_sides(
         alloc, index, front, scheme, factor, most, spent, steps,
     )?;
@@ -355,10 +352,7 @@ fn open_leaf<L: Ledger>(
     requires there { IsThere source index.now.terms }
     requires factor { factor ≤ 65536 }
     requires can { CanRead index.now spent.old most.old }
-    ensures top { IfOk result (λ p. IsTop index.now p.0 (shape_of p.1)) }
-    ensures sound { IfOk result (λ p. Sound index.now (shape_of p.1)) }
-    ensures gives { IfOk result (λ p. (id : ℕ) → rest index.now (shape_of p.1) id ≡ weighed factor scheme (list_in index.now source) id) }
-    ensures ceiling { IfOk result (λ p. p.0.greatest ≤ leaf_greatest factor scheme (list_in index.now source)) }
+    ensures yields { IfOk result (λ p. Yields index.now p.0 (shape_of p.1) (weighed factor scheme (list_in index.now source)) (leaf_greatest factor scheme (list_in index.now source))) }
     ensures pays { IfOk result (λ p. Pays spent.old spent.new most.old most.new (unread_of index.now (shape_of p.1)) (length (list_in index.now source))) }
     ensures exact { IfOk result (λ p. most.new ≡ most.old + length (list_in index.now source)) }
     ensures counts { CountsReadings spent.old spent.new steps.old steps.new most.new }

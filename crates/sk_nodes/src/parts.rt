@@ -67,7 +67,7 @@ pub(crate) fn is_many(form: Form, count: usize) -> bool
 }
 
 /// The two halves of the parts of an xor, or of an or of many sides.
-pub(crate) fn odd_halves(parts: &[Query]) -> (&[Query], &[Query])
+pub(crate) fn side_halves(parts: &[Query]) -> (&[Query], &[Query])
     requires { 2 ≤ length parts.now }
     ensures { (factor : ℕ) → AreParts Form.Xor factor (queries_view parts.now) → Halves factor (queries_view parts.now) (queries_view result.0.now) (queries_view result.1.now) }
 {

@@ -15,7 +15,7 @@ use std::sync::ledger::Ledger;
 
 /// How terms have to stand.
 #[derive(Clone, Copy, Debug)]
-pub(crate) enum Standing {
+pub(crate) enum ProximityKind {
     Near,
     Phrase,
 }
@@ -25,7 +25,7 @@ pub(crate) enum Standing {
 /// a document.
 #[derive(Drop)]
 pub(crate) struct Proximity {
-    pub standing: Standing,
+    pub kind: ProximityKind,
     pub window: u32,
     pub numbers: Vec<usize>,
     pub marks: Vec<u32>,
@@ -49,7 +49,7 @@ impl Proximity {
         requires all { IsInAll index.now below.now.head self.old.numbers.items }
         requires known { below.now.head < self.old.next → holds_in index.now self.old below.now.head ≡ true }
         requires room { spent.old + entries_unread index.now self.old.next self.old.numbers.items < 2 ^ 128 }
-        ensures holds_in { result ≡ true → holds_in index.now self.old below.now.head ≡ true }
+        ensures holds { result ≡ true → holds_in index.now self.old below.now.head ≡ true }
         ensures fails { result ≡ false → WeighsBelow need (where_so (holds_in index.now self.old below.now.head) (Some below.now.weight)) }
         ensures same { IsSameTest self.old self.new }
         ensures next { self.new.next ≤ max self.old.next (below.now.head + 1) }
@@ -86,7 +86,7 @@ impl Proximity {
         self.next = head + 1;
         *spent += self.numbers.len() as u128;
         stand_so(
-            self.standing,
+            self.kind,
             self.window,
             self.numbers.as_slice(),
             self.marks.as_mut_slice(),
@@ -100,7 +100,7 @@ impl Proximity {
 
 /// Whether the terms stand so in the document, by their positions, which are read once.
 fn stand_so<L: Ledger>(
-    standing: Standing,
+    kind: ProximityKind,
     window: u32,
     numbers: &[usize],
     marks: &mut [u32],
@@ -114,12 +114,12 @@ fn stand_so<L: Ledger>(
     requires marks { length numbers.now ≤ length marks.old }
     requires places { length numbers.now ≤ length places.old }
     requires there { AreThere index.now numbers.now }
-    ensures value { result ≡ stand standing window (positions_in index.now numbers.now id) }
+    ensures value { result ≡ stand kind window (positions_in index.now numbers.now id) }
     ensures cost { steps.new ≡ steps.old + length numbers.now }
 {
     let places = index.all_places(numbers, id, places, steps);
-    match standing {
-        Standing::Near => near(&places, window, marks),
-        Standing::Phrase => phrase(&places, window, marks),
+    match kind {
+        ProximityKind::Near => near(&places, window, marks),
+        ProximityKind::Phrase => phrase(&places, window, marks),
     }
 }

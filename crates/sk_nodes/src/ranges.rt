@@ -1,5 +1,6 @@
 //! How the node of a range is opened.
 ghost use Rattle.std.specs.Prelude.{◌≡◌, ℕ, true, IfOk};
+ghost use Rattle.sk_base.specs.declared.find.Scheme.{Scheme};
 ghost use Rattle.sk_base.specs.Numbers.{slot_length_of};
 ghost use Rattle.sk_query.specs.Trees as QueryTree;
 ghost use Rattle.sk_query.specs.Trees.{limit_of};
@@ -10,10 +11,10 @@ ghost use Rattle.sk_nodes.specs.Left.{unread_of};
 ghost use Rattle.sk_nodes.specs.Opened.{CanRead, score_of, Opens};
 
 use crate::node::Node;
-use crate::span::Span;
+use crate::range_node::RangeNode;
 use crate::top::Top;
 use crate::words::raise;
-use sk_base::{Bytes, Scheme, number_bytes};
+use sk_base::{Bytes, number_bytes};
 use sk_index::Index;
 use sk_query::Bound;
 use sk_steps::Steps;
@@ -28,13 +29,12 @@ pub(crate) fn open_range<L: Ledger>(
     slot: u32,
     lo: &Bound,
     hi: &Bound,
-    scheme: Scheme,
     most: &mut u128,
     spent: &mut u128,
     steps: &mut Steps<L>,
 ) -> Result<(Top, Node), AllocError>
     requires can { CanRead index.now spent.old most.old }
-    ensures opens { IfOk result (λ p. (factor : ℕ) → Opens index.now p.0 (shape_of p.1) (score_of (QueryTree.range slot (limit_of lo.now) (limit_of hi.now)) scheme factor) 0) }
+    ensures opens { IfOk result (λ p. (scheme : Scheme) (factor : ℕ) → Opens index.now p.0 (shape_of p.1) (score_of (QueryTree.range slot (limit_of lo.now) (limit_of hi.now)) scheme factor) 0) }
     ensures pays { IfOk result (λ p. Pays spent.old spent.new most.old most.new (unread_of index.now (shape_of p.1)) (slot_length_of slot index.now.live.documents)) }
     ensures counts { CountsReadings spent.old spent.new steps.old steps.new most.new }
     ensures crossed { is_crossed (end_of (limit_of lo.now)) (end_of (limit_of hi.now)) ≡ true → steps.new ≡ steps.old }
@@ -46,8 +46,8 @@ pub(crate) fn open_range<L: Ledger>(
     let hi = end_bytes(alloc, hi)?;
     raise(most, index.values(slot).length())?;
     let mut top = Top::ended();
-    let span = Span::open(&mut top, index, slot, lo, hi, spent, steps);
-    Ok((top, Node::Span(span)))
+    let range = RangeNode::open(&mut top, index, slot, lo, hi, spent, steps);
+    Ok((top, Node::Range(range)))
 }
 
 /// The bytes of an end that is not open.

@@ -7,15 +7,15 @@ ghost use Rattle.sk_query.specs.declared.form.Form.TheVariants as Form;
 ghost use Rattle.sk_query.specs.Trees as QueryTree;
 ghost use Rattle.sk_query.specs.Trees.{query_view};
 ghost use Rattle.sk_query.specs.Fits.{are_different};
-ghost use Rattle.sk_model.specs.Documents.{Document};
 ghost use Rattle.sk_model.specs.Bounds.{ceil, lengths_of};
 ghost use Rattle.sk_model.specs.Allowance.{leaf_readings};
-ghost use Rattle.sk_decay.specs.Sides.{paired};
+ghost use Rattle.sk_index.specs.Indexed.{Indexed};
 ghost use Rattle.sk_nodes.specs.Accounts.{Pays, CountsReadings};
 ghost use Rattle.sk_nodes.specs.Shapes.{shape_of};
 ghost use Rattle.sk_nodes.specs.Left.{unread_of};
 ghost use Rattle.sk_nodes.specs.Flat.{OpensNest, OpensFlat};
 ghost use Rattle.sk_nodes.specs.Proximity.{AreThere};
+ghost use Rattle.sk_nodes.specs.Parts.{NumberHalves};
 ghost use Rattle.sk_nodes.specs.Opened.{CanOpen, IsPart, score_of, joint_form, synonym_of, Opens};
 
 use crate::begun::pair_of;
@@ -130,7 +130,7 @@ fn open_joint<L: Ledger>(
     if numbers.len() == 1 {
         return open_one(index, numbers, scheme, factor, most, spent, steps);
     }
-    let (front, back) = split_numbers(index, numbers, scheme);
+    let (front, back) = number_halves(numbers);
     let (ta, a) = open_joint(alloc, index, front, scheme, factor, most, spent, steps)?;
     let (tb, b) = open_joint(alloc, index, back, scheme, factor, most, spent, steps)?;
     let (top, node) = pair_of(alloc, index, joint_form(scheme), ta, a, tb, b, spent, steps)?;
@@ -161,23 +161,9 @@ fn open_one<L: Ledger>(
 }
 
 /// The two halves.
-fn split_numbers<'a>(
-    index: &Index,
-    numbers: &'a [usize],
-    scheme: Scheme,
-) -> (&'a [usize], &'a [usize])
-    requires many { 2 ≤ length numbers.now }
-    requires there { AreThere index.now numbers.now }
-    requires apart { are_different (map (term_at index.now.terms) numbers.now) ≡ true }
-    ensures front_there { AreThere index.now result.0.now }
-    ensures back_there { AreThere index.now result.1.now }
-    ensures front_apart { are_different (map (term_at index.now.terms) result.0.now) ≡ true }
-    ensures back_apart { are_different (map (term_at index.now.terms) result.1.now) ≡ true }
-    ensures front_shorter { length result.0.now < length numbers.now }
-    ensures back_shorter { length result.1.now < length numbers.now }
-    ensures scores { (factor : ℕ) (o : Option Document) → score_of (synonym_of index.now numbers.now) scheme factor o ≡ paired (joint_form scheme) (score_of (synonym_of index.now result.0.now) scheme factor o) (score_of (synonym_of index.now result.1.now) scheme factor o) }
-    ensures terms { map (term_at index.now.terms) numbers.now ≡ map (term_at index.now.terms) result.0.now ++ map (term_at index.now.terms) result.1.now }
-    ensures readings { lengths_of (map (term_at index.now.terms) numbers.now) index.now.live.documents ≡ lengths_of (map (term_at index.now.terms) result.0.now) index.now.live.documents + lengths_of (map (term_at index.now.terms) result.1.now) index.now.live.documents }
+fn number_halves(numbers: &[usize]) -> (&[usize], &[usize])
+    requires { 2 ≤ length numbers.now }
+    ensures { (i : Indexed) → AreThere i numbers.now → are_different (map (term_at i.terms) numbers.now) ≡ true → NumberHalves i numbers.now result.0.now result.1.now }
 {
     let count = numbers.len();
     numbers.split_at(count / 2)

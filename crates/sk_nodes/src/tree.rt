@@ -14,9 +14,10 @@ ghost use Rattle.sk_index.specs.Indexed.{Indexed};
 ghost use Rattle.sk_nodes.specs.Left.{from_on};
 ghost use Rattle.sk_nodes.specs.Leaves.{AtMost};
 ghost use Rattle.sk_nodes.specs.Built.{gives, left, scored, first_weight, IsTree, Built};
-ghost use Rattle.sk_nodes.specs.Stops.{PaysToStop, MayMove};
+ghost use Rattle.sk_nodes.specs.Stops.{PaysToStop};
 ghost use Rattle.sk_nodes.specs.Rare.{Rare};
-ghost use Rattle.sk_nodes.specs.Decays.{Decays, MayFall, DecaysBoth};
+ghost use Rattle.sk_nodes.specs.Decays.{Decays, DecaysBoth};
+ghost use Rattle.sk_nodes.specs.Kept.{KeepsAccounts};
 
 use crate::moves::reach;
 use crate::node::Node;
@@ -99,14 +100,7 @@ impl Tree {
         ensures closed { self.old.top.greatest < need → (steps.new ≡ steps.old) × (left index.now self.new ≡ []) }
         ensures falls { self.new.top.greatest ≤ self.old.top.greatest }
         ensures need { self.new.need ≡ need }
-
-        // It goes on to stop at a point up to which it may go.
-        ensures stops { (point most : ℕ) → PaysToStop index.now self.old point most → MayMove point target need self.old.top.greatest (gives index.now self.old point) → PaysToStop index.now self.new point most }
-        ensures rare { (most : ℕ) → Rare index.now self.old most → Rare index.now self.new most }
-
-        // Of two lists of which one fades it reads no more than the account says, as long as that is not asked for behind the point.
-        ensures decays { (point greatest most : ℕ) → Decays index.now self.old point greatest most → MayFall point greatest target need self.old.top.greatest → Decays index.now self.new point greatest most }
-
+        ensures accounts { KeepsAccounts index.now target need self.old self.new }
         ensures cost { steps.new + self.old.spent ≡ steps.old + self.new.spent }
         ensures later { steps.old ≤ steps.new }
     {

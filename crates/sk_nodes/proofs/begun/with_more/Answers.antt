@@ -1,7 +1,7 @@
 -- More sides.
 use Rattle.std.proofs.Common.{◌∙◌}
 use Rattle.sk_nodes.specs.Shapes.{sides_on}
-use Rattle.sk_nodes.proofs.OddLaws.{sides_append}
+use Rattle.sk_nodes.proofs.ManyLaws.{sides_append}
 use Rattle.sk_nodes.proofs.begun.with_more.Goals as goal
 
 pub returns-clause-sides : goal.returns-clause-sides

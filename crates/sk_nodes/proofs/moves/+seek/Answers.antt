@@ -4,13 +4,13 @@ use Rattle.std.proofs.lemmas.List.{places}
 use Rattle.sk_model.specs.Covers.{Covers}
 use Rattle.sk_nodes.specs.declared.top.Top.{Top}
 use Rattle.sk_nodes.specs.declared.node.Node.{Node}
-use Rattle.sk_nodes.specs.Shapes.{Shape, Sides, side, ended, pair, odd, any, tested, shape_of, size_of, sides_on, sizes_in}
+use Rattle.sk_nodes.specs.Shapes.{Shape, Sides, side, ended, range, pair, xor_many, or_many, positional, shape_of, size_of, sides_on, sizes_in}
 use Rattle.sk_nodes.specs.Left.{rest, from_on, greatest_sum, unread_of, unread_in}
-use Rattle.sk_nodes.specs.Sound.{IsTop, Sound, AreSound, IsTested}
-use Rattle.sk_nodes.specs.Odd.{AreFrom, AreSought, followed_by}
+use Rattle.sk_nodes.specs.Sound.{IsTop, Sound, AreSound, IsPositional}
+use Rattle.sk_nodes.specs.Many.{AreFrom, AreSought, followed_by}
 use Rattle.sk_nodes.proofs.LeafLaws.{AtMost-covers}
-use Rattle.sk_nodes.proofs.NodeLaws.{covers_more, capped_top, shape_of-Nothing, shape_of-Leaf, shape_of-Pair, leaf_shape, shape_of-Tested, tested_shape, parts_shape, sought_along, greatest_under-mono, weight_le, target_ended, head_reached, pair_top, pair_top_ended, sides_covers, sides_covers_ended, sides_begun, sides_more, pair_covers, odd_shape, odd_written, any_shape, any_written}
-use Rattle.sk_nodes.proofs.OddLaws.{weights_fit, odd_begun, sides_cons, odd_covers, odd_more, odd_top, sides_split, sides_append, both_sound, sound_behind, from_behind, sought_behind, greatest_behind, unread_behind, sizes_behind, some_sizes}
+use Rattle.sk_nodes.proofs.NodeLaws.{sound_fits, greatest_within, covers_more, capped_top, shape_of-Nothing, shape_of-Leaf, shape_of-Pair, leaf_shape, shape_of-Positional, positional_shape, parts_shape, sought_along, greatest_under-mono, weight_le, target_ended, head_reached, pair_top, pair_top_ended, sides_covers, sides_covers_ended, sides_begun, sides_more, pair_covers, xor_many_shape, xor_many_written, or_many_shape, or_many_written}
+use Rattle.sk_nodes.proofs.ManyLaws.{weights_fit, xor_begun, sides_cons, xor_covers, xor_more, xor_top, sides_split, sides_append, both_sound, sound_behind, from_behind, sought_behind, greatest_behind, unread_behind, sizes_behind, some_sizes}
 use Rattle.sk_nodes.specs.Proximity.{entries_unread}
 use Rattle.sk_nodes.proofs.ProximityLaws.{test_begun, moved_all, moved_covers, moved_ended, ended_test, passed_top, passed_sound, passed_covers, none_top, failed_ended_covers, failed_ended_sound, failed_more}
 use Rattle.sk_nodes.proofs.RareLaws.{meets_lead}
@@ -18,8 +18,9 @@ use Rattle.sk_nodes.specs.Moved.{with_lead, Accounts}
 use Rattle.sk_nodes.proofs.MoveLaws.{reach_same, reach_gone, reach_leaf, reach_moved, seek_along, seek_other, seek_some, accounts_begun, accounts_then, accounts_on, round_ended, round_both}
 use Rattle.sk_nodes.proofs.FadingLaws.{fades_begun, fades_half, fades_both, fades_on}
 use Rattle.sk_nodes.proofs.SkipLaws.{sides_skipped, accounts_skipped, fades_skipped}
-use Rattle.sk_nodes.specs.Any.{AreKept, AreMoved, AreWeighed}
-use Rattle.sk_nodes.proofs.AnyLaws.{none_head, moved_first, any_found, any_accounts, any_kept, size_some, any_top, any_covers, kept_behind, led_none, weighed_light, weighed_more, any_begun, any_led, any_weighed, any_on, any_matches, any_gone, any_gone_kept, ended_unread, ended_lands}
+use Rattle.sk_nodes.specs.OrMany.{AreKept, AreMoved, AreWeighed}
+use Rattle.sk_nodes.proofs.RangeLaws.{shape_of-Range, range_shape}
+use Rattle.sk_nodes.proofs.OrManyLaws.{none_head, moved_first, or_found, or_accounts, or_kept, size_some, or_top, or_covers, kept_behind, led_none, weighed_light, weighed_more, or_begun, or_led, or_weighed, or_on, or_matches, or_gone, or_gone_kept, ended_unread, ended_lands}
 use Rattle.sk_nodes.proofs.moves.+seek.Goals as goal
 
 -- ---- a node that is reached
@@ -38,11 +39,14 @@ reach-returns-in-Leaf-clause-accounts g t c =
     reach_leaf c.args.index.now c.args.target c.args.need c.args.spent.now c.advance.new.spent _ c.advance.new.self _ _ c.args.top.now c.advance.new.top (leaf_shape c.args.node.now c.in-Leaf.leaf _ c.in-Leaf.is c.in-Leaf.leaf-is) (search (rules, shape_of-Leaf))
     c.requires.top (omega (arith, c.if-target-top.false, c.requires.target)) c.if-top-need.false c.requires.target c.advance.ensures.at c.advance.ensures.walks c.advance.ensures.moves c.advance.ensures.spends.paid c.advance.ensures.own
 
+pub reach_inner-settle-requires : goal.reach_inner-settle-requires
+reach_inner-settle-requires g t c = sound_fits c.args.index.now (shape_of c.args.node.now) c.requires.sound
+
 pub reach_inner-returns-clause-sought : goal.reach_inner-returns-clause-sought
 reach_inner-returns-clause-sought g t c =
     let covers =
     let i = c.args.index.now in
-    covers_more c.args.target c.args.need (rest i (shape_of c.args.node.now)) (rest i (shape_of c.settle.new.node)) (rest i (shape_of c.seek.new.node)) c.settle.ensures.decays.covers c.seek.ensures.sought.lands.covers in
+    covers_more c.args.target c.args.need (rest i (shape_of c.args.node.now)) (rest i (shape_of c.settle.new.node)) (rest i (shape_of c.seek.new.node)) (c.settle.ensures.decays c.args.index.now c.requires.sound).covers c.seek.ensures.sought.lands.covers in
     record {
       lands = record {
         top =
@@ -55,16 +59,22 @@ reach_inner-returns-clause-sought g t c =
         reached = omega arith;
       };
       falls = omega (arith, c.min-top.ensures);
-      smaller = omega (arith, c.settle.ensures.decays.smaller, c.seek.ensures.sought.smaller);
-      spends = record { paid = omega (arith, c.settle.ensures.decays.unread, c.seek.ensures.sought.spends.paid); counted = c.seek.ensures.sought.spends.counted; later = c.seek.ensures.sought.spends.later };
+      smaller = omega (arith, (c.settle.ensures.decays c.args.index.now c.requires.sound).smaller, c.seek.ensures.sought.smaller);
+      spends = record { paid = omega (arith, (c.settle.ensures.decays c.args.index.now c.requires.sound).unread, c.seek.ensures.sought.spends.paid); counted = c.seek.ensures.sought.spends.counted; later = c.seek.ensures.sought.spends.later };
     }
 
 pub reach_inner-returns-clause-accounts : goal.reach_inner-returns-clause-accounts
 reach_inner-returns-clause-accounts g t c =
     reach_moved c.args.index.now c.args.target c.args.need c.args.spent.now c.seek.new.spent _ (shape_of c.args.node.now) (shape_of c.settle.new.node) (shape_of c.seek.new.node) c.args.top.now c.seek.new.top c.requires.top c.requires.sound
-    (omega (arith, c.requires.below, c.requires.target)) c.requires.enough c.settle.ensures.stands c.settle.ensures.decays.covers c.seek.ensures.accounts
+    (omega (arith, c.requires.below, c.requires.target)) c.requires.enough c.settle.ensures.stands (c.settle.ensures.decays c.args.index.now c.requires.sound).covers c.seek.ensures.accounts
 
 -- ---- a node that is sought
+
+pub seek-returns-in-Range-clause-sought : goal.seek-returns-in-Range-clause-sought
+seek-returns-in-Range-clause-sought g t c =
+    let lands = c.seek-in-Range.ensures.lands c.args.need in
+    sought_along c.args.index.now c.args.target c.args.need _ _ _ _ _ _ _ (range c.seek-in-Range.new.self) _ (range_shape c.args.node.now c.in-Range.range _ c.in-Range.is c.in-Range.range-is) (search (rules, shape_of-Range))
+    (record { lands = lands; falls = greatest_within c.args.index.now _ _ lands.top; smaller = omega arith; spends = c.seek-in-Range.ensures.spends })
 
 pub seek-returns-in-Pair-clause-sought : goal.seek-returns-in-Pair-clause-sought
 seek-returns-in-Pair-clause-sought g t c =
@@ -72,23 +82,23 @@ seek-returns-in-Pair-clause-sought g t c =
     (parts_shape c.args.node.now c.in-Pair.form c.in-Pair.ta c.in-Pair.tb c.in-Pair.a c.in-Pair.b _ _ _ _ _ c.in-Pair.is c.in-Pair.form-is c.in-Pair.ta-is c.in-Pair.tb-is (c.deref_mut.ensures.value ∙ ap (λ (x : Box Node Global). x.value) c.in-Pair.a-is) (c.deref_mut-in-Pair.ensures.value ∙ ap (λ (x : Box Node Global). x.value) c.in-Pair.b-is))
     (shape_of-Pair _ _ _ _ _) c.seek_sides.ensures.sought
 
-pub seek-returns-in-Odd-clause-sought : goal.seek-returns-in-Odd-clause-sought
-seek-returns-in-Odd-clause-sought g t c =
+pub seek-returns-in-XorMany-clause-sought : goal.seek-returns-in-XorMany-clause-sought
+seek-returns-in-XorMany-clause-sought g t c =
     sought_along c.args.index.now c.args.target c.args.need _ _ _ _ _ _ _ _ _
-    (odd_shape c.args.node.now c.in-Odd.tops c.in-Odd.nodes _ _ c.in-Odd.is (c.deref_mut-in-Odd.ensures.value ∙ ap (λ (v : Vec Top Global). v.items) c.in-Odd.tops-is) (c.deref_mut-in-Odd-2.ensures.value ∙ ap (λ (v : Vec Node Global). v.items) c.in-Odd.nodes-is))
-    (odd_written _ _ c.seek_odd.new.tops c.seek_odd.new.nodes (search (rules, places)) (search (rules, places))) (c.seek_odd.ensures c.args.need)
+    (xor_many_shape c.args.node.now c.in-XorMany.tops c.in-XorMany.nodes _ _ c.in-XorMany.is (c.deref_mut-in-XorMany.ensures.value ∙ ap (λ (v : Vec Top Global). v.items) c.in-XorMany.tops-is) (c.deref_mut-in-XorMany-2.ensures.value ∙ ap (λ (v : Vec Node Global). v.items) c.in-XorMany.nodes-is))
+    (xor_many_written _ _ c.seek_xor_many.new.tops c.seek_xor_many.new.nodes (search (rules, places)) (search (rules, places))) (c.seek_xor_many.ensures c.args.need)
 
-pub seek-returns-in-Any-clause-sought : goal.seek-returns-in-Any-clause-sought
-seek-returns-in-Any-clause-sought g t c =
+pub seek-returns-in-OrMany-clause-sought : goal.seek-returns-in-OrMany-clause-sought
+seek-returns-in-OrMany-clause-sought g t c =
     sought_along c.args.index.now c.args.target c.args.need _ _ _ _ _ _ _ _ _
-    (any_shape c.args.node.now c.in-Any.tops c.in-Any.nodes _ _ c.in-Any.is (c.deref_mut-in-Any.ensures.value ∙ ap (λ (v : Vec Top Global). v.items) c.in-Any.tops-is) (c.deref_mut-in-Any-2.ensures.value ∙ ap (λ (v : Vec Node Global). v.items) c.in-Any.nodes-is))
-    (any_written _ _ c.seek_any.new.tops c.seek_any.new.nodes (search (rules, places)) (search (rules, places))) c.seek_any.ensures.sought
+    (or_many_shape c.args.node.now c.in-OrMany.tops c.in-OrMany.nodes _ _ c.in-OrMany.is (c.deref_mut-in-OrMany.ensures.value ∙ ap (λ (v : Vec Top Global). v.items) c.in-OrMany.tops-is) (c.deref_mut-in-OrMany-2.ensures.value ∙ ap (λ (v : Vec Node Global). v.items) c.in-OrMany.nodes-is))
+    (or_many_written _ _ c.seek_or_many.new.tops c.seek_or_many.new.nodes (search (rules, places)) (search (rules, places))) c.seek_or_many.ensures.sought
 
-pub seek-returns-in-Tested-clause-sought : goal.seek-returns-in-Tested-clause-sought
-seek-returns-in-Tested-clause-sought g t c =
+pub seek-returns-in-Positional-clause-sought : goal.seek-returns-in-Positional-clause-sought
+seek-returns-in-Positional-clause-sought g t c =
     sought_along c.args.index.now c.args.target c.args.need _ _ _ _ _ _ _ _ _
-    (tested_shape c.args.node.now c.in-Tested.test c.in-Tested.below c.in-Tested.node _ _ _ c.in-Tested.is c.in-Tested.test-is c.in-Tested.below-is (c.deref_mut-in-Tested.ensures.value ∙ ap (λ (x : Box Node Global). x.value) c.in-Tested.node-is))
-    (shape_of-Tested _ _ _) c.seek_tested.ensures
+    (positional_shape c.args.node.now c.in-Positional.test c.in-Positional.below c.in-Positional.node _ _ _ c.in-Positional.is c.in-Positional.test-is c.in-Positional.below-is (c.deref_mut-in-Positional.ensures.value ∙ ap (λ (x : Box Node Global). x.value) c.in-Positional.node-is))
+    (shape_of-Positional _ _ _) c.seek_positional.ensures
 
 pub seek-returns-in-Pair-clause-accounts : goal.seek-returns-in-Pair-clause-accounts
 seek-returns-in-Pair-clause-accounts g t c =
@@ -96,23 +106,23 @@ seek-returns-in-Pair-clause-accounts g t c =
     (parts_shape c.args.node.now c.in-Pair.form c.in-Pair.ta c.in-Pair.tb c.in-Pair.a c.in-Pair.b _ _ _ _ _ c.in-Pair.is c.in-Pair.form-is c.in-Pair.ta-is c.in-Pair.tb-is (c.deref_mut.ensures.value ∙ ap (λ (x : Box Node Global). x.value) c.in-Pair.a-is) (c.deref_mut-in-Pair.ensures.value ∙ ap (λ (x : Box Node Global). x.value) c.in-Pair.b-is))
     (shape_of-Pair _ _ _ _ _) c.seek_sides.ensures.accounts
 
-pub seek-returns-in-Odd-clause-accounts : goal.seek-returns-in-Odd-clause-accounts
-seek-returns-in-Odd-clause-accounts g t c =
-    seek_along c.args.index.now c.args.target c.args.need c.args.spent.now c.seek_odd.new.spent _ _ _ _ _
-    (odd_shape c.args.node.now c.in-Odd.tops c.in-Odd.nodes _ _ c.in-Odd.is (c.deref_mut-in-Odd.ensures.value ∙ ap (λ (v : Vec Top Global). v.items) c.in-Odd.tops-is) (c.deref_mut-in-Odd-2.ensures.value ∙ ap (λ (v : Vec Node Global). v.items) c.in-Odd.nodes-is))
-    (odd_written _ _ c.seek_odd.new.tops c.seek_odd.new.nodes (search (rules, places)) (search (rules, places))) (seek_other c.args.index.now c.args.target c.args.need c.args.spent.now c.seek_odd.new.spent (odd _) (odd _) _ (λ h. h) (λ h. h) (λ h. h) (λ h. h) (λ h. h) (λ greatest first h. h))
+pub seek-returns-in-XorMany-clause-accounts : goal.seek-returns-in-XorMany-clause-accounts
+seek-returns-in-XorMany-clause-accounts g t c =
+    seek_along c.args.index.now c.args.target c.args.need c.args.spent.now c.seek_xor_many.new.spent _ _ _ _ _
+    (xor_many_shape c.args.node.now c.in-XorMany.tops c.in-XorMany.nodes _ _ c.in-XorMany.is (c.deref_mut-in-XorMany.ensures.value ∙ ap (λ (v : Vec Top Global). v.items) c.in-XorMany.tops-is) (c.deref_mut-in-XorMany-2.ensures.value ∙ ap (λ (v : Vec Node Global). v.items) c.in-XorMany.nodes-is))
+    (xor_many_written _ _ c.seek_xor_many.new.tops c.seek_xor_many.new.nodes (search (rules, places)) (search (rules, places))) (seek_other c.args.index.now c.args.target c.args.need c.args.spent.now c.seek_xor_many.new.spent (xor_many _) (xor_many _) _ (λ h. h) (λ h. h) (λ h. h) (λ h. h) (λ h. h) (λ greatest first h. h))
 
-pub seek-returns-in-Any-clause-accounts : goal.seek-returns-in-Any-clause-accounts
-seek-returns-in-Any-clause-accounts g t c =
-    seek_along c.args.index.now c.args.target c.args.need c.args.spent.now c.seek_any.new.spent _ _ _ _ _
-    (any_shape c.args.node.now c.in-Any.tops c.in-Any.nodes _ _ c.in-Any.is (c.deref_mut-in-Any.ensures.value ∙ ap (λ (v : Vec Top Global). v.items) c.in-Any.tops-is) (c.deref_mut-in-Any-2.ensures.value ∙ ap (λ (v : Vec Node Global). v.items) c.in-Any.nodes-is))
-    (any_written _ _ c.seek_any.new.tops c.seek_any.new.nodes (search (rules, places)) (search (rules, places))) (seek_some c.args.index.now c.args.target c.args.need c.args.spent.now c.seek_any.new.spent (any _) (any _) _ (λ h. h) (λ h. h) (λ greatest first h. h) c.seek_any.ensures.accounts)
+pub seek-returns-in-OrMany-clause-accounts : goal.seek-returns-in-OrMany-clause-accounts
+seek-returns-in-OrMany-clause-accounts g t c =
+    seek_along c.args.index.now c.args.target c.args.need c.args.spent.now c.seek_or_many.new.spent _ _ _ _ _
+    (or_many_shape c.args.node.now c.in-OrMany.tops c.in-OrMany.nodes _ _ c.in-OrMany.is (c.deref_mut-in-OrMany.ensures.value ∙ ap (λ (v : Vec Top Global). v.items) c.in-OrMany.tops-is) (c.deref_mut-in-OrMany-2.ensures.value ∙ ap (λ (v : Vec Node Global). v.items) c.in-OrMany.nodes-is))
+    (or_many_written _ _ c.seek_or_many.new.tops c.seek_or_many.new.nodes (search (rules, places)) (search (rules, places))) (seek_some c.args.index.now c.args.target c.args.need c.args.spent.now c.seek_or_many.new.spent (or_many _) (or_many _) _ (λ h. h) (λ h. h) (λ greatest first h. h) c.seek_or_many.ensures.accounts)
 
-pub seek-returns-in-Tested-clause-accounts : goal.seek-returns-in-Tested-clause-accounts
-seek-returns-in-Tested-clause-accounts g t c =
-    seek_along c.args.index.now c.args.target c.args.need c.args.spent.now c.seek_tested.new.spent _ _ _ _ _
-    (tested_shape c.args.node.now c.in-Tested.test c.in-Tested.below c.in-Tested.node _ _ _ c.in-Tested.is c.in-Tested.test-is c.in-Tested.below-is (c.deref_mut-in-Tested.ensures.value ∙ ap (λ (x : Box Node Global). x.value) c.in-Tested.node-is))
-    (shape_of-Tested _ _ _) (seek_other c.args.index.now c.args.target c.args.need c.args.spent.now c.seek_tested.new.spent (tested _ _ _) (tested _ _ _) _ (λ h. h) (λ h. h) (λ h. h) (λ h. h) (λ h. h) (λ greatest first h. h))
+pub seek-returns-in-Positional-clause-accounts : goal.seek-returns-in-Positional-clause-accounts
+seek-returns-in-Positional-clause-accounts g t c =
+    seek_along c.args.index.now c.args.target c.args.need c.args.spent.now c.seek_positional.new.spent _ _ _ _ _
+    (positional_shape c.args.node.now c.in-Positional.test c.in-Positional.below c.in-Positional.node _ _ _ c.in-Positional.is c.in-Positional.test-is c.in-Positional.below-is (c.deref_mut-in-Positional.ensures.value ∙ ap (λ (x : Box Node Global). x.value) c.in-Positional.node-is))
+    (shape_of-Positional _ _ _) (seek_other c.args.index.now c.args.target c.args.need c.args.spent.now c.seek_positional.new.spent (positional _ _ _) (positional _ _ _) _ (λ h. h) (λ h. h) (λ h. h) (λ h. h) (λ h. h) (λ greatest first h. h))
 
 -- ---- two sides
 
@@ -304,22 +314,22 @@ seek_pair-returns-in-At-clause-accounts g t c =
 
 -- ---- the sides of an xor
 
-pub seek_odd-odd_meeting-requires : goal.seek_odd-odd_meeting-requires
-seek_odd-odd_meeting-requires g t c =
+pub seek_xor_many-xor_meeting-requires : goal.seek_xor_many-xor_meeting-requires
+seek_xor_many-xor_meeting-requires g t c =
     omega (arith, weights_fit c.args.index.now (sides_on c.reach_all.new.tops c.reach_all.new.nodes) c.reach_all.ensures.moved.sound, c.reach_all.ensures.moved.falls, c.all.invariant.far.sides.fits)
 
-pub seek_odd-returns-in-At : goal.seek_odd-returns-in-At
-seek_odd-returns-in-At g t c need =
+pub seek_xor_many-returns-in-At : goal.seek_xor_many-returns-in-At
+seek_xor_many-returns-in-At g t c need =
     let covers =
-    odd_covers c.args.index.now c.args.target need c.all.from (sides_on c.args.tops.now c.args.nodes.now) (sides_on c.all.tops c.all.nodes) (sides_on c.reach_all.new.tops c.reach_all.new.nodes)
+    xor_covers c.args.index.now c.args.target need c.all.from (sides_on c.args.tops.now c.args.nodes.now) (sides_on c.all.tops c.all.nodes) (sides_on c.reach_all.new.tops c.reach_all.new.nodes)
     c.all.invariant.far c.reach_all.ensures.sought in
     record {
       lands = record {
         top =
             let i = c.args.index.now in
-            odd_top i (sides_on c.reach_all.new.tops c.reach_all.new.nodes) _ c.reach_all.ensures.moved.sound
+            xor_top i (sides_on c.reach_all.new.tops c.reach_all.new.nodes) _ c.reach_all.ensures.moved.sound
             (c.in-At.ensures i c.all.from c.all.invariant.far.within c.reach_all.ensures.moved.sound c.reach_all.ensures.reached).0
-            c.odd_greatest-top.ensures.there c.odd_greatest-top.ensures.ended;
+            c.sides_greatest-top.ensures.there c.sides_greatest-top.ensures.ended;
         sound = search rules;
         covers = covers;
         reached =
@@ -327,22 +337,22 @@ seek_odd-returns-in-At g t c need =
             head_reached c.args.target need c.in-At.head c.in-At.weight _ _ covers
             (c.in-At.ensures i c.all.from c.all.invariant.far.within c.reach_all.ensures.moved.sound c.reach_all.ensures.reached).0 c.requires.target;
       };
-      falls = omega (arith, c.odd_greatest-top.ensures.bound, c.reach_all.ensures.moved.falls, c.all.invariant.far.falls);
+      falls = omega (arith, c.sides_greatest-top.ensures.bound, c.reach_all.ensures.moved.falls, c.all.invariant.far.falls);
       smaller = omega (arith, c.reach_all.ensures.moved.smaller, c.all.invariant.far.smaller);
       spends = record { paid = omega (arith, c.reach_all.ensures.spends.paid, c.all.invariant.spends.paid); counted = omega (arith, c.reach_all.ensures.spends.counted, c.all.invariant.spends.counted); later = omega (arith, c.reach_all.ensures.spends.later, c.all.invariant.spends.later) };
     }
 
-pub seek_odd-all-smaller : goal.seek_odd-all-smaller
-seek_odd-all-smaller g t c =
+pub seek_xor_many-all-smaller : goal.seek_xor_many-all-smaller
+seek_xor_many-all-smaller g t c =
     let on = c.in-Behind.ensures c.args.index.now c.all.from c.all.invariant.far.within c.reach_all.ensures.moved.sound c.reach_all.ensures.reached in
     omega (arith, on.further, on.within)
 
-pub seek_odd-all-preserved : goal.seek_odd-all-preserved
-seek_odd-all-preserved g t c =
+pub seek_xor_many-all-preserved : goal.seek_xor_many-all-preserved
+seek_xor_many-all-preserved g t c =
     let i = c.args.index.now in
     let on = c.in-Behind.ensures i c.all.from c.all.invariant.far.within c.reach_all.ensures.moved.sound c.reach_all.ensures.reached in
     record {
-      far = odd_more i c.args.target c.all.from c.in-Behind.further (sides_on c.args.tops.now c.args.nodes.now) (sides_on c.all.tops c.all.nodes) (sides_on c.reach_all.new.tops c.reach_all.new.nodes)
+      far = xor_more i c.args.target c.all.from c.in-Behind.further (sides_on c.args.tops.now c.args.nodes.now) (sides_on c.all.tops c.all.nodes) (sides_on c.reach_all.new.tops c.reach_all.new.nodes)
           c.all.invariant.far c.reach_all.ensures.moved.sound c.reach_all.ensures.sought c.reach_all.ensures.moved.falls c.reach_all.ensures.moved.smaller on;
       spends = record {
         paid = omega (arith, c.reach_all.ensures.spends.paid, c.all.invariant.spends.paid);
@@ -418,26 +428,26 @@ reach_all-returns-clause-spends g t c = record {
 
 -- ---- a test
 
-pub seek_tested-tests-init : goal.seek_tested-tests-init
-seek_tested-tests-init g t c =
+pub seek_positional-tests-init : goal.seek_positional-tests-init
+seek_positional-tests-init g t c =
     record {
-      far = test_begun c.args.index.now c.args.target c.args.need c.args.test.now c.args.below.now (shape_of c.args.node.now) c.requires.target c.requires.tested;
+      far = test_begun c.args.index.now c.args.target c.args.need c.args.test.now c.args.below.now (shape_of c.args.node.now) c.requires.target c.requires.positional;
       spends = record { paid = omega arith; counted = omega arith; later = omega arith };
     }
 
-pub seek_tested-passes-requires-clause-all : goal.seek_tested-passes-requires-clause-all
-seek_tested-passes-requires-clause-all g t c =
+pub seek_positional-passes-requires-clause-all : goal.seek_positional-passes-requires-clause-all
+seek_positional-passes-requires-clause-all g t c =
     let i = c.args.index.now in
     moved_all i c.args.target c.args.need c.tests.from c.args.test.now c.args.below.now (shape_of c.args.node.now) c.tests.test c.tests.below (shape_of c.tests.node) c.reach.new.top (shape_of c.reach.new.node)
     c.tests.invariant.far c.reach.ensures.sought.lands.top c.reach.ensures.sought.lands.sound c.reach.ensures.sought.lands.reached c.reach.ensures.sought.falls c.reach.ensures.sought.smaller c.reach.ensures.sought.lands.covers (omega (arith, c.if-below-ge-END.false))
 
-pub seek_tested-returns-then-below-ge-END : goal.seek_tested-returns-then-below-ge-END
-seek_tested-returns-then-below-ge-END g t c =
+pub seek_positional-returns-then-below-ge-END : goal.seek_positional-returns-then-below-ge-END
+seek_positional-returns-then-below-ge-END g t c =
     record {
       lands = record {
         top =
             let i = c.args.index.now in
-            subst (λ (u : Top). IsTop i u (tested c.tests.test c.reach.new.top (shape_of c.reach.new.node))) (sym c.ended.ensures)
+            subst (λ (u : Top). IsTop i u (positional c.tests.test c.reach.new.top (shape_of c.reach.new.node))) (sym c.ended.ensures)
             (ended_test i c.tests.test c.reach.new.top (shape_of c.reach.new.node) c.reach.ensures.sought.lands.top (omega (arith, c.if-below-ge-END.true)));
         sound =
             let i = c.args.index.now in
@@ -455,8 +465,8 @@ seek_tested-returns-then-below-ge-END g t c =
       spends = record { paid = omega (arith, c.reach.ensures.sought.spends.paid, c.tests.invariant.spends.paid); counted = omega (arith, c.reach.ensures.sought.spends.counted, c.tests.invariant.spends.counted); later = omega (arith, c.reach.ensures.sought.spends.later, c.tests.invariant.spends.later) };
     }
 
-pub seek_tested-returns-then-passes : goal.seek_tested-returns-then-passes
-seek_tested-returns-then-passes g t c =
+pub seek_positional-returns-then-passes : goal.seek_positional-returns-then-passes
+seek_positional-returns-then-passes g t c =
     let i = c.args.index.now in
     let top =
     passed_top i c.args.target c.args.need c.tests.from c.args.test.now c.args.below.now (shape_of c.args.node.now) c.tests.test c.tests.below (shape_of c.tests.node) c.reach.new.top (shape_of c.reach.new.node)
@@ -479,26 +489,26 @@ seek_tested-returns-then-passes g t c =
       spends = record { paid = omega (arith, same, c.reach.ensures.sought.spends.paid, c.passes.ensures.spends.paid, c.tests.invariant.spends.paid); counted = omega (arith, c.reach.ensures.sought.spends.counted, c.passes.ensures.spends.counted, c.tests.invariant.spends.counted); later = omega (arith, c.reach.ensures.sought.spends.later, c.passes.ensures.spends.later, c.tests.invariant.spends.later) };
     }
 
-pub seek_tested-returns-then-from-ge-END : goal.seek_tested-returns-then-from-ge-END
-seek_tested-returns-then-from-ge-END g t c =
+pub seek_positional-returns-then-from-ge-END : goal.seek_positional-returns-then-from-ge-END
+seek_positional-returns-then-from-ge-END g t c =
     let i = c.args.index.now in
     let same : entries_unread i c.passes.new.self.next c.passes.new.self.numbers.items ≡ entries_unread i c.passes.new.self.next c.tests.test.numbers.items = ap (entries_unread i c.passes.new.self.next) c.passes.ensures.same.numbers in
     record {
       lands = record {
         top =
             let i = c.args.index.now in
-            subst (λ (u : Top). IsTop i u (tested c.passes.new.self c.ended-then-from-ge-END.result (shape_of Node.Nothing))) (sym c.ended-then-from-ge-END-2.ensures)
-            (subst (λ (s : Shape). IsTop i (record { head = 2 ^ 32; weight = 0; greatest = 0 }) (tested c.passes.new.self c.ended-then-from-ge-END.result s)) (sym shape_of-Nothing)
+            subst (λ (u : Top). IsTop i u (positional c.passes.new.self c.ended-then-from-ge-END.result (shape_of Node.Nothing))) (sym c.ended-then-from-ge-END-2.ensures)
+            (subst (λ (s : Shape). IsTop i (record { head = 2 ^ 32; weight = 0; greatest = 0 }) (positional c.passes.new.self c.ended-then-from-ge-END.result s)) (sym shape_of-Nothing)
             (none_top i c.passes.new.self c.ended-then-from-ge-END.result ended (λ id. refl)));
         sound =
             let i = c.args.index.now in
-            subst (λ (u : Top). IsTested i c.passes.new.self u (shape_of Node.Nothing) (Sound i (shape_of Node.Nothing))) (sym c.ended-then-from-ge-END.ensures)
-            (subst (λ (s : Shape). IsTested i c.passes.new.self (record { head = 2 ^ 32; weight = 0; greatest = 0 }) s (Sound i s)) (sym shape_of-Nothing)
+            subst (λ (u : Top). IsPositional i c.passes.new.self u (shape_of Node.Nothing) (Sound i (shape_of Node.Nothing))) (sym c.ended-then-from-ge-END.ensures)
+            (subst (λ (s : Shape). IsPositional i c.passes.new.self (record { head = 2 ^ 32; weight = 0; greatest = 0 }) s (Sound i s)) (sym shape_of-Nothing)
             (failed_ended_sound i c.args.target c.args.need c.tests.from c.args.test.now c.args.below.now (shape_of c.args.node.now) c.tests.test c.tests.below (shape_of c.tests.node) c.reach.new.top (shape_of c.reach.new.node)
             c.tests.invariant.far c.reach.ensures.sought.lands.top c.reach.ensures.sought.lands.sound c.reach.ensures.sought.lands.reached c.reach.ensures.sought.falls c.reach.ensures.sought.smaller c.reach.ensures.sought.lands.covers c.passes.new.self c.passes.ensures.same c.passes.ensures.next (omega (arith, c.if-below-ge-END.false))));
         covers =
             let i = c.args.index.now in
-            subst (λ (s : Shape). Covers (from_on c.args.target (rest i (tested c.args.test.now c.args.below.now (shape_of c.args.node.now)))) (rest i (tested c.passes.new.self c.ended-then-from-ge-END.result s)) c.args.need) (sym shape_of-Nothing)
+            subst (λ (s : Shape). Covers (from_on c.args.target (rest i (positional c.args.test.now c.args.below.now (shape_of c.args.node.now)))) (rest i (positional c.passes.new.self c.ended-then-from-ge-END.result s)) c.args.need) (sym shape_of-Nothing)
             (failed_ended_covers i c.args.target c.args.need c.tests.from c.args.test.now c.args.below.now (shape_of c.args.node.now) c.tests.test c.tests.below (shape_of c.tests.node) c.reach.new.top (shape_of c.reach.new.node)
             c.tests.invariant.far c.reach.ensures.sought.lands.top c.reach.ensures.sought.lands.sound c.reach.ensures.sought.lands.reached c.reach.ensures.sought.falls c.reach.ensures.sought.smaller c.reach.ensures.sought.lands.covers c.passes.new.self c.passes.ensures.same c.passes.ensures.next (omega (arith, c.if-below-ge-END.false)) (c.passes.ensures.fails c.if-passes.false) (omega (arith, c.if-from-ge-END.true)) c.ended-then-from-ge-END.result);
         reached = omega (arith, ap (λ (u : Top). u.head) c.ended-then-from-ge-END-2.ensures, c.requires.target);
@@ -508,8 +518,8 @@ seek_tested-returns-then-from-ge-END g t c =
       spends = record { paid = omega (arith, same, ap (unread_of i) shape_of-Nothing, c.reach.ensures.sought.spends.paid, c.passes.ensures.spends.paid, c.tests.invariant.spends.paid); counted = omega (arith, c.reach.ensures.sought.spends.counted, c.passes.ensures.spends.counted, c.tests.invariant.spends.counted); later = omega (arith, c.reach.ensures.sought.spends.later, c.passes.ensures.spends.later, c.tests.invariant.spends.later) };
     }
 
-pub seek_tested-tests-preserved : goal.seek_tested-tests-preserved
-seek_tested-tests-preserved g t c =
+pub seek_positional-tests-preserved : goal.seek_positional-tests-preserved
+seek_positional-tests-preserved g t c =
     let i = c.args.index.now in
     let same : entries_unread i c.passes.new.self.next c.passes.new.self.numbers.items ≡ entries_unread i c.passes.new.self.next c.tests.test.numbers.items = ap (entries_unread i c.passes.new.self.next) c.passes.ensures.same.numbers in
     record {
@@ -534,28 +544,28 @@ seek_all-returns-clause-sought g t c need =
       lands = record {
         top =
             let i = c.args.index.now in
-            any_top i (sides_on c.reach_all.new.tops c.reach_all.new.nodes) _ c.reach_all.ensures.moved.sound
+            or_top i (sides_on c.reach_all.new.tops c.reach_all.new.nodes) _ c.reach_all.ensures.moved.sound
             (c.first_of-first.ensures.first i (λ id. None) c.reach_all.ensures.moved.sound none_head)
-            c.odd_greatest-top.ensures.there c.odd_greatest-top.ensures.ended;
+            c.sides_greatest-top.ensures.there c.sides_greatest-top.ensures.ended;
         sound = search rules;
-        covers = any_covers c.args.index.now c.args.target need (sides_on c.args.tops.now c.args.nodes.now) (sides_on c.reach_all.new.tops c.reach_all.new.nodes) c.reach_all.ensures.sought;
+        covers = or_covers c.args.index.now c.args.target need (sides_on c.args.tops.now c.args.nodes.now) (sides_on c.reach_all.new.tops c.reach_all.new.nodes) c.reach_all.ensures.sought;
         reached = c.first_of-first.ensures.reached c.args.target (omega (arith, c.requires.target)) c.reach_all.ensures.reached;
       };
-      falls = omega (arith, c.odd_greatest-top.ensures.bound, c.reach_all.ensures.moved.falls);
+      falls = omega (arith, c.sides_greatest-top.ensures.bound, c.reach_all.ensures.moved.falls);
       smaller = omega (arith, c.reach_all.ensures.moved.smaller);
       spends = c.reach_all.ensures.spends;
     }
 
 pub seek_all-returns-clause-accounts : goal.seek_all-returns-clause-accounts
 seek_all-returns-clause-accounts g t c need =
-    any_accounts c.args.index.now c.args.target need c.args.spent.now c.reach_all.new.spent (sides_on c.args.tops.now c.args.nodes.now) (sides_on c.reach_all.new.tops c.reach_all.new.nodes) c.requires.target c.reach_all.ensures.moved.kept
+    or_accounts c.args.index.now c.args.target need c.args.spent.now c.reach_all.new.spent (sides_on c.args.tops.now c.args.nodes.now) (sides_on c.reach_all.new.tops c.reach_all.new.nodes) c.requires.target c.reach_all.ensures.moved.kept
 
 -- ---- an or of many sides, where something is needed
 
 pub seek_some-matches-init : goal.seek_some-matches-init
 seek_some-matches-init g t c =
     record {
-      far = any_begun c.args.index.now c.args.target c.args.need c.args.spent.now (sides_on c.args.tops.now c.args.nodes.now) c.requires.sides;
+      far = or_begun c.args.index.now c.args.target c.args.need c.args.spent.now (sides_on c.args.tops.now c.args.nodes.now) c.requires.sides;
       within = c.requires.target;
       spends = record { paid = omega arith; counted = omega arith; later = omega arith };
     }
@@ -568,8 +578,8 @@ seek_some-returns-then-head-ge-END-clause-sought g t c =
       lands =
           let i = c.args.index.now in
           ended_lands i c.args.target c.args.need _ _ _ c.end_sides.ensures.top c.end_sides.ensures.over c.requires.target
-          (any_gone i c.args.target c.args.need c.requires.needed c.args.spent.now (sides_on c.args.tops.now c.args.nodes.now) c.lead-head.result c.lead-head.new.spent (sides_on c.lead-head.new.tops c.lead-head.new.nodes) (sides_on c.end_sides.new.tops c.end_sides.new.nodes) c.requires.sides.sides (omega (arith, c.if-head-ge-END.true))
-          (any_led i c.args.target c.args.need c.requires.needed c.args.spent.now (sides_on c.args.tops.now c.args.nodes.now) c.matches.from c.lead-head.result c.matches.spent c.lead-head.new.spent (sides_on c.matches.tops c.matches.nodes) (sides_on c.lead-head.new.tops c.lead-head.new.nodes) c.matches.invariant.within
+          (or_gone i c.args.target c.args.need c.requires.needed c.args.spent.now (sides_on c.args.tops.now c.args.nodes.now) c.lead-head.result c.lead-head.new.spent (sides_on c.lead-head.new.tops c.lead-head.new.nodes) (sides_on c.end_sides.new.tops c.end_sides.new.nodes) c.requires.sides.sides (omega (arith, c.if-head-ge-END.true))
+          (or_led i c.args.target c.args.need c.requires.needed c.args.spent.now (sides_on c.args.tops.now c.args.nodes.now) c.matches.from c.lead-head.result c.matches.spent c.lead-head.new.spent (sides_on c.matches.tops c.matches.nodes) (sides_on c.lead-head.new.tops c.lead-head.new.nodes) c.matches.invariant.within
           c.matches.invariant.far c.lead-head.ensures.led c.lead-head.ensures.moved.sound c.lead-head.ensures.moved.falls c.lead-head.ensures.moved.smaller c.lead-head.ensures.moved.kept)
           c.end_sides.ensures.over);
       falls = omega (arith, ap (λ (u : Top). u.greatest) c.end_sides.ensures.top);
@@ -580,8 +590,8 @@ seek_some-returns-then-head-ge-END-clause-sought g t c =
 pub seek_some-returns-then-head-ge-END-clause-accounts : goal.seek_some-returns-then-head-ge-END-clause-accounts
 seek_some-returns-then-head-ge-END-clause-accounts g t c =
     let i = c.args.index.now in
-    any_gone_kept i c.args.target c.args.need c.requires.needed c.args.spent.now (sides_on c.args.tops.now c.args.nodes.now) c.lead-head.result c.lead-head.new.spent (sides_on c.lead-head.new.tops c.lead-head.new.nodes) (sides_on c.end_sides.new.tops c.end_sides.new.nodes)
-    (any_led i c.args.target c.args.need c.requires.needed c.args.spent.now (sides_on c.args.tops.now c.args.nodes.now) c.matches.from c.lead-head.result c.matches.spent c.lead-head.new.spent (sides_on c.matches.tops c.matches.nodes) (sides_on c.lead-head.new.tops c.lead-head.new.nodes) c.matches.invariant.within
+    or_gone_kept i c.args.target c.args.need c.requires.needed c.args.spent.now (sides_on c.args.tops.now c.args.nodes.now) c.lead-head.result c.lead-head.new.spent (sides_on c.lead-head.new.tops c.lead-head.new.nodes) (sides_on c.end_sides.new.tops c.end_sides.new.nodes)
+    (or_led i c.args.target c.args.need c.requires.needed c.args.spent.now (sides_on c.args.tops.now c.args.nodes.now) c.matches.from c.lead-head.result c.matches.spent c.lead-head.new.spent (sides_on c.matches.tops c.matches.nodes) (sides_on c.lead-head.new.tops c.lead-head.new.nodes) c.matches.invariant.within
     c.matches.invariant.far c.lead-head.ensures.led c.lead-head.ensures.moved.sound c.lead-head.ensures.moved.falls c.lead-head.ensures.moved.smaller c.lead-head.ensures.moved.kept)
     c.end_sides.ensures.over
 
@@ -593,10 +603,10 @@ seek_some-returns-then-from-ge-END-clause-sought g t c =
       lands =
           let i = c.args.index.now in
           ended_lands i c.args.target c.args.need _ _ _ c.end_sides-then-from-ge-END.ensures.top c.end_sides-then-from-ge-END.ensures.over c.requires.target
-          (any_gone i c.args.target c.args.need c.requires.needed c.args.spent.now (sides_on c.args.tops.now c.args.nodes.now) (c.lead-head.result + 1) c.weigh-weight.new.spent (sides_on c.weigh-weight.new.tops c.weigh-weight.new.nodes) (sides_on c.end_sides-then-from-ge-END.new.tops c.end_sides-then-from-ge-END.new.nodes) c.requires.sides.sides (omega (arith, c.if-from-ge-END.true))
-          (any_on i c.args.target c.args.need c.requires.needed c.args.spent.now (sides_on c.args.tops.now c.args.nodes.now) c.lead-head.result c.weigh-weight.new.spent c.weigh-weight.result (sides_on c.lead-head.new.tops c.lead-head.new.nodes) (sides_on c.weigh-weight.new.tops c.weigh-weight.new.nodes)
-          (any_weighed i c.args.target c.args.need c.requires.needed c.args.spent.now (sides_on c.args.tops.now c.args.nodes.now) c.lead-head.result c.lead-head.new.spent c.weigh-weight.new.spent c.weigh-weight.result (sides_on c.lead-head.new.tops c.lead-head.new.nodes) (sides_on c.weigh-weight.new.tops c.weigh-weight.new.nodes) (omega (arith, c.if-head-ge-END.false))
-          (any_led i c.args.target c.args.need c.requires.needed c.args.spent.now (sides_on c.args.tops.now c.args.nodes.now) c.matches.from c.lead-head.result c.matches.spent c.lead-head.new.spent (sides_on c.matches.tops c.matches.nodes) (sides_on c.lead-head.new.tops c.lead-head.new.nodes) c.matches.invariant.within
+          (or_gone i c.args.target c.args.need c.requires.needed c.args.spent.now (sides_on c.args.tops.now c.args.nodes.now) (c.lead-head.result + 1) c.weigh-weight.new.spent (sides_on c.weigh-weight.new.tops c.weigh-weight.new.nodes) (sides_on c.end_sides-then-from-ge-END.new.tops c.end_sides-then-from-ge-END.new.nodes) c.requires.sides.sides (omega (arith, c.if-from-ge-END.true))
+          (or_on i c.args.target c.args.need c.requires.needed c.args.spent.now (sides_on c.args.tops.now c.args.nodes.now) c.lead-head.result c.weigh-weight.new.spent c.weigh-weight.result (sides_on c.lead-head.new.tops c.lead-head.new.nodes) (sides_on c.weigh-weight.new.tops c.weigh-weight.new.nodes)
+          (or_weighed i c.args.target c.args.need c.requires.needed c.args.spent.now (sides_on c.args.tops.now c.args.nodes.now) c.lead-head.result c.lead-head.new.spent c.weigh-weight.new.spent c.weigh-weight.result (sides_on c.lead-head.new.tops c.lead-head.new.nodes) (sides_on c.weigh-weight.new.tops c.weigh-weight.new.nodes) (omega (arith, c.if-head-ge-END.false))
+          (or_led i c.args.target c.args.need c.requires.needed c.args.spent.now (sides_on c.args.tops.now c.args.nodes.now) c.matches.from c.lead-head.result c.matches.spent c.lead-head.new.spent (sides_on c.matches.tops c.matches.nodes) (sides_on c.lead-head.new.tops c.lead-head.new.nodes) c.matches.invariant.within
           c.matches.invariant.far c.lead-head.ensures.led c.lead-head.ensures.moved.sound c.lead-head.ensures.moved.falls c.lead-head.ensures.moved.smaller c.lead-head.ensures.moved.kept)
           c.weigh-weight.ensures.weighed c.weigh-weight.ensures.moved.sound c.weigh-weight.ensures.moved.falls c.weigh-weight.ensures.moved.smaller c.weigh-weight.ensures.moved.kept)
           c.weigh-weight.ensures.weighed (omega (arith, c.if-weight-need.false)))
@@ -609,10 +619,10 @@ seek_some-returns-then-from-ge-END-clause-sought g t c =
 pub seek_some-returns-then-from-ge-END-clause-accounts : goal.seek_some-returns-then-from-ge-END-clause-accounts
 seek_some-returns-then-from-ge-END-clause-accounts g t c =
     let i = c.args.index.now in
-    any_gone_kept i c.args.target c.args.need c.requires.needed c.args.spent.now (sides_on c.args.tops.now c.args.nodes.now) (c.lead-head.result + 1) c.weigh-weight.new.spent (sides_on c.weigh-weight.new.tops c.weigh-weight.new.nodes) (sides_on c.end_sides-then-from-ge-END.new.tops c.end_sides-then-from-ge-END.new.nodes)
-    (any_on i c.args.target c.args.need c.requires.needed c.args.spent.now (sides_on c.args.tops.now c.args.nodes.now) c.lead-head.result c.weigh-weight.new.spent c.weigh-weight.result (sides_on c.lead-head.new.tops c.lead-head.new.nodes) (sides_on c.weigh-weight.new.tops c.weigh-weight.new.nodes)
-    (any_weighed i c.args.target c.args.need c.requires.needed c.args.spent.now (sides_on c.args.tops.now c.args.nodes.now) c.lead-head.result c.lead-head.new.spent c.weigh-weight.new.spent c.weigh-weight.result (sides_on c.lead-head.new.tops c.lead-head.new.nodes) (sides_on c.weigh-weight.new.tops c.weigh-weight.new.nodes) (omega (arith, c.if-head-ge-END.false))
-    (any_led i c.args.target c.args.need c.requires.needed c.args.spent.now (sides_on c.args.tops.now c.args.nodes.now) c.matches.from c.lead-head.result c.matches.spent c.lead-head.new.spent (sides_on c.matches.tops c.matches.nodes) (sides_on c.lead-head.new.tops c.lead-head.new.nodes) c.matches.invariant.within
+    or_gone_kept i c.args.target c.args.need c.requires.needed c.args.spent.now (sides_on c.args.tops.now c.args.nodes.now) (c.lead-head.result + 1) c.weigh-weight.new.spent (sides_on c.weigh-weight.new.tops c.weigh-weight.new.nodes) (sides_on c.end_sides-then-from-ge-END.new.tops c.end_sides-then-from-ge-END.new.nodes)
+    (or_on i c.args.target c.args.need c.requires.needed c.args.spent.now (sides_on c.args.tops.now c.args.nodes.now) c.lead-head.result c.weigh-weight.new.spent c.weigh-weight.result (sides_on c.lead-head.new.tops c.lead-head.new.nodes) (sides_on c.weigh-weight.new.tops c.weigh-weight.new.nodes)
+    (or_weighed i c.args.target c.args.need c.requires.needed c.args.spent.now (sides_on c.args.tops.now c.args.nodes.now) c.lead-head.result c.lead-head.new.spent c.weigh-weight.new.spent c.weigh-weight.result (sides_on c.lead-head.new.tops c.lead-head.new.nodes) (sides_on c.weigh-weight.new.tops c.weigh-weight.new.nodes) (omega (arith, c.if-head-ge-END.false))
+    (or_led i c.args.target c.args.need c.requires.needed c.args.spent.now (sides_on c.args.tops.now c.args.nodes.now) c.matches.from c.lead-head.result c.matches.spent c.lead-head.new.spent (sides_on c.matches.tops c.matches.nodes) (sides_on c.lead-head.new.tops c.lead-head.new.nodes) c.matches.invariant.within
     c.matches.invariant.far c.lead-head.ensures.led c.lead-head.ensures.moved.sound c.lead-head.ensures.moved.falls c.lead-head.ensures.moved.smaller c.lead-head.ensures.moved.kept)
     c.weigh-weight.ensures.weighed c.weigh-weight.ensures.moved.sound c.weigh-weight.ensures.moved.falls c.weigh-weight.ensures.moved.smaller c.weigh-weight.ensures.moved.kept)
     c.weigh-weight.ensures.weighed (omega (arith, c.if-weight-need.false)))
@@ -624,26 +634,26 @@ seek_some-returns-then-weight-need-clause-sought g t c =
       lands = record {
         top =
             let i = c.args.index.now in
-            any_top i (sides_on c.weigh-weight.new.tops c.weigh-weight.new.nodes) _ c.weigh-weight.ensures.moved.sound
-            (any_matches i c.args.target c.args.need c.requires.needed c.args.spent.now (sides_on c.args.tops.now c.args.nodes.now) c.lead-head.result c.weigh-weight.new.spent c.weigh-weight.result (sides_on c.lead-head.new.tops c.lead-head.new.nodes) (sides_on c.weigh-weight.new.tops c.weigh-weight.new.nodes) (omega (arith, c.if-head-ge-END.false))
-            (any_weighed i c.args.target c.args.need c.requires.needed c.args.spent.now (sides_on c.args.tops.now c.args.nodes.now) c.lead-head.result c.lead-head.new.spent c.weigh-weight.new.spent c.weigh-weight.result (sides_on c.lead-head.new.tops c.lead-head.new.nodes) (sides_on c.weigh-weight.new.tops c.weigh-weight.new.nodes) (omega (arith, c.if-head-ge-END.false))
-            (any_led i c.args.target c.args.need c.requires.needed c.args.spent.now (sides_on c.args.tops.now c.args.nodes.now) c.matches.from c.lead-head.result c.matches.spent c.lead-head.new.spent (sides_on c.matches.tops c.matches.nodes) (sides_on c.lead-head.new.tops c.lead-head.new.nodes) c.matches.invariant.within
+            or_top i (sides_on c.weigh-weight.new.tops c.weigh-weight.new.nodes) _ c.weigh-weight.ensures.moved.sound
+            (or_matches i c.args.target c.args.need c.requires.needed c.args.spent.now (sides_on c.args.tops.now c.args.nodes.now) c.lead-head.result c.weigh-weight.new.spent c.weigh-weight.result (sides_on c.lead-head.new.tops c.lead-head.new.nodes) (sides_on c.weigh-weight.new.tops c.weigh-weight.new.nodes) (omega (arith, c.if-head-ge-END.false))
+            (or_weighed i c.args.target c.args.need c.requires.needed c.args.spent.now (sides_on c.args.tops.now c.args.nodes.now) c.lead-head.result c.lead-head.new.spent c.weigh-weight.new.spent c.weigh-weight.result (sides_on c.lead-head.new.tops c.lead-head.new.nodes) (sides_on c.weigh-weight.new.tops c.weigh-weight.new.nodes) (omega (arith, c.if-head-ge-END.false))
+            (or_led i c.args.target c.args.need c.requires.needed c.args.spent.now (sides_on c.args.tops.now c.args.nodes.now) c.matches.from c.lead-head.result c.matches.spent c.lead-head.new.spent (sides_on c.matches.tops c.matches.nodes) (sides_on c.lead-head.new.tops c.lead-head.new.nodes) c.matches.invariant.within
             c.matches.invariant.far c.lead-head.ensures.led c.lead-head.ensures.moved.sound c.lead-head.ensures.moved.falls c.lead-head.ensures.moved.smaller c.lead-head.ensures.moved.kept)
             c.weigh-weight.ensures.weighed c.weigh-weight.ensures.moved.sound c.weigh-weight.ensures.moved.falls c.weigh-weight.ensures.moved.smaller c.weigh-weight.ensures.moved.kept)
             c.weigh-weight.ensures.weighed (omega (arith, c.if-weight-need.true)))
-            c.odd_greatest-top.ensures.there c.odd_greatest-top.ensures.ended;
+            c.sides_greatest-top.ensures.there c.sides_greatest-top.ensures.ended;
         sound = search rules;
         covers =
             let i = c.args.index.now in
-            any_found i c.args.target c.args.need c.requires.needed c.args.spent.now (sides_on c.args.tops.now c.args.nodes.now) c.lead-head.result c.weigh-weight.new.spent (sides_on c.weigh-weight.new.tops c.weigh-weight.new.nodes)
-            (any_weighed i c.args.target c.args.need c.requires.needed c.args.spent.now (sides_on c.args.tops.now c.args.nodes.now) c.lead-head.result c.lead-head.new.spent c.weigh-weight.new.spent c.weigh-weight.result (sides_on c.lead-head.new.tops c.lead-head.new.nodes) (sides_on c.weigh-weight.new.tops c.weigh-weight.new.nodes) (omega (arith, c.if-head-ge-END.false))
-            (any_led i c.args.target c.args.need c.requires.needed c.args.spent.now (sides_on c.args.tops.now c.args.nodes.now) c.matches.from c.lead-head.result c.matches.spent c.lead-head.new.spent (sides_on c.matches.tops c.matches.nodes) (sides_on c.lead-head.new.tops c.lead-head.new.nodes) c.matches.invariant.within
+            or_found i c.args.target c.args.need c.requires.needed c.args.spent.now (sides_on c.args.tops.now c.args.nodes.now) c.lead-head.result c.weigh-weight.new.spent (sides_on c.weigh-weight.new.tops c.weigh-weight.new.nodes)
+            (or_weighed i c.args.target c.args.need c.requires.needed c.args.spent.now (sides_on c.args.tops.now c.args.nodes.now) c.lead-head.result c.lead-head.new.spent c.weigh-weight.new.spent c.weigh-weight.result (sides_on c.lead-head.new.tops c.lead-head.new.nodes) (sides_on c.weigh-weight.new.tops c.weigh-weight.new.nodes) (omega (arith, c.if-head-ge-END.false))
+            (or_led i c.args.target c.args.need c.requires.needed c.args.spent.now (sides_on c.args.tops.now c.args.nodes.now) c.matches.from c.lead-head.result c.matches.spent c.lead-head.new.spent (sides_on c.matches.tops c.matches.nodes) (sides_on c.lead-head.new.tops c.lead-head.new.nodes) c.matches.invariant.within
             c.matches.invariant.far c.lead-head.ensures.led c.lead-head.ensures.moved.sound c.lead-head.ensures.moved.falls c.lead-head.ensures.moved.smaller c.lead-head.ensures.moved.kept)
             c.weigh-weight.ensures.weighed c.weigh-weight.ensures.moved.sound c.weigh-weight.ensures.moved.falls c.weigh-weight.ensures.moved.smaller c.weigh-weight.ensures.moved.kept)
             (c.weigh-weight.ensures.weighed.below (omega (arith, c.if-weight-need.true)));
         reached = omega arith;
       };
-      falls = omega (arith, c.odd_greatest-top.ensures.bound, c.weigh-weight.ensures.moved.falls, c.lead-head.ensures.moved.falls, c.matches.invariant.far.falls);
+      falls = omega (arith, c.sides_greatest-top.ensures.bound, c.weigh-weight.ensures.moved.falls, c.lead-head.ensures.moved.falls, c.matches.invariant.far.falls);
       smaller = omega (arith, c.weigh-weight.ensures.moved.smaller, c.lead-head.ensures.moved.smaller, c.matches.invariant.far.smaller);
       spends = record { paid = omega (arith, c.lead-head.ensures.spends.paid, c.weigh-weight.ensures.spends.paid, c.matches.invariant.spends.paid); counted = omega (arith, c.lead-head.ensures.spends.counted, c.weigh-weight.ensures.spends.counted, c.matches.invariant.spends.counted); later = omega (arith, c.lead-head.ensures.spends.later, c.weigh-weight.ensures.spends.later, c.matches.invariant.spends.later) };
     }
@@ -651,9 +661,9 @@ seek_some-returns-then-weight-need-clause-sought g t c =
 pub seek_some-returns-then-weight-need-clause-accounts : goal.seek_some-returns-then-weight-need-clause-accounts
 seek_some-returns-then-weight-need-clause-accounts g t c =
     let i = c.args.index.now in
-    any_kept i c.args.target c.args.need c.requires.needed c.args.spent.now (sides_on c.args.tops.now c.args.nodes.now) c.lead-head.result c.weigh-weight.new.spent (sides_on c.weigh-weight.new.tops c.weigh-weight.new.nodes)
-    (any_weighed i c.args.target c.args.need c.requires.needed c.args.spent.now (sides_on c.args.tops.now c.args.nodes.now) c.lead-head.result c.lead-head.new.spent c.weigh-weight.new.spent c.weigh-weight.result (sides_on c.lead-head.new.tops c.lead-head.new.nodes) (sides_on c.weigh-weight.new.tops c.weigh-weight.new.nodes) (omega (arith, c.if-head-ge-END.false))
-    (any_led i c.args.target c.args.need c.requires.needed c.args.spent.now (sides_on c.args.tops.now c.args.nodes.now) c.matches.from c.lead-head.result c.matches.spent c.lead-head.new.spent (sides_on c.matches.tops c.matches.nodes) (sides_on c.lead-head.new.tops c.lead-head.new.nodes) c.matches.invariant.within
+    or_kept i c.args.target c.args.need c.requires.needed c.args.spent.now (sides_on c.args.tops.now c.args.nodes.now) c.lead-head.result c.weigh-weight.new.spent (sides_on c.weigh-weight.new.tops c.weigh-weight.new.nodes)
+    (or_weighed i c.args.target c.args.need c.requires.needed c.args.spent.now (sides_on c.args.tops.now c.args.nodes.now) c.lead-head.result c.lead-head.new.spent c.weigh-weight.new.spent c.weigh-weight.result (sides_on c.lead-head.new.tops c.lead-head.new.nodes) (sides_on c.weigh-weight.new.tops c.weigh-weight.new.nodes) (omega (arith, c.if-head-ge-END.false))
+    (or_led i c.args.target c.args.need c.requires.needed c.args.spent.now (sides_on c.args.tops.now c.args.nodes.now) c.matches.from c.lead-head.result c.matches.spent c.lead-head.new.spent (sides_on c.matches.tops c.matches.nodes) (sides_on c.lead-head.new.tops c.lead-head.new.nodes) c.matches.invariant.within
     c.matches.invariant.far c.lead-head.ensures.led c.lead-head.ensures.moved.sound c.lead-head.ensures.moved.falls c.lead-head.ensures.moved.smaller c.lead-head.ensures.moved.kept)
     c.weigh-weight.ensures.weighed c.weigh-weight.ensures.moved.sound c.weigh-weight.ensures.moved.falls c.weigh-weight.ensures.moved.smaller c.weigh-weight.ensures.moved.kept)
 
@@ -698,15 +708,15 @@ reach_few-returns-in-Some-split_first_mut-clause-moved g t c =
     (moved_first i c.args.target c.args.spent.now c.reach.new.spent c.reach_few.new.spent _ _ _ _ (sides_on c.in-Some.tops.now c.in-Some-split_first_mut.nodes.now) c.reach.new.top (shape_of c.reach.new.node) (sides_on c.reach_few.new.tops c.reach_few.new.nodes)
     c.reach.ensures.sought c.reach.ensures.accounts.all c.reach_few.ensures.moved)
 
-pub seek_any-returns-then-need-eq0-clause-sought : goal.seek_any-returns-then-need-eq0-clause-sought
-seek_any-returns-then-need-eq0-clause-sought g t c = c.seek_all.ensures.sought c.args.need
+pub seek_or_many-returns-then-need-eq0-clause-sought : goal.seek_or_many-returns-then-need-eq0-clause-sought
+seek_or_many-returns-then-need-eq0-clause-sought g t c = c.seek_all.ensures.sought c.args.need
 
-pub seek_any-returns-then-need-eq0-clause-accounts : goal.seek_any-returns-then-need-eq0-clause-accounts
-seek_any-returns-then-need-eq0-clause-accounts g t c = c.seek_all.ensures.accounts c.args.need
+pub seek_or_many-returns-then-need-eq0-clause-accounts : goal.seek_or_many-returns-then-need-eq0-clause-accounts
+seek_or_many-returns-then-need-eq0-clause-accounts g t c = c.seek_all.ensures.accounts c.args.need
 
-pub seek_odd-all-init : goal.seek_odd-all-init
-seek_odd-all-init g t c = record {
-  far = odd_begun c.args.index.now c.args.target (sides_on c.args.tops.now c.args.nodes.now) c.requires.sides c.requires.target;
+pub seek_xor_many-all-init : goal.seek_xor_many-all-init
+seek_xor_many-all-init g t c = record {
+  far = xor_begun c.args.index.now c.args.target (sides_on c.args.tops.now c.args.nodes.now) c.requires.sides c.requires.target;
   spends = record { paid = omega arith; counted = omega arith; later = omega arith };
 }
 
@@ -715,9 +725,9 @@ seek_some-matches-preserved g t c =
     let i = c.args.index.now in
     record {
       far =
-          any_on i c.args.target c.args.need c.requires.needed c.args.spent.now (sides_on c.args.tops.now c.args.nodes.now) c.lead-head.result c.weigh-weight.new.spent c.weigh-weight.result (sides_on c.lead-head.new.tops c.lead-head.new.nodes) (sides_on c.weigh-weight.new.tops c.weigh-weight.new.nodes)
-          (any_weighed i c.args.target c.args.need c.requires.needed c.args.spent.now (sides_on c.args.tops.now c.args.nodes.now) c.lead-head.result c.lead-head.new.spent c.weigh-weight.new.spent c.weigh-weight.result (sides_on c.lead-head.new.tops c.lead-head.new.nodes) (sides_on c.weigh-weight.new.tops c.weigh-weight.new.nodes) (omega (arith, c.if-head-ge-END.false))
-          (any_led i c.args.target c.args.need c.requires.needed c.args.spent.now (sides_on c.args.tops.now c.args.nodes.now) c.matches.from c.lead-head.result c.matches.spent c.lead-head.new.spent (sides_on c.matches.tops c.matches.nodes) (sides_on c.lead-head.new.tops c.lead-head.new.nodes) c.matches.invariant.within
+          or_on i c.args.target c.args.need c.requires.needed c.args.spent.now (sides_on c.args.tops.now c.args.nodes.now) c.lead-head.result c.weigh-weight.new.spent c.weigh-weight.result (sides_on c.lead-head.new.tops c.lead-head.new.nodes) (sides_on c.weigh-weight.new.tops c.weigh-weight.new.nodes)
+          (or_weighed i c.args.target c.args.need c.requires.needed c.args.spent.now (sides_on c.args.tops.now c.args.nodes.now) c.lead-head.result c.lead-head.new.spent c.weigh-weight.new.spent c.weigh-weight.result (sides_on c.lead-head.new.tops c.lead-head.new.nodes) (sides_on c.weigh-weight.new.tops c.weigh-weight.new.nodes) (omega (arith, c.if-head-ge-END.false))
+          (or_led i c.args.target c.args.need c.requires.needed c.args.spent.now (sides_on c.args.tops.now c.args.nodes.now) c.matches.from c.lead-head.result c.matches.spent c.lead-head.new.spent (sides_on c.matches.tops c.matches.nodes) (sides_on c.lead-head.new.tops c.lead-head.new.nodes) c.matches.invariant.within
           c.matches.invariant.far c.lead-head.ensures.led c.lead-head.ensures.moved.sound c.lead-head.ensures.moved.falls c.lead-head.ensures.moved.smaller c.lead-head.ensures.moved.kept)
           c.weigh-weight.ensures.weighed c.weigh-weight.ensures.moved.sound c.weigh-weight.ensures.moved.falls c.weigh-weight.ensures.moved.smaller c.weigh-weight.ensures.moved.kept)
           c.weigh-weight.ensures.weighed (omega (arith, c.if-weight-need.false));

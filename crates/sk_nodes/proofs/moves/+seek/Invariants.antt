@@ -7,8 +7,8 @@ use Rattle.sk_nodes.proofs.NodeLaws.{SidesSoFar}
 use Rattle.sk_nodes.proofs.MoveLaws.{AccountsSoFar}
 use Rattle.sk_nodes.proofs.FadingLaws.{FadesSoFar}
 use Rattle.sk_nodes.specs.Proximity.{entries_unread}
-use Rattle.sk_nodes.proofs.OddLaws.{OddSoFar}
-use Rattle.sk_nodes.proofs.AnyLaws.{AnySoFar}
+use Rattle.sk_nodes.proofs.ManyLaws.{XorSoFar}
+use Rattle.sk_nodes.proofs.OrManyLaws.{OrSoFar}
 use Rattle.sk_nodes.proofs.ProximityLaws.{TestSoFar}
 use Rattle.sk_nodes.proofs.moves.+seek.Given as goal
 
@@ -38,11 +38,11 @@ invariant-seek_pair-sides g l = record {
 abbrev pub decreases-seek_pair-sides : goal.decreases-seek_pair-sides
 decreases-seek_pair-sides g l = 2 ^ 32 - l.from
 
-abbrev pub decreases-seek_odd : goal.decreases-seek_odd
-decreases-seek_odd g l = 5 * sizes_in (sides_on l.tops.now l.nodes.now) + 4
+abbrev pub decreases-seek_xor_many : goal.decreases-seek_xor_many
+decreases-seek_xor_many g l = 5 * sizes_in (sides_on l.tops.now l.nodes.now) + 4
 
-abbrev pub decreases-seek_any : goal.decreases-seek_any
-decreases-seek_any g l = 5 * sizes_in (sides_on l.tops.now l.nodes.now) + 5
+abbrev pub decreases-seek_or_many : goal.decreases-seek_or_many
+decreases-seek_or_many g l = 5 * sizes_in (sides_on l.tops.now l.nodes.now) + 5
 
 abbrev pub decreases-seek_some : goal.decreases-seek_some
 decreases-seek_some g l = 5 * sizes_in (sides_on l.tops.now l.nodes.now) + 4
@@ -55,7 +55,7 @@ decreases-weigh g l = 5 * sizes_in (sides_on l.tops.now l.nodes.now) + 2
 
 abbrev pub invariant-seek_some-matches : goal.invariant-seek_some-matches
 invariant-seek_some-matches g l = record {
-  far : AnySoFar l.index l.target l.need l.from l.fn.spent l.spent (sides_on l.fn.tops l.fn.nodes) (sides_on l.tops l.nodes);
+  far : OrSoFar l.index l.target l.need l.from l.fn.spent l.spent (sides_on l.fn.tops l.fn.nodes) (sides_on l.tops l.nodes);
   within : l.from < 2 ^ 32;
   spends : Spends (unread_in l.index (sides_on l.fn.tops l.fn.nodes)) (unread_in l.index (sides_on l.tops l.nodes)) l.fn.spent l.spent l.fn.steps l.steps;
 }
@@ -72,23 +72,23 @@ decreases-reach_all g l = 5 * sizes_in (sides_on l.tops.now l.nodes.now) + 3
 abbrev pub decreases-reach_few : goal.decreases-reach_few
 decreases-reach_few g l = 5 * sizes_in (sides_on l.tops.now l.nodes.now) + 2
 
-abbrev pub invariant-seek_odd-all : goal.invariant-seek_odd-all
-invariant-seek_odd-all g l = record {
-  far : OddSoFar l.index l.target l.from (sides_on l.fn.tops l.fn.nodes) (sides_on l.tops l.nodes);
+abbrev pub invariant-seek_xor_many-all : goal.invariant-seek_xor_many-all
+invariant-seek_xor_many-all g l = record {
+  far : XorSoFar l.index l.target l.from (sides_on l.fn.tops l.fn.nodes) (sides_on l.tops l.nodes);
   spends : Spends (unread_in l.index (sides_on l.fn.tops l.fn.nodes)) (unread_in l.index (sides_on l.tops l.nodes)) l.fn.spent l.spent l.fn.steps l.steps;
 }
 
-abbrev pub decreases-seek_odd-all : goal.decreases-seek_odd-all
-decreases-seek_odd-all g l = 2 ^ 32 - l.from
+abbrev pub decreases-seek_xor_many-all : goal.decreases-seek_xor_many-all
+decreases-seek_xor_many-all g l = 2 ^ 32 - l.from
 
-abbrev pub decreases-seek_tested : goal.decreases-seek_tested
-decreases-seek_tested g l = 5 * size_of (shape_of l.node.now) + 4
+abbrev pub decreases-seek_positional : goal.decreases-seek_positional
+decreases-seek_positional g l = 5 * size_of (shape_of l.node.now) + 4
 
-abbrev pub invariant-seek_tested-tests : goal.invariant-seek_tested-tests
-invariant-seek_tested-tests g l = record {
+abbrev pub invariant-seek_positional-tests : goal.invariant-seek_positional-tests
+invariant-seek_positional-tests g l = record {
   far : TestSoFar l.index l.target l.need l.from l.fn.test l.fn.below (shape_of l.fn.node) l.test l.below (shape_of l.node);
   spends : Spends (unread_of l.index (shape_of l.fn.node) + entries_unread l.index l.fn.test.next l.fn.test.numbers.items) (unread_of l.index (shape_of l.node) + entries_unread l.index l.test.next l.test.numbers.items) l.fn.spent l.spent l.fn.steps l.steps;
 }
 
-abbrev pub decreases-seek_tested-tests : goal.decreases-seek_tested-tests
-decreases-seek_tested-tests g l = 2 ^ 32 - l.from
+abbrev pub decreases-seek_positional-tests : goal.decreases-seek_positional-tests
+decreases-seek_positional-tests g l = 2 ^ 32 - l.from

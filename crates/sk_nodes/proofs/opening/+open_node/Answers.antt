@@ -5,12 +5,12 @@ use Rattle.sk_model.specs.Bounds.{ceil, ceils, ceil_of, lengths_of}
 use Rattle.sk_model.specs.Allowance.{leaves_readings}
 use Rattle.sk_nodes.specs.Shapes.{shape_of, sides_on}
 use Rattle.sk_nodes.specs.Left.{unread_in}
-use Rattle.sk_nodes.specs.Proximity.{entries_unread, AreInOrder}
+use Rattle.sk_nodes.specs.Proximity.{entries_unread, AreInOrder, proximity_query}
 use Rattle.sk_nodes.specs.Opened.{score_of, part_scores, joint_score_of, parts_size, AreParts, Opens}
-use Rattle.sk_nodes.proofs.OddLaws.{unread_behind, opens_behind}
+use Rattle.sk_nodes.proofs.ManyLaws.{unread_behind, opens_behind}
 use Rattle.sk_nodes.proofs.NodeLaws.{shape_of-Nothing}
 use Rattle.sk_nodes.proofs.ListLaws.{nothing_opened}
-use Rattle.sk_nodes.proofs.StandingLaws.{missing_none, fewer_numbers, all_numbered, terms_are, terms_size, terms_ceils, terms_readings, entries_all, test_opened, standing_opened}
+use Rattle.sk_nodes.proofs.ProximityOpenLaws.{missing_none, fewer_numbers, all_numbered, terms_are, terms_size, terms_ceils, terms_readings, entries_all, test_opened, proximity_opened}
 use Rattle.std.proofs.lemmas.Result.{IfOk-weaker}
 use Rattle.sk_query.specs.Trees as Trees
 use Rattle.sk_query.specs.Trees.{query_view, queries_view}
@@ -19,19 +19,20 @@ use Rattle.sk_nodes.proofs.NestLaws.{one_term, paired_nest}
 use Rattle.sk_nodes.proofs.LedLaws.{lone_following}
 use Rattle.std.proofs.Common.{[], ◌∷◌}
 use Rattle.sk_model.specs.Edits.{document_at}
-use Rattle.sk_nodes.proofs.PartsLaws.{of_parts, only_part, odd_sides, or_sides}
+use Rattle.sk_nodes.proofs.PartsLaws.{of_parts, only_part, xor_sides, or_sides}
+use Rattle.sk_nodes.proofs.FormLaws.{none_left}
 use Rattle.sk_nodes.proofs.CountLaws.{counted}
-use Rattle.sk_nodes.proofs.OpenedQueryLaws.{other_query, term_query, synonym_query, wildcard_query, parts_query, only_query, odd_parts_query, any_parts_query, pair_parts_query, sides_opened, pair_opened, one_side_opened, IfOk-four}
-use Rattle.sk_nodes.specs.Any.{OpensTerms}
-use Rattle.sk_nodes.proofs.AnyOpenLaws.{one_opens, opens_both}
+use Rattle.sk_nodes.proofs.OpenedQueryLaws.{other_query, term_query, synonym_query, wildcard_query, parts_query, only_query, xor_parts_query, or_parts_query, pair_parts_query, sides_opened, pair_opened, one_side_opened}
+use Rattle.sk_nodes.specs.OrMany.{OpensTerms}
+use Rattle.sk_nodes.proofs.OrManyOpenLaws.{one_opens, opens_both}
 use Rattle.sk_nodes.proofs.opening.+open_node.Goals as goal
 
 pub open_sides-returns-clause-opens : goal.open_sides-returns-clause-opens
 open_sides-returns-clause-opens g t c =
     let i = c.args.index.now in
-    let halves = c.odd_halves.ensures c.args.factor c.requires.parts in
+    let halves = c.side_halves.ensures c.args.factor c.requires.parts in
     opens_behind i (sides_on c.in_ok-some_tops.some_tops.items c.in_ok-some_tops.some_nodes.items) (sides_on c.in_ok-more_tops.more_tops.items c.in_ok-more_tops.more_nodes.items) (sides_on c.in_ok-tops-2.tops.items c.in_ok-tops-2.nodes.items)
-    (part_scores (queries_view c.odd_halves.result.0.now) c.args.scheme c.args.factor) (part_scores (queries_view c.odd_halves.result.1.now) c.args.scheme c.args.factor) (part_scores (queries_view c.args.parts.now) c.args.scheme c.args.factor)
+    (part_scores (queries_view c.side_halves.result.0.now) c.args.scheme c.args.factor) (part_scores (queries_view c.side_halves.result.1.now) c.args.scheme c.args.factor) (part_scores (queries_view c.args.parts.now) c.args.scheme c.args.factor)
     _ _ _ c.in_ok-tops-2.ensures.sides (halves.scores c.args.scheme) (halves.ceiling c.args.scheme i.live.documents) c.in_ok-some_tops.ensures.opens c.in_ok-more_tops.ensures.opens
 
 pub open_sides-returns-clause-pays : goal.open_sides-returns-clause-pays
@@ -43,36 +44,36 @@ open_sides-returns-clause-pays g t c =
     let others = c.in_ok-more_tops.ensures.pays in
     record {
       paid = omega (arith, whole, first.paid, others.paid);
-      within = omega (arith, first.within, others.within, (c.odd_halves.ensures c.args.factor c.requires.parts).readings i.live.documents);
+      within = omega (arith, first.within, others.within, (c.side_halves.ensures c.args.factor c.requires.parts).readings i.live.documents);
       room = others.room;
     }
 
-pub open_standing-returns-then-len-words-clause-opens : goal.open_standing-returns-then-len-words-clause-opens
-open_standing-returns-then-len-words-clause-opens g t c =
+pub open_proximity-returns-then-len-words-clause-opens : goal.open_proximity-returns-then-len-words-clause-opens
+open_proximity-returns-then-len-words-clause-opens g t c =
     let i = c.args.index.now in
-    nothing_opened i c.ended.result _ _ _ c.ended.ensures shape_of-Nothing
-    (λ id. missing_none i c.args.standing c.args.window c.args.words.now c.args.scheme c.args.factor id c.in_ok-numbers.ensures.complete
+    nothing_opened i c.ended.result _ (score_of (proximity_query c.args.kind c.args.window c.args.words.now) c.args.scheme c.args.factor) _ c.ended.ensures shape_of-Nothing
+    (λ id. missing_none i c.args.kind c.args.window c.args.words.now c.args.scheme c.args.factor id c.in_ok-numbers.ensures.complete
     (fewer_numbers i c.in_ok-numbers.numbers.items c.args.words.now c.in_ok-numbers.ensures.terms (omega (arith, c.if-len-words.true, c.len.ensures))))
 
-pub open_standing-open_parts-requires : goal.open_standing-open_parts-requires
-open_standing-open_parts-requires g t c κs within =
+pub open_proximity-open_parts-requires : goal.open_proximity-open_parts-requires
+open_proximity-open_parts-requires g t c κs within =
     let view = ap queries_view c.as_slice.ensures.value ∙ c.in_ok-terms.ensures in (
       omega (arith, c.decreases, ap parts_size view, terms_size c.args.words.now),
       (within, (c.requires.can, subst (λ ts. AreParts Form.And c.args.factor ts) (sym view) (terms_are c.args.factor c.args.window c.args.words.now c.requires.sound c.requires.leaves))),
     )
 
-pub open_standing-returns-clause-opens : goal.open_standing-returns-clause-opens
-open_standing-returns-clause-opens g t c =
+pub open_proximity-returns-clause-opens : goal.open_proximity-returns-clause-opens
+open_proximity-returns-clause-opens g t c =
     let i = c.args.index.now in
     let view = ap queries_view c.as_slice.ensures.value ∙ c.in_ok-terms.ensures in
     let named = all_numbered i c.in_ok-numbers.numbers.items c.args.words.now c.in_ok-numbers.ensures.terms (omega (arith, c.if-len-words.false, c.len.ensures)) in
-    standing_opened i (record { standing = c.args.standing; window = c.args.window; numbers = c.in_ok-numbers.numbers; marks = c.in_ok-marks.marks; places = c.in_ok-places.places; next = 0 }) c.in_ok-below.below c.in_ok-top.top (shape_of c.in_ok-below.node) (shape_of c.in_ok-top.node) c.args.words.now c.args.scheme c.args.factor _ named
+    proximity_opened i (record { kind = c.args.kind; window = c.args.window; numbers = c.in_ok-numbers.numbers; marks = c.in_ok-marks.marks; places = c.in_ok-places.places; next = 0 }) c.in_ok-below.below c.in_ok-top.top (shape_of c.in_ok-below.node) (shape_of c.in_ok-top.node) c.args.words.now c.args.scheme c.args.factor _ named
     (subst (λ ts. Opens i c.in_ok-below.below (shape_of c.in_ok-below.node) (joint_score_of Form.And ts c.args.scheme c.args.factor) (ceil_of Form.And (ceils ts c.args.scheme c.args.factor i.live.documents))) view c.in_ok-below.ensures.opens)
     (terms_ceils c.args.words.now c.args.scheme c.args.factor i.live.documents)
-    c.in_ok-top.ensures.top c.in_ok-top.ensures.sound c.in_ok-top.ensures.gives c.in_ok-top.ensures.ceiling
+    c.in_ok-top.ensures.yields
 
-pub open_standing-returns-clause-pays : goal.open_standing-returns-clause-pays
-open_standing-returns-clause-pays g t c =
+pub open_proximity-returns-clause-pays : goal.open_proximity-returns-clause-pays
+open_proximity-returns-clause-pays g t c =
     let i = c.args.index.now in
     let view = ap queries_view c.as_slice.ensures.value ∙ c.in_ok-terms.ensures in
     let named = all_numbered i c.in_ok-numbers.numbers.items c.args.words.now c.in_ok-numbers.ensures.terms (omega (arith, c.if-len-words.false, c.len.ensures)) in
@@ -86,12 +87,12 @@ open_standing-returns-clause-pays g t c =
       room = omega (arith, listed, pays.paid, c.in_ok-top.ensures.paid, c.in_ok-add_lengths.ensures.sum, c.requires.can.read.room);
     }
 
-pub open_standing-tested_of-requires-clause-tested : goal.open_standing-tested_of-requires-clause-tested
-open_standing-tested_of-requires-clause-tested g t c =
+pub open_proximity-positional_of-requires-clause-positional : goal.open_proximity-positional_of-requires-clause-positional
+open_proximity-positional_of-requires-clause-positional g t c =
     let i = c.args.index.now in
     let view = ap queries_view c.as_slice.ensures.value ∙ c.in_ok-terms.ensures in
     let named = all_numbered i c.in_ok-numbers.numbers.items c.args.words.now c.in_ok-numbers.ensures.terms (omega (arith, c.if-len-words.false, c.len.ensures)) in
-    test_opened i (record { standing = c.args.standing; window = c.args.window; numbers = c.in_ok-numbers.numbers; marks = c.in_ok-marks.marks; places = c.in_ok-places.places; next = 0 }) c.in_ok-below.below (shape_of c.in_ok-below.node) c.args.words.now c.args.scheme c.args.factor _ c.requires.sound named
+    test_opened i (record { kind = c.args.kind; window = c.args.window; numbers = c.in_ok-numbers.numbers; marks = c.in_ok-marks.marks; places = c.in_ok-places.places; next = 0 }) c.in_ok-below.below (shape_of c.in_ok-below.node) c.args.words.now c.args.scheme c.args.factor _ c.requires.sound named
     (omega (arith, c.in_ok-marks.ensures.len, c.len-2.ensures)) (omega (arith, c.in_ok-places.ensures.len, c.len-3.ensures)) c.in_ok-numbers.ensures.there (subst (λ (ns : List ℕ). AreInOrder i ns) c.as_slice-2.ensures.value c.in_ok-add_lengths.ensures.sorted) refl c.requires.can.read.documents
     (subst (λ ts. Opens i c.in_ok-below.below (shape_of c.in_ok-below.node) (joint_score_of Form.And ts c.args.scheme c.args.factor) (ceil_of Form.And (ceils ts c.args.scheme c.args.factor i.live.documents))) view c.in_ok-below.ensures.opens)
 
@@ -123,11 +124,11 @@ open_node-returns-in-Scale-clause-accounts g t c =
 
 pub open_node-returns-in-Near-clause-accounts : goal.open_node-returns-in-Near-clause-accounts
 open_node-returns-in-Near-clause-accounts g t c =
-    IfOk-weaker c.open_standing.result _ _ (λ p h. other_query c.args.index.now c.args.scheme c.args.factor p.0 (shape_of p.1) c.args.spent.now c.open_standing.new.spent (query_view c.args.query.now) _ (ap query_view c.in-Near.is ∙ view-Near _ _) tt) c.open_standing.ensures.opens
+    IfOk-weaker c.open_proximity.result _ _ (λ p h. other_query c.args.index.now c.args.scheme c.args.factor p.0 (shape_of p.1) c.args.spent.now c.open_proximity.new.spent (query_view c.args.query.now) _ (ap query_view c.in-Near.is ∙ view-Near _ _) tt) c.open_proximity.ensures.opens
 
 pub open_node-returns-in-Phrase-clause-accounts : goal.open_node-returns-in-Phrase-clause-accounts
 open_node-returns-in-Phrase-clause-accounts g t c =
-    IfOk-weaker c.open_standing-in-Phrase.result _ _ (λ p h. other_query c.args.index.now c.args.scheme c.args.factor p.0 (shape_of p.1) c.args.spent.now c.open_standing-in-Phrase.new.spent (query_view c.args.query.now) _ (ap query_view c.in-Phrase.is ∙ view-Phrase _ _) tt) c.open_standing-in-Phrase.ensures.opens
+    IfOk-weaker c.open_proximity-in-Phrase.result _ _ (λ p h. other_query c.args.index.now c.args.scheme c.args.factor p.0 (shape_of p.1) c.args.spent.now c.open_proximity-in-Phrase.new.spent (query_view c.args.query.now) _ (ap query_view c.in-Phrase.is ∙ view-Phrase _ _) tt) c.open_proximity-in-Phrase.ensures.opens
 
 pub open_node-returns-in-Range-clause-accounts : goal.open_node-returns-in-Range-clause-accounts
 open_node-returns-in-Range-clause-accounts g t c =
@@ -144,34 +145,34 @@ open_parts-returns-in-Some-clause-accounts g t c =
 
 pub open_parts-returns-then-not-is_nest-clause-accounts : goal.open_parts-returns-then-not-is_nest-clause-accounts
 open_parts-returns-then-not-is_nest-clause-accounts g t c =
-    odd_parts_query c.args.index.now c.args.form (queries_view c.args.parts.now) c.args.scheme c.args.factor _ _ _ _ (sym c.is_nest.ensures ∙ c.if-not-is_nest.true) (omega (arith, counted c.args.parts.now, c.in_default.ensures.many))
+    xor_parts_query c.args.index.now c.args.form (queries_view c.args.parts.now) c.args.scheme c.args.factor _ _ _ _ (sym c.is_nest.ensures ∙ c.if-not-is_nest.true) (omega (arith, counted c.args.parts.now, c.in_default.ensures.many))
 
 pub open_parts-returns-then-not-is_nest-clause-opens : goal.open_parts-returns-then-not-is_nest-clause-opens
 open_parts-returns-then-not-is_nest-clause-opens g t c =
     sides_opened c.args.index.now c.args.form Form.Xor c.args.factor (queries_view c.args.parts.now) c.args.scheme (sides_on c.in_ok-tops.tops.items c.in_ok-tops.nodes.items) _ _
-    (odd_sides c.args.form c.args.factor (queries_view c.args.parts.now) _ (sym c.is_nest.ensures ∙ c.if-not-is_nest.true) c.requires.parts c.requires.can.bounded) c.in_ok-tops.ensures.opens c.odd_of-node.ensures.gathers
+    (xor_sides c.args.form c.args.factor (queries_view c.args.parts.now) _ (sym c.is_nest.ensures ∙ c.if-not-is_nest.true) c.requires.parts c.requires.can.bounded) c.in_ok-tops.ensures.opens c.xor_many_of-node.ensures.gathers
 
 pub open_parts-open_sides-requires : goal.open_parts-open_sides-requires
-open_parts-open_sides-requires g t c κs within = (omega (arith, c.decreases), (within, (c.requires.can, (odd_sides c.args.form c.args.factor (queries_view c.args.parts.now) _ (sym c.is_nest.ensures ∙ c.if-not-is_nest.true) c.requires.parts c.requires.can.bounded).parts)))
+open_parts-open_sides-requires g t c κs within = (omega (arith, c.decreases), (within, (c.requires.can, (xor_sides c.args.form c.args.factor (queries_view c.args.parts.now) _ (sym c.is_nest.ensures ∙ c.if-not-is_nest.true) c.requires.parts c.requires.can.bounded).parts)))
 
-pub open_parts-odd_of-node-requires-clause-fits : goal.open_parts-odd_of-node-requires-clause-fits
-open_parts-odd_of-node-requires-clause-fits g t c = omega (arith, (odd_sides c.args.form c.args.factor (queries_view c.args.parts.now) _ (sym c.is_nest.ensures ∙ c.if-not-is_nest.true) c.requires.parts c.requires.can.bounded).fits c.args.scheme c.args.index.now.live.documents c.requires.can.light, c.in_ok-tops.ensures.opens.ceiling)
+pub open_parts-xor_many_of-node-requires-clause-fits : goal.open_parts-xor_many_of-node-requires-clause-fits
+open_parts-xor_many_of-node-requires-clause-fits g t c = omega (arith, (xor_sides c.args.form c.args.factor (queries_view c.args.parts.now) _ (sym c.is_nest.ensures ∙ c.if-not-is_nest.true) c.requires.parts c.requires.can.bounded).fits c.args.scheme c.args.index.now.live.documents c.requires.can.light, c.in_ok-tops.ensures.opens.ceiling)
 
 pub open_parts-returns-then-is_many-clause-accounts : goal.open_parts-returns-then-is_many-clause-accounts
 open_parts-returns-then-is_many-clause-accounts g t c =
-    any_parts_query c.args.index.now c.args.form (queries_view c.args.parts.now) (sides_on c.in_ok-all_tops.all_tops.items c.in_ok-all_tops.all_nodes.items) c.args.scheme c.args.factor _ _ _ _ _ (c.is_many.ensures.form c.if-is_many.true)
-    (omega (arith, counted c.args.parts.now, c.is_many.ensures.many c.if-is_many.true)) c.in_ok-all_tops.ensures.terms c.any_of-node.ensures.accounts
+    or_parts_query c.args.index.now c.args.form (queries_view c.args.parts.now) (sides_on c.in_ok-all_tops.all_tops.items c.in_ok-all_tops.all_nodes.items) c.args.scheme c.args.factor _ _ _ _ _ (c.is_many.ensures.form c.if-is_many.true)
+    (omega (arith, counted c.args.parts.now, c.is_many.ensures.many c.if-is_many.true)) c.in_ok-all_tops.ensures.terms c.or_many_of-node.ensures.accounts
 
 pub open_parts-returns-then-is_many-clause-opens : goal.open_parts-returns-then-is_many-clause-opens
 open_parts-returns-then-is_many-clause-opens g t c =
     sides_opened c.args.index.now c.args.form Form.Or c.args.factor (queries_view c.args.parts.now) c.args.scheme (sides_on c.in_ok-all_tops.all_tops.items c.in_ok-all_tops.all_nodes.items) _ _
-    (or_sides c.args.form c.args.factor (queries_view c.args.parts.now) (c.is_many.ensures.form c.if-is_many.true) c.requires.parts c.requires.can.bounded) c.in_ok-all_tops.ensures.opens c.any_of-node.ensures.gathers
+    (or_sides c.args.form c.args.factor (queries_view c.args.parts.now) (c.is_many.ensures.form c.if-is_many.true) c.requires.parts c.requires.can.bounded) c.in_ok-all_tops.ensures.opens c.or_many_of-node.ensures.gathers
 
 pub open_parts-open_sides-requires-then-is_many : goal.open_parts-open_sides-requires-then-is_many
 open_parts-open_sides-requires-then-is_many g t c κs within = (omega (arith, c.decreases), (within, (c.requires.can, (or_sides c.args.form c.args.factor (queries_view c.args.parts.now) (c.is_many.ensures.form c.if-is_many.true) c.requires.parts c.requires.can.bounded).parts)))
 
-pub open_parts-any_of-node-requires-clause-fits : goal.open_parts-any_of-node-requires-clause-fits
-open_parts-any_of-node-requires-clause-fits g t c = omega (arith, (or_sides c.args.form c.args.factor (queries_view c.args.parts.now) (c.is_many.ensures.form c.if-is_many.true) c.requires.parts c.requires.can.bounded).fits c.args.scheme c.args.index.now.live.documents c.requires.can.light, c.in_ok-all_tops.ensures.opens.ceiling)
+pub open_parts-or_many_of-node-requires-clause-fits : goal.open_parts-or_many_of-node-requires-clause-fits
+open_parts-or_many_of-node-requires-clause-fits g t c = omega (arith, (or_sides c.args.form c.args.factor (queries_view c.args.parts.now) (c.is_many.ensures.form c.if-is_many.true) c.requires.parts c.requires.can.bounded).fits c.args.scheme c.args.index.now.live.documents c.requires.can.light, c.in_ok-all_tops.ensures.opens.ceiling)
 
 pub open_parts-returns-clause-accounts : goal.open_parts-returns-clause-accounts
 open_parts-returns-clause-accounts g t c =
@@ -192,7 +193,7 @@ open_sides-returns-in-Some-clause-terms g t c lists e =
 pub open_sides-returns-clause-terms : goal.open_sides-returns-clause-terms
 open_sides-returns-clause-terms g t c lists e =
     let i = c.args.index.now in
-    let split = (c.odd_halves.ensures c.args.factor c.requires.parts).terms lists e in
+    let split = (c.side_halves.ensures c.args.factor c.requires.parts).terms lists e in
     opens_both i (sides_on c.in_ok-tops-2.tops.items c.in_ok-tops-2.nodes.items) (sides_on c.in_ok-some_tops.some_tops.items c.in_ok-some_tops.some_nodes.items) (sides_on c.in_ok-more_tops.more_tops.items c.in_ok-more_tops.more_nodes.items)
     lists split.first split.second _ _ _ c.in_ok-tops-2.ensures.sides split.whole (c.in_ok-some_tops.ensures.terms split.first split.front_is) (c.in_ok-more_tops.ensures.terms split.second split.back_is)
 
@@ -206,9 +207,14 @@ open_node-returns-in-All-clause-opens g t c =
 pub open_node-returns-in-Range-clause-opens : goal.open_node-returns-in-Range-clause-opens
 open_node-returns-in-Range-clause-opens g t c =
     IfOk-weaker c.open_range.result _ _
-    (λ p h. subst (λ q. Opens c.args.index.now p.0 (shape_of p.1) (score_of q c.args.scheme c.args.factor) (ceil q c.args.scheme c.args.factor c.args.index.now.live.documents)) (sym (ap query_view c.in-Range.is ∙ view-Range _ _ _)) (h c.args.factor)) c.open_range.ensures.opens
+    (λ p h. subst (λ q. Opens c.args.index.now p.0 (shape_of p.1) (score_of q c.args.scheme c.args.factor) (ceil q c.args.scheme c.args.factor c.args.index.now.live.documents)) (sym (ap query_view c.in-Range.is ∙ view-Range _ _ _)) (h c.args.scheme c.args.factor)) c.open_range.ensures.opens
 
 -- ---- queries and parts
+
+pub open_node-unreachable-requires : goal.open_node-unreachable-requires
+open_node-unreachable-requires g t c =
+    let other = c.in_default-query in
+    none_left c.args.query.now c.in_default.ensures.none other.not-Nothing other.not-All other.not-Term other.not-Wildcard other.not-Near other.not-Phrase other.not-Synonym other.not-Scale other.not-Range
 
 pub open_node-open_parts-requires : goal.open_node-open_parts-requires
 open_node-open_parts-requires g t c κs within =
@@ -251,12 +257,12 @@ open_sides-open_node-requires g t c κs within =
 
 pub open_sides-open_sides-requires : goal.open_sides-open_sides-requires
 open_sides-open_sides-requires g t c κs within =
-    let halves = c.odd_halves.ensures c.args.factor c.requires.parts in
+    let halves = c.side_halves.ensures c.args.factor c.requires.parts in
     (omega (arith, c.decreases, halves.front_size), (within, (c.requires.can, halves.front)))
 
 pub open_sides-open_sides-requires-2 : goal.open_sides-open_sides-requires-2
 open_sides-open_sides-requires-2 g t c κs within =
-    let halves = c.odd_halves.ensures c.args.factor c.requires.parts in (
+    let halves = c.side_halves.ensures c.args.factor c.requires.parts in (
       omega (arith, c.decreases, halves.back_size),
       (
         within,
@@ -293,19 +299,21 @@ open_parts-open_parts-requires-2 g t c κs within =
       ),
     )
 
-pub open_parts-pair_of-requires-clause-fits : goal.open_parts-pair_of-requires-clause-fits
-open_parts-pair_of-requires-clause-fits g t c =
+pub open_parts-pair_of-requires-clause-pair : goal.open_parts-pair_of-requires-clause-pair
+open_parts-pair_of-requires-clause-pair g t c =
     let splits = c.split_parts.ensures.splits c.args.factor c.requires.can.bounded c.requires.parts in
     let docs = c.args.index.now.live.documents in
     let back = ap (λ f. ceil_of f (ceils (queries_view c.split_parts.result.1.now) c.args.scheme c.args.factor docs)) c.others_of.ensures in
-    omega (arith, splits.fits c.args.scheme docs c.requires.can.light, c.in_ok-ta.ensures.opens.ceiling, c.in_ok-tb.ensures.opens.ceiling, back)
+    let a = c.in_ok-ta.ensures.opens in
+    let b = c.in_ok-tb.ensures.opens in
+    record { first = a.top; second = b.top; first_sound = a.sound; second_sound = b.sound; fits = omega (arith, splits.fits c.args.scheme docs c.requires.can.light, a.ceiling, b.ceiling, back) }
 
 pub open_parts-returns-clause-opens : goal.open_parts-returns-clause-opens
 open_parts-returns-clause-opens g t c =
-    IfOk-four c.pair_of.result _ _ _ _ _
-    (λ p top sound gives ceiling. pair_opened c.args.index.now c.args.form c.others_of.result c.args.factor (queries_view c.args.parts.now) (queries_view c.split_parts.result.0.now) (queries_view c.split_parts.result.1.now) c.args.scheme
-    c.in_ok-ta.ta (shape_of c.in_ok-ta.a) c.in_ok-tb.tb (shape_of c.in_ok-tb.b) p.0 (shape_of p.1) c.others_of.ensures (c.split_parts.ensures.splits c.args.factor c.requires.can.bounded c.requires.parts) c.in_ok-ta.ensures.opens c.in_ok-tb.ensures.opens top sound gives ceiling)
-    c.pair_of.ensures.top c.pair_of.ensures.sound c.pair_of.ensures.gives c.pair_of.ensures.ceiling
+    IfOk-weaker c.pair_of.result _ _
+    (λ p h. pair_opened c.args.index.now c.args.form c.others_of.result c.args.factor (queries_view c.args.parts.now) (queries_view c.split_parts.result.0.now) (queries_view c.split_parts.result.1.now) c.args.scheme
+    c.in_ok-ta.ta (shape_of c.in_ok-ta.a) c.in_ok-tb.tb (shape_of c.in_ok-tb.b) p.0 (shape_of p.1) c.others_of.ensures (c.split_parts.ensures.splits c.args.factor c.requires.can.bounded c.requires.parts) c.in_ok-ta.ensures.opens c.in_ok-tb.ensures.opens h)
+    c.pair_of.ensures.yields
 
 pub open_parts-returns-clause-pays : goal.open_parts-returns-clause-pays
 open_parts-returns-clause-pays g t c =

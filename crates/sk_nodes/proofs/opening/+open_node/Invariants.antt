@@ -13,5 +13,5 @@ decreases-open_parts g l = 3 * parts_size (queries_view l.parts.now) + 2
 abbrev pub decreases-open_sides : goal.decreases-open_sides
 decreases-open_sides g l = 3 * parts_size (queries_view l.parts.now) + 1
 
-abbrev pub decreases-open_standing : goal.decreases-open_standing
-decreases-open_standing g l = 3 * length l.words.now + 8
+abbrev pub decreases-open_proximity : goal.decreases-open_proximity
+decreases-open_proximity g l = 3 * length l.words.now + 8

@@ -8,8 +8,8 @@ pub returns-clause-opens : goal.returns-clause-opens
 returns-clause-opens g c factor =
     let docs = c.args.index.now.live.documents in
     record {
-      top = c.in_ok-top.ensures.top;
-      sound = c.in_ok-top.ensures.sound;
-      gives = λ id. c.in_ok-top.ensures.gives id ∙ weighed-all factor c.args.scheme docs id;
-      ceiling = subst (λ n. c.in_ok-top.top.greatest ≤ n) (greatest-all c.args.scheme (all_postings docs)) c.in_ok-top.ensures.ceiling;
+      top = c.in_ok-top.ensures.yields.top;
+      sound = c.in_ok-top.ensures.yields.sound;
+      gives = λ id. c.in_ok-top.ensures.yields.gives id ∙ weighed-all factor c.args.scheme docs id;
+      ceiling = subst (λ n. c.in_ok-top.top.greatest ≤ n) (greatest-all c.args.scheme (all_postings docs)) c.in_ok-top.ensures.yields.ceiling;
     }

@@ -14,10 +14,10 @@ returns-clause-opens g c =
     let i = c.args.index.now in
     let t = term_at i.terms c.args.number in
     record {
-      top = c.in_ok-top.ensures.top;
-      sound = c.in_ok-top.ensures.sound;
-      gives = λ id. c.in_ok-top.ensures.gives id ∙ weighed-term c.args.factor c.args.scheme t i.live.documents c.requires.can.documents id;
-      ceiling = subst (λ n. c.in_ok-top.top.greatest ≤ n) (greatest-term c.args.factor c.args.scheme t i.live.documents) c.in_ok-top.ensures.ceiling;
+      top = c.in_ok-top.ensures.yields.top;
+      sound = c.in_ok-top.ensures.yields.sound;
+      gives = λ id. c.in_ok-top.ensures.yields.gives id ∙ weighed-term c.args.factor c.args.scheme t i.live.documents c.requires.can.documents id;
+      ceiling = subst (λ n. c.in_ok-top.top.greatest ≤ n) (greatest-term c.args.factor c.args.scheme t i.live.documents) c.in_ok-top.ensures.yields.ceiling;
     }
 
 pub returns-clause-pays : goal.returns-clause-pays

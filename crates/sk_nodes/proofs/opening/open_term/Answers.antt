@@ -16,7 +16,7 @@ use Rattle.sk_nodes.proofs.opening.open_term.Goals as goal
 pub returns-in-None-clause-opens : goal.returns-in-None-clause-opens
 returns-in-None-clause-opens g c =
     let docs = c.args.index.now.live.documents in
-    nothing_opened c.args.index.now c.ended.result _ _ _ c.ended.ensures shape_of-Nothing
+    nothing_opened c.args.index.now c.ended.result _ (score_of (Query.term c.args.word.now) c.args.scheme c.args.factor) _ c.ended.ensures shape_of-Nothing
     (λ id. term-none c.args.scheme c.args.factor c.args.word.now docs id
     (subst (λ (t : List ℕ). some_has t docs ≡ false) (c.as_bytes.ensures.value ∙ c.as_str.ensures) c.in-None.ensures.found))
 

@@ -6,7 +6,7 @@ use Rattle.sk_query.specs.Fits.{are_different}
 use Rattle.sk_model.specs.Bounds.{lengths_of}
 use Rattle.sk_model.specs.Edits.{document_at}
 use Rattle.sk_nodes.specs.Shapes.{shape_of}
-use Rattle.sk_nodes.specs.Opened.{score_of, joint_form}
+use Rattle.sk_nodes.specs.Opened.{score_of, joint_form, synonym_of}
 use Rattle.sk_nodes.proofs.SynonymLaws.{numbered_apart, numbered_score, numbered_readings, synonym_apart, synonym_at_most, query_capped}
 use Rattle.sk_nodes.proofs.NestLaws.{other_opens, joint_joint, numbered_entered}
 use Rattle.sk_nodes.proofs.synonym.open_synonym.Goals as goal
@@ -21,7 +21,7 @@ pub returns-clause-opens : goal.returns-clause-opens
 returns-clause-opens g c =
     let i = c.args.index.now in
     let query = query_view c.args.query.now in
-    query_capped i c.in_ok-top.top c.capped.result (shape_of c.in_ok-top.node) query _ c.args.scheme c.args.factor _ c.ceil-bound.result c.capped.ensures.head c.capped.ensures.weight c.capped.ensures.greatest
+    query_capped i c.in_ok-top.top c.capped.result (shape_of c.in_ok-top.node) query (score_of (synonym_of i c.as_slice.result.now) c.args.scheme c.args.factor) c.args.scheme c.args.factor _ c.ceil-bound.result c.capped.ensures.head c.capped.ensures.weight c.capped.ensures.greatest
     c.ceil-bound.ensures c.in_ok-top.ensures.opens
     (λ id. numbered_score i c.in_ok-numbers.ensures.complete c.args.words.now _ c.args.scheme c.args.factor id (ap (λ (ns : List ℕ). map (term_at i.terms) ns) c.as_slice.ensures.value ∙ c.in_ok-numbers.ensures.terms)
     ∙ ap (λ q. score_of q c.args.scheme c.args.factor (document_at id i.live.documents)) (sym c.requires.is))

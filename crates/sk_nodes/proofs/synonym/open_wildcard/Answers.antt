@@ -10,7 +10,7 @@ use Rattle.sk_index.specs.Indexed.{AreAllWith}
 use Rattle.sk_nodes.specs.Proximity.{AreThere}
 use Rattle.sk_nodes.specs.Shapes.{shape_of}
 use Rattle.sk_base.specs.Numbers.{terms_with}
-use Rattle.sk_nodes.specs.Opened.{score_of, joint_form}
+use Rattle.sk_nodes.specs.Opened.{score_of, joint_form, synonym_of}
 use Rattle.sk_nodes.proofs.SynonymLaws.{wild_there, wild_apart, wild_score, wild_readings, wild_at_most, query_capped}
 use Rattle.sk_nodes.proofs.NestLaws.{other_opens, joint_joint, wild_entered}
 use Rattle.sk_nodes.proofs.synonym.open_wildcard.Goals as goal
@@ -30,7 +30,7 @@ returns-clause-opens g c =
     let query = query_view c.args.query.now in
     let bytes = c.as_bytes.ensures.value ∙ c.as_str.ensures in
     let are = subst (λ (t : List ℕ). AreAllWith t i.terms i.live.documents ns) bytes c.in_ok-numbers.ensures in
-    query_capped i c.in_ok-top.top c.capped.result (shape_of c.in_ok-top.node) query _ c.args.scheme c.args.factor _ c.ceil-bound.result c.capped.ensures.head c.capped.ensures.weight c.capped.ensures.greatest
+    query_capped i c.in_ok-top.top c.capped.result (shape_of c.in_ok-top.node) query (score_of (synonym_of i c.as_slice.result.now) c.args.scheme c.args.factor) c.args.scheme c.args.factor _ c.ceil-bound.result c.capped.ensures.head c.capped.ensures.weight c.capped.ensures.greatest
     c.ceil-bound.ensures c.in_ok-top.ensures.opens
     (λ id. ap (λ (ms : List ℕ). score_of (Query.synonym (map (term_at i.terms) ms)) c.args.scheme c.args.factor (document_at id i.live.documents)) c.as_slice.ensures.value
     ∙ wild_score i c.args.prefix.now ns are c.args.scheme c.args.factor id ∙ ap (λ q. score_of q c.args.scheme c.args.factor (document_at id i.live.documents)) (sym c.requires.is))

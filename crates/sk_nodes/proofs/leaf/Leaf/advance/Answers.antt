@@ -2,6 +2,7 @@ use Rattle.std.proofs.Common.{◌≡◌, ◌≤◌, ℕ, true, false, subst, sym
 use Rattle.sk_lists.specs.Lists.{Runs}
 use Rattle.sk_lists.specs.Seeks.{PassesPostings}
 use Rattle.sk_lists.specs.Cursor.{left, IsOn}
+use Rattle.sk_nodes.specs.declared.leaf.Leaf.{Leaf}
 use Rattle.sk_nodes.specs.Leaves.{runs_of}
 use Rattle.sk_nodes.specs.Leaves.{leaf_rest}
 use Rattle.sk_nodes.proofs.LeafLaws.{sought_covers, head_of-reached, leaf_moved, head_is_below, AtMost-covers}
@@ -13,40 +14,31 @@ use Rattle.sk_nodes.proofs.leaf.Leaf.advance.Goals as goal
 not_still : (target : ℕ) (ps : Postings) → is_below target ps ≡ true → is_below target ps ≡ false → ⊥
 not_still target ps e f = cc
 
-pub returns-clause-covers : goal.returns-clause-covers
-returns-clause-covers g c =
-    let runs = runs_of c.args.index.now c.args.self.now.source in
-    let old = c.args.self.now in
-    sought_covers old.factor old.scheme c.wdf_for-self.result c.args.need c.args.target runs old.cursor c.advance-read.new.self
-    c.requires.sound.runs c.requires.sound.on c.wdf_for-self.ensures
-    (subst (λ (rs : Runs). PassesPostings c.args.target c.wdf_for-self.result (left old.cursor rs) (left c.advance-read.new.self rs)) c.list_of-list.ensures.runs c.advance-read.ensures.passes)
-
-pub returns-clause-sound : goal.returns-clause-sound
-returns-clause-sound g c =
-    leaf_moved c.args.index.now c.args.self.now _ c.args.target c.requires.sound refl refl refl refl
-    (subst (λ (rs : Runs). IsOn c.advance-read.new.self rs) c.list_of-list.ensures.runs c.advance-read.ensures.on) c.wdf_for-self.ensures (returns-clause-covers g c)
-
 pub advance-read-requires-clause-below : goal.advance-read-requires-clause-below
 advance-read-requires-clause-below g c =
     let old = c.args.self.now in
     ap (λ (rs : Runs). is_below c.args.target (left old.cursor rs)) c.list_of-list.ensures.runs ∙ head_is_below c.args.index.now c.args.top.now old c.args.target c.requires.top c.requires.sound c.requires.below c.requires.target
 
-pub returns-clause-top : goal.returns-clause-top
-returns-clause-top g c =
+pub returns-clause-lands : goal.returns-clause-lands
+returns-clause-lands g c =
     let i = c.args.index.now in
-    c.point.ensures.top i (returns-clause-sound g c)
-    (AtMost-covers c.args.target c.args.need c.args.top.now.greatest (leaf_rest i c.args.self.now) _ c.requires.top.bound (returns-clause-covers g c))
-    (c.requires.top.summed (omega (arith, c.requires.below, c.requires.target)))
-
-pub returns-clause-reached : goal.returns-clause-reached
-returns-clause-reached g c =
-    let runs = runs_of c.args.index.now c.args.self.now.source in
-    let passes = subst (λ (rs : Runs). PassesPostings c.args.target c.wdf_for-self.result (left c.args.self.now.cursor rs) (left c.advance-read.new.self rs)) c.list_of-list.ensures.runs c.advance-read.ensures.passes in
-    subst (λ n. c.args.target ≤ n) (sym (c.point.ensures.at c.args.index.now (returns-clause-sound g c)))
-    (head_of-reached c.args.target (left c.advance-read.new.self runs) c.requires.target passes.reached)
+    let old = c.args.self.now in
+    let runs = runs_of i old.source in
+    let passes = subst (λ (rs : Runs). PassesPostings c.args.target c.wdf_for-self.result (left old.cursor rs) (left c.advance-read.new.self rs)) c.list_of-list.ensures.runs c.advance-read.ensures.passes in
+    let covers = sought_covers old.factor old.scheme c.wdf_for-self.result c.args.need c.args.target runs old.cursor c.advance-read.new.self c.requires.sound.runs c.requires.sound.on c.wdf_for-self.ensures passes in
+    let new : Leaf = record old { need_wdf = c.wdf_for-self.result; need = c.args.need; cursor = c.advance-read.new.self } in
+    let on = leaf_moved i old new c.args.target c.requires.sound refl refl refl refl (subst (λ (rs : Runs). IsOn c.advance-read.new.self rs) c.list_of-list.ensures.runs c.advance-read.ensures.on) c.wdf_for-self.ensures covers in
+    record {
+      top = c.point.ensures.top i on
+          (AtMost-covers c.args.target c.args.need c.args.top.now.greatest (leaf_rest i old) _ c.requires.top.bound covers)
+          (c.requires.top.summed (omega (arith, c.requires.below, c.requires.target)));
+      sound = on;
+      covers = covers;
+      reached = subst (λ n. c.args.target ≤ n) (sym (c.point.ensures.at i on)) (head_of-reached c.args.target (left c.advance-read.new.self runs) c.requires.target passes.reached);
+    }
 
 pub returns-clause-at : goal.returns-clause-at
-returns-clause-at g c = c.point.ensures.at c.args.index.now (returns-clause-sound g c)
+returns-clause-at g c = c.point.ensures.at c.args.index.now (returns-clause-lands g c).sound
 
 pub returns-clause-walks : goal.returns-clause-walks
 returns-clause-walks g c =

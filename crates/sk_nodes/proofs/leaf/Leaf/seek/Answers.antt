@@ -2,6 +2,7 @@ use Rattle.std.proofs.Common.{◌≤◌, subst, sym, refl}
 use Rattle.sk_lists.specs.Lists.{Runs}
 use Rattle.sk_lists.specs.Seeks.{PassesPostings}
 use Rattle.sk_lists.specs.Cursor.{left, IsOn}
+use Rattle.sk_nodes.specs.declared.leaf.Leaf.{Leaf}
 use Rattle.sk_nodes.specs.Leaves.{runs_of}
 use Rattle.sk_nodes.proofs.LeafLaws.{sought_covers, head_of-reached, leaf_moved}
 use Rattle.std.proofs.Common.{ap, ◌∙◌, arith}
@@ -11,31 +12,24 @@ use Rattle.sk_nodes.specs.Leaves.{head_of}
 use Rattle.sk_nodes.proofs.WalkLaws.{head_below, goes_on, fewer_to, fewer_behind, one_passed}
 use Rattle.sk_nodes.proofs.leaf.Leaf.seek.Goals as goal
 
-pub returns-clause-covers : goal.returns-clause-covers
-returns-clause-covers g c =
-    let runs = runs_of c.args.index.now c.args.self.now.source in
+pub returns-clause-lands : goal.returns-clause-lands
+returns-clause-lands g c =
+    let i = c.args.index.now in
     let old = c.args.self.now in
-    sought_covers old.factor old.scheme c.wdf_for-self.result c.args.need c.args.target runs old.cursor c.seek-read.new.self
-    c.requires.sound.runs c.requires.sound.on c.wdf_for-self.ensures
-    (subst (λ (rs : Runs). PassesPostings c.args.target c.wdf_for-self.result (left old.cursor rs) (left c.seek-read.new.self rs)) c.list_of-list.ensures.runs c.seek-read.ensures.passes)
-
-pub returns-clause-sound : goal.returns-clause-sound
-returns-clause-sound g c =
-    leaf_moved c.args.index.now c.args.self.now _ c.args.target c.requires.sound refl refl refl refl
-    (subst (λ (rs : Runs). IsOn c.seek-read.new.self rs) c.list_of-list.ensures.runs c.seek-read.ensures.on) c.wdf_for-self.ensures (returns-clause-covers g c)
-
-pub returns-clause-top : goal.returns-clause-top
-returns-clause-top g c = c.show.ensures.top c.args.index.now (returns-clause-sound g c)
-
-pub returns-clause-reached : goal.returns-clause-reached
-returns-clause-reached g c =
-    let runs = runs_of c.args.index.now c.args.self.now.source in
-    let passes = subst (λ (rs : Runs). PassesPostings c.args.target c.wdf_for-self.result (left c.args.self.now.cursor rs) (left c.seek-read.new.self rs)) c.list_of-list.ensures.runs c.seek-read.ensures.passes in
-    subst (λ n. c.args.target ≤ n) (sym (c.show.ensures.at c.args.index.now (returns-clause-sound g c)))
-    (head_of-reached c.args.target (left c.seek-read.new.self runs) c.requires.target passes.reached)
+    let runs = runs_of i old.source in
+    let passes = subst (λ (rs : Runs). PassesPostings c.args.target c.wdf_for-self.result (left old.cursor rs) (left c.seek-read.new.self rs)) c.list_of-list.ensures.runs c.seek-read.ensures.passes in
+    let covers = sought_covers old.factor old.scheme c.wdf_for-self.result c.args.need c.args.target runs old.cursor c.seek-read.new.self c.requires.sound.runs c.requires.sound.on c.wdf_for-self.ensures passes in
+    let new : Leaf = record old { need_wdf = c.wdf_for-self.result; need = c.args.need; cursor = c.seek-read.new.self } in
+    let on = leaf_moved i old new c.args.target c.requires.sound refl refl refl refl (subst (λ (rs : Runs). IsOn c.seek-read.new.self rs) c.list_of-list.ensures.runs c.seek-read.ensures.on) c.wdf_for-self.ensures covers in
+    record {
+      top = c.show.ensures.top i on;
+      sound = on;
+      covers = covers;
+      reached = subst (λ n. c.args.target ≤ n) (sym (c.show.ensures.at i on)) (head_of-reached c.args.target (left c.seek-read.new.self runs) c.requires.target passes.reached);
+    }
 
 pub returns-clause-at : goal.returns-clause-at
-returns-clause-at g c = c.show.ensures.at c.args.index.now (returns-clause-sound g c)
+returns-clause-at g c = c.show.ensures.at c.args.index.now (returns-clause-lands g c).sound
 
 pub returns-clause-walks : goal.returns-clause-walks
 returns-clause-walks g c =

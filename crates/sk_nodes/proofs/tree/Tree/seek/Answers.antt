@@ -1,13 +1,15 @@
 -- Nothing is left where the need exceeds the ceiling; without a need just what lies below the target goes.
-use Rattle.std.proofs.Common.{sym, ap, subst, refl}
+use Rattle.std.proofs.Common.{◌≤◌, ℕ, sym, ap, subst, refl, arith, inl, inr}
 use Rattle.sk_model.specs.Covers.{Covers}
 use Rattle.sk_nodes.specs.Shapes.{Shape, shape_of}
 use Rattle.sk_nodes.specs.Left.{rest, from_on}
 use Rattle.sk_nodes.proofs.NodeLaws.{shape_of-Nothing, covers_gone}
 use Rattle.sk_nodes.proofs.TreeLaws.{weighed_ids-none, left_exact}
 use Rattle.sk_nodes.proofs.StopLaws.{stops_closed, stops_sought}
-use Rattle.std.proofs.Common.{arith, inl, inr}
+use Rattle.sk_index.specs.Indexed.{Indexed}
 use Rattle.sk_nodes.specs.declared.top.Top.{Top}
+use Rattle.sk_nodes.specs.declared.tree.Tree.{Tree}
+use Rattle.sk_nodes.specs.Decays.{Decays, MayFall}
 use Rattle.sk_nodes.proofs.RareLaws.{rare_closed}
 use Rattle.sk_nodes.specs.Moved.{ReachAccounts, with_lead}
 use Rattle.sk_nodes.proofs.FadingLaws.{fades_closed}
@@ -29,38 +31,46 @@ returns-clause-exact g c none =
     (subst (λ n. Covers (from_on c.args.target (rest i (shape_of c.args.self.now.node))) (rest i (shape_of c.reach.new.node)) n) none
     (subst (λ n. Covers (from_on n (rest i (shape_of c.args.self.now.node))) (rest i (shape_of c.reach.new.node)) c.args.need) c.from.ensures c.reach.ensures.sought.lands.covers))
 
-pub returns-then-self-need-clause-stops : goal.returns-then-self-need-clause-stops
-returns-then-self-need-clause-stops g c point most stops may =
-    let done = stops_closed c.args.index.now (shape_of c.args.self.now.node) _ c.args.need point most c.args.self.now.spent shape_of-Nothing stops.account in
-    record { shape = done.0; account = done.1 }
-
-pub returns-clause-stops : goal.returns-clause-stops
-returns-clause-stops g c point most stops may =
+pub returns-then-self-need-clause-accounts : goal.returns-then-self-need-clause-accounts
+returns-then-self-need-clause-accounts g c =
     let i = c.args.index.now in
-    let done = stops_sought i (shape_of c.args.self.now.node) (shape_of c.reach.new.node) c.args.self.now.need c.args.need c.args.target point most c.args.self.now.spent c.reach.new.spent c.args.self.now.top.greatest
-    c.requires.rising c.if-self-need.false c.ranges.target.fits
-    (subst (λ n. ReachAccounts i n c.args.need c.args.self.now.spent c.reach.new.spent (shape_of c.args.self.now.node) (shape_of c.reach.new.node) c.args.self.now.top c.reach.new.top) c.from.ensures c.reach.ensures.accounts).all stops.shape stops.account may in
-    record { shape = done.0; account = done.1 }
+    let old = c.args.self.now in
+    record {
+      stops = λ point most stops may.
+          let done = stops_closed i (shape_of old.node) _ c.args.need point most old.spent shape_of-Nothing stops.account in
+          record { shape = done.0; account = done.1 };
+      rare = λ most rare.
+          let done = rare_closed i c.ended-self.result (shape_of old.node) _ old.spent most shape_of-Nothing (ap (λ (u : Top). u.head) c.ended-self.ensures) rare.account in
+          record { led = done.0; at = done.1.0; account = done.1.1 };
+      decays = λ point greatest most decays may.
+          let done = fades_closed i (shape_of old.node) _ point greatest most old.spent decays.first shape_of-Nothing decays.account in
+          record { first = decays.first; fading = done.0; account = done.1 };
+    }
 
-pub returns-then-self-need-clause-rare : goal.returns-then-self-need-clause-rare
-returns-then-self-need-clause-rare g c most rare =
-    let done = rare_closed c.args.index.now c.ended-self.result (shape_of c.args.self.now.node) _ c.args.self.now.spent most shape_of-Nothing (ap (λ (u : Top). u.head) c.ended-self.ensures) rare.account in
-    record { led = done.0; at = done.1.0; account = done.1.1 }
+pub returns-clause-accounts : goal.returns-clause-accounts
+returns-clause-accounts g c = record {
+  stops = λ point most stops may.
+      let done = stops_sought i (shape_of old.node) (shape_of c.reach.new.node) old.need c.args.need c.args.target point most old.spent c.reach.new.spent old.top.greatest
+      c.requires.rising c.if-self-need.false c.ranges.target.fits reached.all stops.shape stops.account may in
+      record { shape = done.0; account = done.1 };
+  rare = λ most rare.
+      let keeps = c.reach.ensures.accounts.all.keeps with_lead in
+      let paid = keeps.paid rare.led tt in
+      record { led = keeps.kind rare.led; at = c.reach.ensures.accounts.at rare.led rare.at; account = omega (arith, paid, rare.account) };
+  decays = by;
+}
+  where
+    i : Indexed
+    i = c.args.index.now
 
-pub returns-clause-rare : goal.returns-clause-rare
-returns-clause-rare g c most rare =
-    let keeps = c.reach.ensures.accounts.all.keeps with_lead in
-    let paid = keeps.paid rare.led tt in
-    record { led = keeps.kind rare.led; at = c.reach.ensures.accounts.at rare.led rare.at; account = omega (arith, paid, rare.account) }
+    old : Tree
+    old = c.args.self.now
 
-pub returns-then-self-need-clause-decays : goal.returns-then-self-need-clause-decays
-returns-then-self-need-clause-decays g c point greatest most decays may =
-    let done = fades_closed c.args.index.now (shape_of c.args.self.now.node) _ point greatest most c.args.self.now.spent decays.first shape_of-Nothing decays.account in
-    record { first = decays.first; fading = done.0; account = done.1 }
+    reached : ReachAccounts i c.args.target c.args.need old.spent c.reach.new.spent (shape_of old.node) (shape_of c.reach.new.node) old.top c.reach.new.top
+    reached = subst (λ n. ReachAccounts i n c.args.need old.spent c.reach.new.spent (shape_of old.node) (shape_of c.reach.new.node) old.top c.reach.new.top) c.from.ensures c.reach.ensures.accounts
 
-pub returns-clause-decays : goal.returns-clause-decays
-returns-clause-decays g c point greatest most decays (inl high) = absurd (omega (arith, c.if-self-need.false, high))
-returns-clause-decays g c point greatest most decays (inr may) =
-    let i = c.args.index.now in
-    let to = (subst (λ n. ReachAccounts i n c.args.need c.args.self.now.spent c.reach.new.spent (shape_of c.args.self.now.node) (shape_of c.reach.new.node) c.args.self.now.top c.reach.new.top) c.from.ensures c.reach.ensures.accounts).fades point greatest decays.first decays.fading may in
-    record { first = to.0; fading = to.1.0; account = omega (arith, to.1.1, decays.account) }
+    by : (point greatest most : ℕ) → Decays i old point greatest most → MayFall point greatest c.args.target c.args.need old.top.greatest → Decays i (record old { node = c.reach.new.node; top = c.reach.new.top; need = c.args.need; spent = c.reach.new.spent }) point greatest most
+    by point greatest most decays (inl high) = absurd (omega (arith, c.if-self-need.false, high))
+    by point greatest most decays (inr may) =
+        let to = reached.fades point greatest decays.first decays.fading may in
+        record { first = to.0; fading = to.1.0; account = omega (arith, to.1.1, decays.account) }
