@@ -16,10 +16,11 @@ use Rattle.sk_base.specs.Before.{is_before}
 use Rattle.sk_model.specs.Page.{place, best_first, kept, count_key, dropped}
 use Rattle.sk_model.specs.Laws.{kept_number}
 use Rattle.sk_model.proofs.KeptLaws.{kept_each, kept_of_key}
+use Rattle.sk_model.proofs.PlacedLaws.{all_ordered, take_placed}
 use Rattle.sk_collapse.specs.Collapsed.{Collapsed, Group, Knows, group_of, kept_in, dropped_in}
 use Rattle.sk_collapse.specs.Verdicts.{Judges, without_rank, verdict_of}
 use Rattle.sk_collapse.specs.declared.verdict.Verdict.{Verdict}
-use Rattle.sk_collapse.proofs.PlacedLaws.{other_number, each_filter, each_take, each_drop, each_best, each_map, Apart, Leads, Strict, Distinct, leads_through, one_first, place_front, strict_best, strict_filter, strict_take, distinct_best, take_placed, take_twice, without, without_none, without_first, without_apart, without_placed}
+use Rattle.sk_collapse.proofs.PlacedLaws.{other_number, each_filter, each_take, each_drop, each_map, Apart, Leads, Strict, Distinct, leads_through, one_first, place_front, strict_best, strict_filter, strict_take, distinct_best, take_twice, without, without_none, without_first, without_apart, without_placed}
 use Rattle.sk_collapse.proofs.KeptMore.{each_kept, strict_kept, distinct_kept, free_placed, moves, own_placed, other_placed}
 
 -- ---- ids that differ
@@ -182,7 +183,7 @@ module _ (order : Order) (most : ℕ) (key : Rank → List ℕ) (ranks : List Ra
   distinct = distinct_best order ranks (distinct_from ranks differ)
 
   sorted_apart : Apart x Sorted
-  sorted_apart = each_best (λ y. x.id ≢ y.id) order ranks (apart_from x ranks apart)
+  sorted_apart = all_ordered (is_before order) (λ y. x.id ≢ y.id) ranks (apart_from x ranks apart)
 
   before_apart : Apart x Before
   before_apart = each_kept most key (λ y. x.id ≢ y.id) [] Sorted sorted_apart
@@ -274,7 +275,7 @@ module _ (order : Order) (most : ℕ) (key : Rank → List ℕ) (ranks : List Ra
     best_more : take most (filter (λ y. bytes_eq (key y) (key x)) (best_first order (x ∷ ranks))) ≡ take most (place order x Best)
     best_more =
         ap (take most) (own_placed most key (key x) some order x ((bytes_decides (key x) (key x)).1 refl) Sorted sorted)
-        ∙ take_placed order most x (filter (λ y. bytes_eq (key y) (key x)) Sorted)
+        ∙ sym (take_placed (is_before order) most x (filter (λ y. bytes_eq (key y) (key x)) Sorted))
 
     -- how many of its key are dropped
     dropped_more : dropped_in order most key (key x) (x ∷ ranks) ≡ dropped_in order most key (key x) ranks + length Gone
@@ -323,7 +324,7 @@ module _ (c : Collapsed) (key : Rank → List ℕ) (ranks : List Rank) (known : 
       (subst (λ (ys : List Rank). AllByRecursion (λ r. r.id ≢ x.id) ys) (sym (known.groups k some))
       (each_take (λ r. r.id ≢ x.id) c.most (filter (λ y. bytes_eq (key y) k) (best_first c.order ranks))
       (each_filter (λ r. r.id ≢ x.id) (λ y. bytes_eq (key y) k) (best_first c.order ranks)
-      (each_best (λ r. r.id ≢ x.id) c.order ranks (recursion_from_All (λ r. r.id ≢ x.id) ranks apart)))))
+      (all_ordered (is_before c.order) (λ r. r.id ≢ x.id) ranks (recursion_from_All (λ r. r.id ≢ x.id) ranks apart)))))
 
   -- what it tells, in the words of the model
   pub knows_kept : (collapse : Collapse) → collapse.max ≡ c.most → length (kept c.order (Some collapse) key ranks) ≡ c.kept

@@ -9,7 +9,8 @@ use Rattle.sk_base.specs.declared.rank.Rank.{Rank}
 use Rattle.sk_base.specs.declared.rank.Order.{Order}
 use Rattle.sk_base.specs.Before.{is_before}
 use Rattle.sk_model.specs.Page.{place, is_kept, kept_behind}
-use Rattle.sk_collapse.proofs.PlacedLaws.{each_filter, each_take, each_drop, each_placed, Apart, Leads, Strict, Distinct, leads_through, place_front, place_behind, place_before, drop_nil, without, without_none, without_kept, without_first}
+use Rattle.sk_model.proofs.PlacedLaws.{all_placed}
+use Rattle.sk_collapse.proofs.PlacedLaws.{each_filter, each_take, each_drop, Apart, Leads, Strict, Distinct, leads_through, place_front, place_behind, place_before, drop_nil, without, without_none, without_kept, without_first}
 
 -- ---- tests
 
@@ -244,7 +245,7 @@ module _ (most : ℕ) (key : Rank → List ℕ) where
       gone_apart : (h : Rank) (r : ℕ) (xs : List Rank) → h.id ≢ x.id → Apart h xs → Apart h (Gone r xs)
       gone_apart h r xs a all =
           each_drop (λ y. h.id ≢ y.id) r (place order x (take r (Own xs)))
-          (each_placed (λ y. h.id ≢ y.id) order x (take r (Own xs)) a (each_take (λ y. h.id ≢ y.id) r (Own xs) (each_filter (λ y. h.id ≢ y.id) (λ y. bytes_eq (key y) k) xs all)))
+          (all_placed (is_before order) (λ y. h.id ≢ y.id) x (take r (Own xs)) a (each_take (λ y. h.id ≢ y.id) r (Own xs) (each_filter (λ y. h.id ≢ y.id) (λ y. bytes_eq (key y) k) xs all)))
 
       abbrev Moves : List (List ℕ) → ℕ → List Rank → Type 0
       Moves b r xs = Kept b (place order x xs) ≡ without (Gone r xs) (place order x (Kept b xs))

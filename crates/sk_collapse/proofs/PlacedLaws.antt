@@ -9,6 +9,7 @@ use Rattle.sk_base.specs.Before.{rank_cmp, is_before}
 use Rattle.sk_base.proofs.RankLaws.{rank_total, ids_tie}
 use Rattle.sk_model.specs.Page.{place, best_first}
 use Rattle.sk_model.proofs.OrderLaws.{before_order, tied}
+use Rattle.sk_model.proofs.PlacedLaws.{all_placed, all_ordered}
 use Rattle.sk_collapse.specs.Verdicts.{without_rank}
 
 -- ---- tests
@@ -35,18 +36,6 @@ pub each_drop : (P : Rank → Type 0) (n : ℕ) (xs : List Rank) → AllByRecurs
 each_drop P zero xs h = h
 each_drop P (suc n) [] h = tt
 each_drop P (suc n) (x ∷ xs) h = each_drop P n xs h.1
-
-pub each_placed : (P : Rank → Type 0) (order : Order) (x : Rank) (xs : List Rank) → P x → AllByRecursion P xs → AllByRecursion P (place order x xs)
-each_placed P order x [] p h = (p, tt)
-each_placed P order x (y ∷ ys) p h =
-    elim (is_before order x y) as (λ b. AllByRecursion P (cond b (x ∷ y ∷ ys) (y ∷ place order x ys))) [
-      | true ↦ (p, h)
-      | false ↦ (h.0, each_placed P order x ys p h.1)
-    ]
-
-pub each_best : (P : Rank → Type 0) (order : Order) (xs : List Rank) → AllByRecursion P xs → AllByRecursion P (best_first order xs)
-each_best P order [] h = tt
-each_best P order (x ∷ xs) h = each_placed P order x (best_first order xs) h.0 (each_best P order xs h.1)
 
 pub each_map : (P Q : Rank → Type 0) (xs : List Rank) → ((x : Rank) → P x → Q x) → AllByRecursion P xs → AllByRecursion Q xs
 each_map P Q [] f h = tt
@@ -107,24 +96,24 @@ module _ (order : Order) where
   strict_placed x (y ∷ ys) a s =
       elim (is_before order x y) as (λ b. is_before order x y ≡ b → Strict order (cond b (x ∷ y ∷ ys) (y ∷ place order x ys))) [
         | true ↦ λ e. ((e, leads_through x y ys e s.0), s)
-        | false ↦ λ e. (each_placed (λ z. is_before order y z ≡ true) order x ys (one_first x y a.0 e) s.0, strict_placed x ys a.1 s.1)
+        | false ↦ λ e. (all_placed (is_before order) (λ z. is_before order y z ≡ true) x ys (one_first x y a.0 e) s.0, strict_placed x ys a.1 s.1)
       ] refl
 
   pub strict_best : (xs : List Rank) → Distinct xs → Strict order (best_first order xs)
   strict_best [] d = tt
-  strict_best (x ∷ xs) d = strict_placed x (best_first order xs) (each_best (λ y. x.id ≢ y.id) order xs d.0) (strict_best xs d.1)
+  strict_best (x ∷ xs) d = strict_placed x (best_first order xs) (all_ordered (is_before order) (λ y. x.id ≢ y.id) xs d.0) (strict_best xs d.1)
 
   pub distinct_placed : (x : Rank) (ys : List Rank) → Apart x ys → Distinct ys → Distinct (place order x ys)
   distinct_placed x [] a d = (tt, tt)
   distinct_placed x (y ∷ ys) a d =
       elim (is_before order x y) as (λ b. Distinct (cond b (x ∷ y ∷ ys) (y ∷ place order x ys))) [
         | true ↦ (a, d)
-        | false ↦ (each_placed (λ z. y.id ≢ z.id) order x ys (λ e. a.0 (sym e)) d.0, distinct_placed x ys a.1 d.1)
+        | false ↦ (all_placed (is_before order) (λ z. y.id ≢ z.id) x ys (λ e. a.0 (sym e)) d.0, distinct_placed x ys a.1 d.1)
       ]
 
   pub distinct_best : (xs : List Rank) → Distinct xs → Distinct (best_first order xs)
   distinct_best [] d = tt
-  distinct_best (x ∷ xs) d = distinct_placed x (best_first order xs) (each_best (λ y. x.id ≢ y.id) order xs d.0) (distinct_best xs d.1)
+  distinct_best (x ∷ xs) d = distinct_placed x (best_first order xs) (all_ordered (is_before order) (λ y. x.id ≢ y.id) xs d.0) (distinct_best xs d.1)
 
   pub strict_filter : (test : Rank → Bool) (xs : List Rank) → Strict order xs → Strict order (filter test xs)
   strict_filter test [] s = tt
@@ -156,25 +145,6 @@ pub take_twice : (n : ℕ) (xs : List Rank) → take n (take n xs) ≡ take n xs
 take_twice zero xs = refl
 take_twice (suc n) [] = refl
 take_twice (suc n) (x ∷ xs) = ap (λ ys. x ∷ ys) (take_twice n xs)
-
-pub take_less : (n : ℕ) (xs : List Rank) → take n (take (suc n) xs) ≡ take n xs
-take_less zero xs = refl
-take_less (suc n) [] = refl
-take_less (suc n) (x ∷ xs) = ap (λ ys. x ∷ ys) (take_less n xs)
-
-front_first : (n : ℕ) (y : Rank) (ys : List Rank) → take n (y ∷ ys) ≡ take n (y ∷ take n ys)
-front_first zero y ys = refl
-front_first (suc n) y ys = ap (λ zs. y ∷ zs) (sym (take_less n ys))
-
--- the best of a list and one match more are the best of its best and that one
-pub take_placed : (order : Order) (n : ℕ) (x : Rank) (ys : List Rank) → take n (place order x ys) ≡ take n (place order x (take n ys))
-take_placed order zero x ys = refl
-take_placed order (suc n) x [] = refl
-take_placed order (suc n) x (y ∷ ys) =
-    elim (is_before order x y) as (λ b. take (suc n) (cond b (x ∷ y ∷ ys) (y ∷ place order x ys)) ≡ take (suc n) (cond b (x ∷ y ∷ take n ys) (y ∷ place order x (take n ys)))) [
-      | true ↦ ap (λ zs. x ∷ zs) (front_first n y ys)
-      | false ↦ ap (λ zs. y ∷ zs) (take_placed order n x ys)
-    ]
 
 -- ---- without one
 

@@ -10,7 +10,7 @@ ghost use Rattle.sk_heap.specs.Held.{Held, placed_hit, best_hits, ranks_of, need
 /// Laws: the ranks of hits in order are those ranks in order.
 pub fn ranks_in_order()
     ensures best { (order : Order) (hits : List Hit) → ranks_of (best_hits order hits) ≡ best_first order (ranks_of hits) }
-    ensures placed_hit { (order : Order) (x : Hit) (hits : List Hit) → ranks_of (placed_hit order x hits) ≡ place order x.rank (ranks_of hits) }
+    ensures placed { (order : Order) (x : Hit) (hits : List Hit) → ranks_of (placed_hit order x hits) ≡ place order x.rank (ranks_of hits) }
 {}
 
 /// A law: a heap that holds the best of some hits holds the best of these and one more once that was offered.

@@ -14,6 +14,7 @@ use Rattle.sk_query.specs.Trees as Query
 use Rattle.sk_query.specs.Fits.{is_sound, leaves_of, depth_of, fits_tree}
 use Rattle.sk_model.specs.Bounds.{ceil, static_count}
 use Rattle.sk_model.specs.Covers.{CoversAt}
+use Rattle.sk_model.specs.Counts.{wanted_by}
 use Rattle.sk_model.specs.Documents.{Document}
 use Rattle.sk_model.specs.Edits.{last_id}
 use Rattle.sk_model.specs.Settled.{settled, stop_point, decay_point}
@@ -30,7 +31,7 @@ use Rattle.sk_nodes.specs.declared.tree.Tree.{Tree}
 use Rattle.sk_heap.specs.Held.{need_of}
 use Rattle.sk_collapse.specs.Collapsed.{Collapsed}
 use Rattle.sk_page.specs.Pages.{CollapsesBy}
-use Rattle.sk_page.specs.Needs.{wanted_by, is_above, is_settled, need_for}
+use Rattle.sk_page.specs.Needs.{is_above, is_settled, need_for}
 use Rattle.sk_page.specs.Views.{OpensPage, PageOf, MaySee, Sees}
 use Rattle.sk_page.specs.declared.page.Page.{Page}
 use Rattle.sk_page.proofs.WalkLaws as Walks

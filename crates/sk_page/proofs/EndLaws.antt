@@ -11,6 +11,7 @@ use Rattle.sk_base.specs.declared.rank.Rank.{Rank}
 use Rattle.sk_base.specs.declared.rank.Order.{Order}
 use Rattle.sk_base.specs.declared.report.Ranked.{Ranked}
 use Rattle.sk_base.specs.declared.report.Report.{Report}
+use Rattle.sk_base.specs.Before.{is_before}
 use Rattle.sk_base.specs.Numbers.{Docs}
 use Rattle.sk_sorted.specs.Entries.{AreSorted, first_id}
 use Rattle.sk_sorted.proofs.EntryLaws.{length_fits}
@@ -24,7 +25,7 @@ use Rattle.sk_model.specs.Page.{best_first, kept, count_key, dropped}
 use Rattle.sk_report.specs.Reports.{ReportsFor}
 use Rattle.sk_model.proofs.CountLaws.{found_within}
 use Rattle.sk_model.proofs.KeptLaws.{kept_few}
-use Rattle.sk_model.proofs.OrderLaws.{length-best_first}
+use Rattle.sk_model.proofs.PlacedLaws.{length-ordered}
 use Rattle.sk_model.proofs.StaticLaws.{static_live}
 use Rattle.sk_heap.specs.declared.hit.Hit.{Hit}
 use Rattle.sk_heap.specs.Held.{ranks_of}
@@ -57,7 +58,7 @@ module _ (order : Order) (saw newest : List Rank) (same : best_first order saw �
   key_same key k = sym (in_order key k order saw) ∙ ap (count_key key k) same ∙ in_order key k order newest
 
   kept_told : (o : Option Collapse) (key : Rank → List ℕ) (c : Option Collapsed) (seen : ℕ) → CollapsesBy o order key newest c → seen ≡ length saw → kept_count c seen ≡ length (kept order o key saw)
-  kept_told None key None seen h e = e ∙ sym (length-best_first order saw)
+  kept_told None key None seen h e = e ∙ sym (length-ordered (is_before order) saw)
   kept_told None key (Some c) seen h e = absurd h
   kept_told (Some o) key None seen h e = absurd h
   kept_told (Some o) key (Some c) seen h e =

@@ -10,7 +10,8 @@ use Rattle.sk_base.specs.declared.rank.Rank.{Rank}
 use Rattle.sk_base.specs.declared.rank.Order.{Order}
 use Rattle.sk_base.specs.Before.{is_before}
 use Rattle.sk_model.specs.Page.{best_first}
-use Rattle.sk_model.proofs.OrderLaws.{NoneBefore, Rises, rises_best_first, best_first_permutation}
+use Rattle.sk_model.proofs.OrderLaws.{NoneBefore, Rises, rises_best_first}
+use Rattle.sk_model.proofs.PlacedLaws.{ordered_permutation}
 use Rattle.sk_heap.proofs.HeapLaws.{is_weighed, no_lighter, no_heavier}
 use Rattle.sk_page.specs.Shown.{is_behind_page, Shown}
 use Rattle.sk_page.proofs.ShownLaws.{shown_front}
@@ -32,7 +33,7 @@ module _ (weight : ℕ) where
   heavy_append xs ys = sum_by-append (λ (r : Rank). cond (nat_le weight r.weight) 1 0) xs ys
 
   heavy_best : (order : Order) (xs : List Rank) → heavy weight xs ≡ heavy weight (best_first order xs)
-  heavy_best order xs = sym (sum_by-IsPermutation (λ (r : Rank). cond (nat_le weight r.weight) 1 0) xs (best_first order xs) (best_first_permutation order xs))
+  heavy_best order xs = sym (sum_by-IsPermutation (λ (r : Rank). cond (nat_le weight r.weight) 1 0) xs (best_first order xs) (ordered_permutation (is_before order) xs))
 
   heavy_filter : (p : Rank → Bool) (xs : List Rank) → heavy weight (filter p xs) ≤ heavy weight xs
   heavy_filter p [] = omega arith

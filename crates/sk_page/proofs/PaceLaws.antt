@@ -10,11 +10,12 @@ use Rattle.sk_base.specs.Numbers.{Docs}
 use Rattle.sk_sorted.specs.Entries.{AreSorted, first_id}
 use Rattle.sk_query.specs.Trees.{Tree}
 use Rattle.sk_model.specs.Covers.{CoversAt}
+use Rattle.sk_model.specs.Counts.{wanted_by}
 use Rattle.sk_model.specs.Documents.{Document}
 use Rattle.sk_model.specs.Edits.{last_id}
 use Rattle.sk_model.specs.Matches.{found_by}
 use Rattle.sk_heap.specs.Held.{Held, need_of}
-use Rattle.sk_page.specs.Needs.{wanted_by, need_at, need_for}
+use Rattle.sk_page.specs.Needs.{need_at, need_for}
 use Rattle.sk_page.specs.Paces.{greatest_id, reached_by}
 use Rattle.sk_page.specs.Views.{PageOf}
 use Rattle.sk_page.specs.Walks.{Walk}

@@ -15,15 +15,16 @@ use Rattle.sk_base.specs.Numbers.{Docs}
 use Rattle.sk_model.specs.Matches.{key_of}
 use Rattle.sk_model.specs.Page.{place, best_first, kept_of, kept}
 use Rattle.sk_model.specs.Counts.{kept_by}
-use Rattle.sk_model.proofs.OrderLaws.{before_order, Rises, rises_best_first, best_first_permutation, sorted_is}
+use Rattle.sk_model.proofs.OrderLaws.{before_order, Rises, rises_best_first, sorted_is}
+use Rattle.sk_model.proofs.PlacedLaws.{all_placed, ordered_permutation, take_placed}
 use Rattle.sk_heap.specs.declared.hit.Hit.{Hit}
-use Rattle.sk_heap.specs.Held.{Held, ranks_of, placed_hit, last_weight, need_behind, need_of, offered, without_hit}
+use Rattle.sk_heap.specs.Held.{Held, before, ranks_of, placed_hit, last_weight, need_behind, need_of, offered, without_hit}
 use Rattle.sk_heap.proofs.HeapLaws.{full_by, ranks_placed, need_keeps_out}
 use Rattle.sk_collapse.specs.Collapsed.{Collapsed, kept_in}
 use Rattle.sk_collapse.specs.Verdicts.{Judges, without_rank}
 use Rattle.sk_collapse.specs.declared.verdict.Verdict.{Verdict}
 use Rattle.sk_collapse.proofs.CollapseLaws.{distinct_from, differ_more, best_for_kept, kept_sorted, kept_differ, length-without_rank, pairs_distinct}
-use Rattle.sk_collapse.proofs.PlacedLaws.{distinct_best, take_placed}
+use Rattle.sk_collapse.proofs.PlacedLaws.{distinct_best}
 use Rattle.std.proofs.lemmas.Bool.{and_from, and_parts}
 use Rattle.sk_model.proofs.HeldLaws.{each_weaker}
 use Rattle.sk_page.specs.Shown.{is_behind_page}
@@ -44,14 +45,6 @@ all_filter P p (x ∷ xs) h =
     elim (p x) as (λ b. AllByRecursion P (cond b (x ∷ filter p xs) (filter p xs))) [
       | true ↦ (h.0, all_filter P p xs h.1)
       | false ↦ all_filter P p xs h.1
-    ]
-
-all_placed : (P : Hit → Type 0) (order : Order) (x : Hit) (ys : List Hit) → P x → AllByRecursion P ys → AllByRecursion P (placed_hit order x ys)
-all_placed P order x [] p h = (p, tt)
-all_placed P order x (y ∷ ys) p h =
-    elim (is_before order x.rank y.rank) as (λ b. AllByRecursion P (cond b (x ∷ y ∷ ys) (y ∷ placed_hit order x ys))) [
-      | true ↦ (p, h)
-      | false ↦ (h.0, all_placed P order x ys p h.1)
     ]
 
 ranks_take : (n : ℕ) (hits : List Hit) → ranks_of (take n hits) ≡ take n (ranks_of hits)
@@ -86,10 +79,10 @@ module _ (order : Order) where
 
   pub best_last : (newest saw : List Rank) (x : Rank) → best_first order saw ≡ best_first order newest → AllPairs (λ x y. x.id ≢ y.id) (x ∷ newest) → best_first order (saw ++ x ∷ []) ≡ best_first order (x ∷ newest)
   best_last newest saw x same differ =
-      let one : IsPermutation newest saw = IsPermutation-trans newest (best_first order saw) saw (subst (IsPermutation newest) (sym same) (best_first_permutation order newest)) (IsPermutation-sym saw (best_first order saw) (best_first_permutation order saw)) in
+      let one : IsPermutation newest saw = IsPermutation-trans newest (best_first order saw) saw (subst (IsPermutation newest) (sym same) (ordered_permutation (is_before order) newest)) (IsPermutation-sym saw (best_first order saw) (ordered_permutation (is_before order) saw)) in
       let two : IsPermutation (x ∷ newest) (saw ++ x ∷ []) = IsPermutation-trans (x ∷ newest) (x ∷ saw) (saw ++ x ∷ []) (IsPermutation-cons x newest saw one) (IsPermutation-sym (saw ++ x ∷ []) (x ∷ saw) (IsPermutation-to_front saw x)) in
       sorted_is order (x ∷ newest) (best_first order (saw ++ x ∷ [])) differ
-      (IsPermutation-trans (x ∷ newest) (saw ++ x ∷ []) (best_first order (saw ++ x ∷ [])) two (best_first_permutation order (saw ++ x ∷ [])))
+      (IsPermutation-trans (x ∷ newest) (saw ++ x ∷ []) (best_first order (saw ++ x ∷ [])) two (ordered_permutation (is_before order) (saw ++ x ∷ [])))
       (sorted_from (best_first order (saw ++ x ∷ [])) (rises_best_first order (saw ++ x ∷ [])))
 
   before_then : (x y r : Rank) → is_before order x y ≡ true → is_before order y r ≡ true → is_before order x r ≡ true
@@ -249,7 +242,7 @@ module _ (paging : Paging) (docs : Docs) where
       hits_after Verdict.Keep j =
           offered_is held pages.order pages.most
           ∙ ap (λ rs. take (page_end paging) (place paging.order x rs)) pages.hits
-          ∙ sym (take_placed paging.order (page_end paging) x Before)
+          ∙ take_placed (is_before paging.order) (page_end paging) x Before
           ∙ ap (take (page_end paging)) (sym j)
       hits_after (Verdict.KeepFor id) j =
           let y : Rank = j.0 in
@@ -262,7 +255,7 @@ module _ (paging : Paging) (docs : Docs) where
 
       module _ (P : Hit → Type 0) (own : P hit) where
         all_offered : (h : Held) → AllByRecursion P h.hits → AllByRecursion P (offered hit h).hits
-        all_offered h all = all_take P h.most (placed_hit h.order hit h.hits) (all_placed P h.order hit h.hits own all)
+        all_offered h all = all_take P h.most (placed_hit h.order hit h.hits) (all_placed (before h.order) P hit h.hits own all)
 
         all_judged : (v : Verdict) → AllByRecursion P held.hits → AllByRecursion P (held_by_verdict v hit held).hits
         all_judged Verdict.Keep all = all_offered held all

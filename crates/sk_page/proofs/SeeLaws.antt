@@ -11,6 +11,7 @@ use Rattle.sk_base.specs.declared.find.Paging.{Paging}
 use Rattle.sk_base.specs.declared.rank.Rank.{Rank}
 use Rattle.sk_base.specs.declared.rank.Order.{Order}
 use Rattle.sk_base.specs.declared.rank.OrderBy.{OrderBy}
+use Rattle.sk_base.specs.Before.{is_before}
 use Rattle.sk_base.specs.Numbers.{Docs}
 use Rattle.sk_sorted.specs.Entries.{RiseAbove, LieBelow, AreSorted, first_id}
 use Rattle.sk_sorted.proofs.EntryLaws.{found-here, found-other, length_fits}
@@ -25,7 +26,7 @@ use Rattle.sk_model.specs.Matches.{value_by, key_for, key_of, found_by}
 use Rattle.sk_model.specs.Scores.{score}
 use Rattle.sk_model.specs.Settled.{settled, stop_point}
 use Rattle.sk_model.specs.Sharp.{is_plain}
-use Rattle.sk_model.proofs.OrderLaws as OrderLaws
+use Rattle.sk_model.proofs.PlacedLaws.{length-ordered}
 use Rattle.sk_heap.specs.declared.hit.Hit.{Hit}
 use Rattle.sk_collapse.specs.Collapsed.{Collapsed, group_of}
 use Rattle.sk_collapse.proofs.CollapseLaws.{knows_differ}
@@ -189,7 +190,7 @@ module _ (query : Tree) (paging : Paging) (docs : Docs) (give : ℕ → Option �
     known_few = few_by paging.collapse (key_of paging.collapse docs) page.collapser of.pages.collapse
       where
         newest_long : length of.pages.newest ≡ length of.saw
-        newest_long = sym (OrderLaws.length-best_first paging.order of.pages.newest) ∙ ap length (sym of.pages.same) ∙ OrderLaws.length-best_first paging.order of.saw
+        newest_long = sym (length-ordered (is_before paging.order) of.pages.newest) ∙ ap length (sym of.pages.same) ∙ length-ordered (is_before paging.order) of.saw
 
         few_by : (o : Option Collapse) (k : Rank → List ℕ) (c : Option Collapsed) → CollapsesBy o paging.order k of.pages.newest c → IfSome c (λ c. c.seen + 1 < 2 ^ 32)
         few_by None k None g = cc

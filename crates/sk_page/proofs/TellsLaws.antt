@@ -11,6 +11,7 @@ use Rattle.sk_base.specs.declared.rank.OrderBy.{OrderBy}
 use Rattle.sk_base.specs.declared.rank.Rank.{Rank}
 use Rattle.sk_base.specs.declared.report.Ranked.{Ranked}
 use Rattle.sk_base.specs.declared.report.Report.{Report}
+use Rattle.sk_base.specs.Before.{is_before}
 use Rattle.sk_base.specs.Numbers.{Docs}
 use Rattle.sk_query.specs.Trees.{Tree}
 use Rattle.sk_query.specs.Fits.{is_sound}
@@ -21,7 +22,7 @@ use Rattle.sk_model.specs.Edits.{document_at}
 use Rattle.sk_model.specs.Matches.{found_by, key_for, key_of}
 use Rattle.sk_model.specs.Page.{best_first, kept, count_key, dropped}
 use Rattle.sk_model.specs.Laws.{kept_number}
-use Rattle.sk_model.proofs.OrderLaws.{best_first_permutation}
+use Rattle.sk_model.proofs.PlacedLaws.{ordered_permutation}
 use Rattle.sk_model.specs.Reports.{page_of, IsHit}
 use Rattle.sk_report.specs.Reports.{ReportsFor}
 use Rattle.sk_model.proofs.CountLaws.{found_within}
@@ -39,7 +40,7 @@ key_by_id collapse docs x y e = ap (λ id. key_for collapse (document_at id docs
 
 -- what is dropped of a key hangs on how often keys occur
 pub in_order : (key : Rank → List ℕ) (k : List ℕ) (order : Order) (ranks : List Rank) → count_key key k (best_first order ranks) ≡ count_key key k ranks
-in_order key k order ranks = sum_by-IsPermutation (λ y. cond (bytes_eq (key y) k) 1 0) ranks (best_first order ranks) (best_first_permutation order ranks)
+in_order key k order ranks = sum_by-IsPermutation (λ y. cond (bytes_eq (key y) k) 1 0) ranks (best_first order ranks) (ordered_permutation (is_before order) ranks)
 
 kept_same : (order : Order) (collapse : Option Collapse) (key : Rank → List ℕ) (k : List ℕ) (xs ys : List Rank) → count_key key k xs ≡ count_key key k ys → count_key key k (kept order collapse key xs) ≡ count_key key k (kept order collapse key ys)
 kept_same order None key k xs ys h = in_order key k order xs ∙ h ∙ sym (in_order key k order ys)

@@ -2,11 +2,8 @@
 -- Source: Own.
 use Rattle.std.specs.Prelude.{ℕ, ◌+◌, ◌||◌, ◌&&◌, max, nat_le, nat_lt, Bool, true, Option, None, Some, if◌then◌else◌}
 use Rattle.sk_base.specs.declared.find.Options.{Options}
+use Rattle.sk_model.specs.Counts.{wanted_by}
 use Rattle.sk_heap.specs.Held.{Held, need_of}
-
--- How many matches are wanted to be seen.
-abbrev pub wanted_by : Options → ℕ
-wanted_by options = max options.check (options.first + options.size)
 
 -- Nothing of this weight can come to a page with this need.
 abbrev pub is_above : Option ℕ → ℕ → Bool

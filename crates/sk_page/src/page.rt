@@ -4,8 +4,9 @@ ghost use Rattle.sk_base.specs.Finds.{FitsPaging};
 ghost use Rattle.sk_base.specs.declared.rank.OrderBy.TheVariants as OrderBy;
 ghost use Rattle.sk_base.specs.declared.rank.Rank as RankView;
 ghost use Rattle.sk_model.specs.Allowance.{key_readings, value_readings};
+ghost use Rattle.sk_model.specs.Counts.{wanted_by};
 ghost use Rattle.sk_page.specs.Hits.{kept_count};
-ghost use Rattle.sk_page.specs.Needs.{is_settled, is_whole, need_for, wanted_by};
+ghost use Rattle.sk_page.specs.Needs.{is_settled, is_whole, need_for};
 ghost use Rattle.sk_page.specs.Pages.{CollapsesBy};
 ghost use Rattle.sk_page.specs.Views.{OpensPage, MaySee, Sees, MayReport, Reports};
 

@@ -23,7 +23,7 @@ returns-clause-passes g c = record {
   need = search rules;
   asked = inr (search rules);
   stops = on_stops;
-  rare = c.seek.ensures.rare;
+  rare = c.seek.ensures.accounts.rare;
   decays = on_decays;
   page = refl;
   bounds = refl;
@@ -31,8 +31,8 @@ returns-clause-passes g c = record {
   where
     on_stops : KeepsStops c.args.index.now c.args.id c.max-need.result c.args.self.now.tree c.seek.new.self
     on_stops point most stops (inl last) = absurd (c.if-id-eq4294967295.false last)
-    on_stops point most stops (inr may) = c.seek.ensures.stops point most stops may
+    on_stops point most stops (inr may) = c.seek.ensures.accounts.stops point most stops may
 
     on_decays : KeepsDecays c.args.index.now c.args.id c.max-need.result c.args.self.now.tree c.seek.new.self
     on_decays point greatest most decays (inl last) = absurd (c.if-id-eq4294967295.false last)
-    on_decays point greatest most decays (inr may) = c.seek.ensures.decays point greatest most decays may
+    on_decays point greatest most decays (inr may) = c.seek.ensures.accounts.decays point greatest most decays may
