@@ -13,7 +13,7 @@ pub one_more : {X : Type 0} (xs ys : List X) (x : X) → (xs ++ x ∷ []) ++ ys 
 one_more [] ys x = refl
 one_more (z ∷ xs) ys x = ap (λ zs. z ∷ zs) (one_more xs ys x)
 
-rest_light : (one : ℕ × Doc) (rest : List (ℕ × Doc)) → All IsLight (one ∷ rest) → All IsLight rest
+pub rest_light : (one : ℕ × Doc) (rest : List (ℕ × Doc)) → All IsLight (one ∷ rest) → All IsLight rest
 rest_light one rest h = λ k d l. h (suc k) d (omega arith)
 
 pub some_step : (tree : Tree) (scheme : Scheme) (order : Order) (xs next whole : List Rank) (x : Rank) (one : ℕ × Doc) (left rest : List (ℕ × Doc))

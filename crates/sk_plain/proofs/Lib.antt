@@ -4,3 +4,4 @@ mod IdLemmas
 pub mod KeptLemmas
 pub mod ReportLemmas
 mod WildLemmas
+mod FacetLemmas

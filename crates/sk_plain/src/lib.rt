@@ -2,6 +2,7 @@
 #![tactic(auto)]
 
 mod counted;
+mod facets;
 mod found;
 mod kept;
 mod leaves;
@@ -15,6 +16,7 @@ mod terms;
 mod wilds;
 
 pub use counted::Counted;
+pub use facets::{count_values, number_without, values_found};
 pub use found::found_by;
 pub use kept::{dropped_by, kept_by, key_of};
 pub use numbers::{greatest_of, length_of, live_of, slot_length_of};

@@ -25,6 +25,19 @@ pub fn allowance(
     sum_of(lists, extra(paging, matching, hits))
 }
 
+/// The lengths of the lists of all leaves, and so many readings more. It is an error where 128 bits do not hold it.
+pub fn list_readings(
+    alloc: Global,
+    query: &Query,
+    docs: &BTreeMap<DocId, Doc>,
+    more: usize,
+) -> Result<u128, AllocError>
+    ensures { IfOk result (λ n. n ≡ leaf_readings (query_view query.now) docs.now.entries + more) }
+{
+    let lists = leaf_readings(alloc, query, docs)?;
+    sum_of(lists, more as u128)
+}
+
 /// The lengths of the lists of all leaves. Those of near and phrase count twice, for their positions.
 #[cycle(leaf_readings)]
 fn leaf_readings(

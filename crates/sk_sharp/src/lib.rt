@@ -1,7 +1,8 @@
-//! The most steps that the rules allow a find, and its exact report with them, as a plain program over whole documents.
+//! The most steps that the rules allow a find, its exact report with them, and the facets of a query, as a plain program over whole documents.
 #![tactic(auto)]
 
 mod allowance;
+mod facets;
 mod lists;
 mod readings;
 mod reports;
@@ -9,5 +10,6 @@ mod settled;
 mod shapes;
 mod sharp;
 
+pub use facets::facets_of;
 pub use reports::report_of;
 pub use sharp::sharp_of;

@@ -1,0 +1,3 @@
+mod TallyLemmas
+mod FirstLemmas
+mod CountLemmas
