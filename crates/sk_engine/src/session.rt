@@ -1,18 +1,22 @@
 //! A session: the documents under one schema.
 ghost use Rattle.std.specs.Prelude.{◌≡◌, IfOk};
 ghost use Rattle.serde_json.specs.View.{view};
+ghost use Rattle.sk_base.specs.declared.facets.Facets.{Facets};
+ghost use Rattle.sk_base.specs.declared.report.Report.{Report};
+ghost use Rattle.sk_base.specs.Commands.{FitsFacets};
 ghost use Rattle.sk_base.specs.Finds.{FitsFind, ask_over};
 ghost use Rattle.sk_base.specs.Records.{FitsEdit};
-ghost use Rattle.sk_parser.specs.Asked.{asked};
+ghost use Rattle.sk_parser.specs.Asked.{asked, text_asked};
 ghost use Rattle.sk_model.specs.Edits.{Live, nothing_live, edited, reply_to};
-ghost use Rattle.sk_run.specs.Asking.{TellsOfFind, CountsSteps};
-ghost use Rattle.sk_engine.specs.Sessions.{SessionHolds, schema_of, MayFind};
+ghost use Rattle.sk_run.specs.Asking.{TellsOfQuestion, CountsSteps};
+ghost use Rattle.sk_engine.specs.Sessions.{SessionHolds, schema_of, MayFind, MayCount};
 
 use serde_json::Value;
-use sk_base::{Edit, Find, Reply, Report, Schema};
+use sk_base::{Edit, FacetQuery, Facets, Find, Reply, Report, Schema};
+use sk_facets::count;
 use sk_index::Index;
 use sk_match::search;
-use sk_parser::{AskError, query_of};
+use sk_parser::{AskError, query_of, text_query};
 use sk_steps::Steps;
 use std::alloc::{AllocError, Global};
 use std::sync::ledger::Ledger;
@@ -57,8 +61,8 @@ impl Session {
         steps: &mut Steps<L>,
     ) -> Result<Report, AskError>
         requires { FitsFind find.now }
-        ensures tells { (live : Live) → SessionHolds self.now live → TellsOfFind (MayFind live find.now.paging) (asked (schema_of self.now) (ask_over view find.now.ask)) result }
-        ensures counts { CountsSteps result steps.old steps.new }
+        ensures tells { (live : Live) → SessionHolds self.now live → TellsOfQuestion (MayFind live find.now.paging) (asked (schema_of self.now) (ask_over view find.now.ask)) result }
+        ensures counts { CountsSteps (λ (report : Report). report.steps) result steps.old steps.new }
     {
         let query = query_of(self.index.allocator(), self.schema(), &find.ask)?;
         match search(
@@ -69,6 +73,25 @@ impl Session {
             steps,
         ) {
             Ok(report) => Ok(report),
+            Err(AllocError) => Err(AskError::NoMemory),
+        }
+    }
+
+    /// How often each value of a slot stands among the documents that the text matches, or why it is no query. What is
+    /// refused takes no step.
+    pub fn facets<L: Ledger>(
+        &self,
+        wanted: &FacetQuery,
+        steps: &mut Steps<L>,
+    ) -> Result<Facets, AskError>
+        requires { FitsFacets wanted.now }
+        ensures tells { (live : Live) → SessionHolds self.now live → TellsOfQuestion (MayCount live wanted.now.slot wanted.now.size) (text_asked (schema_of self.now) wanted.now.join wanted.now.text) result }
+        ensures counts { CountsSteps (λ (facets : Facets). facets.steps) result steps.old steps.new }
+    {
+        let alloc = self.index.allocator();
+        let query = text_query(alloc, self.schema(), wanted.join, wanted.text.as_str())?;
+        match count(alloc, &self.index, &query, wanted.slot, wanted.size, steps) {
+            Ok(facets) => Ok(facets),
             Err(AllocError) => Err(AskError::NoMemory),
         }
     }

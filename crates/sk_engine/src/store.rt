@@ -1,7 +1,7 @@
 //! A session as the store of a run.
 use crate::Session;
 use serde_json::Value;
-use sk_base::{Edit, Find, Reply, Report, Schema};
+use sk_base::{Edit, FacetQuery, Facets, Find, Reply, Report, Schema};
 use sk_parser::AskError;
 use sk_run::{Response, Store};
 use sk_steps::Steps;
@@ -39,6 +39,14 @@ impl Store for Session {
         steps: &mut Steps<L>,
     ) -> Result<Report, AskError> {
         Session::find(self, find, steps)
+    }
+
+    fn facets<L: Ledger>(
+        &self,
+        wanted: &FacetQuery,
+        steps: &mut Steps<L>,
+    ) -> Result<Facets, AskError> {
+        Session::facets(self, wanted, steps)
     }
 
     /// Nothing is taken apart: a run is the last thing that the process does, and the memory goes with that.

@@ -5,6 +5,7 @@ use Rattle.serde_json.specs.View.{view}
 use Rattle.serde_json.specs.declared.value.Value.{Value}
 use Rattle.sk_base.specs.declared.command.Command.{Command}
 use Rattle.sk_base.specs.declared.command.Question.{Question}
+use Rattle.sk_base.specs.declared.facets.FacetQuery.{FacetQuery}
 use Rattle.sk_base.specs.declared.find.Ask.{Ask}
 use Rattle.sk_base.specs.declared.find.Collapse.{Collapse}
 use Rattle.sk_base.specs.declared.find.Find.{Find}
@@ -12,16 +13,16 @@ use Rattle.sk_base.specs.declared.find.Paging.{Paging}
 use Rattle.sk_base.specs.declared.record.Edit.{Edit}
 use Rattle.sk_base.specs.declared.schema.Field.{Field}
 use Rattle.sk_base.specs.declared.schema.Schema.{Schema}
-use Rattle.sk_base.specs.Commands.{FitsQuestion, command_over, question_over}
+use Rattle.sk_base.specs.Commands.{FitsFacets, FitsQuestion, command_over, question_over}
 use Rattle.sk_base.specs.Fields.{IsSchema, are_fields}
 use Rattle.sk_base.specs.Finds.{FitsAsk, FitsPaging, FitsFind, ask_over}
 use Rattle.sk_base.specs.Records.{FitsEdit}
-use Rattle.sk_record.specs.Shapes.{CollapsedOn, Wanted, Shape, schema, add, replace, replace_by, delete, delete_by, seek, show}
-use Rattle.sk_record.specs.FieldRules.{record_of, term_by_filter, replaced_by, slot_named, order_of, collapse_of, paging_of, find_of, command_of}
+use Rattle.sk_record.specs.Shapes.{CollapsedOn, Wanted, Counted, Shape, schema, add, replace, replace_by, delete, delete_by, seek, show, facets}
+use Rattle.sk_record.specs.FieldRules.{record_of, term_by_filter, replaced_by, slot_named, valued_named, facets_of, order_of, collapse_of, paging_of, find_of, command_of}
 use Rattle.sk_record.specs.Outcome.{MayCome}
 use Rattle.sk_record.proofs.Choices.{some_is, chained, mapped}
 use Rattle.sk_record.proofs.EntryLemmas.{record_fits}
-use Rattle.sk_record.proofs.ShapeLemmas.{FitsWanted, FitsShape}
+use Rattle.sk_record.proofs.ShapeLemmas.{FitsWanted, FitsCounted, FitsShape}
 
 abbrev KeepsOne : Option Collapse → Type 0
 KeepsOne o = IfSome o (λ c. 1 ≤ c.max)
@@ -41,6 +42,9 @@ paging_fits fields wanted paging fits =
 find_fits : (fields : List Field) (wanted : Wanted) (find : Find Data) → FitsWanted wanted → find_of fields wanted ≡ Some find → FitsFind find
 find_fits fields wanted find fits =
     mapped (λ (f : Find Data). FitsFind f) _ (paging_of fields wanted) find (λ paging is. record { ask = fits.ask; paging = paging_fits fields wanted paging fits is })
+
+facets_fit : (fields : List Field) (counted : Counted) (query : FacetQuery) → FitsCounted counted → facets_of fields counted ≡ Some query → FitsFacets query
+facets_fit fields counted query fits = mapped FitsFacets _ (valued_named fields counted.field) query (λ valued is. record { text = fits.text; size = fits.size })
 
 -- what a shape says may come
 module _ (accepted : Schema) (is : are_fields accepted.fields ≡ true) where
@@ -64,6 +68,8 @@ module _ (accepted : Schema) (is : are_fields accepted.fields ≡ true) where
   shape_comes (seek wanted) command fits e =
       mapped Comes (λ find. Command.Ask (Question.Find find)) (find_of accepted.fields wanted) command (λ find made. find_fits accepted.fields wanted find fits made) e
   shape_comes (show text join) command fits e = subst Comes (some_is (Command.Ask (Question.Show text join)) command e) fits
+  shape_comes (facets counted) command fits e =
+      mapped Comes (λ query. Command.Ask (Question.Facets query)) (facets_of accepted.fields counted) command (λ query made. facets_fit accepted.fields counted query fits made) e
 
 ask_fits : (ask : Ask Value) → FitsAsk (ask_over view ask) → FitsAsk ask
 ask_fits (Ask.Text text join) fits = fits
@@ -72,6 +78,7 @@ ask_fits (Ask.Tree value) fits = tt
 question_fits : (question : Question Value) → FitsQuestion (question_over view question) → FitsQuestion question
 question_fits (Question.Find it) fits = record { ask = ask_fits it.ask fits.ask; paging = fits.paging }
 question_fits (Question.Show text join) fits = fits
+question_fits (Question.Facets query) fits = record { text = fits.text; size = fits.size }
 
 comes : (accepted : Schema) (command : Command Value) → MayCome (Some accepted) (command_over view command) → MayCome (Some accepted) command
 comes accepted (Command.Schema given) fits = fits

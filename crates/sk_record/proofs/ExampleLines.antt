@@ -1,5 +1,5 @@
 -- How examples of lines are written.
-use Rattle.std.proofs.Common.{◌≡◌, ℕ, ◌==◌, cond, Bool, false, ◌∷◌, [], List, Option, Some, None, Result, Ok, Err, map, codes}
+use Rattle.std.proofs.Common.{◌≡◌, ℕ, ◌==◌, cond, Bool, true, false, ◌∷◌, [], List, Option, Some, None, Result, Ok, Err, map, codes}
 use Rattle.std.specs.Str.{is_utf8, chars}
 use Rattle.std.specs.Float.{float_is_finite}
 use Rattle.std.specs.Float.Numeral.{scan_numeral}
@@ -13,6 +13,7 @@ use Rattle.serde_json.specs.Data.{Data, null}
 use Rattle.serde_json.specs.Read.{number_of}
 use Rattle.sk_base.specs.declared.command.Command.{Command}
 use Rattle.sk_base.specs.declared.command.Question.{Question}
+use Rattle.sk_base.specs.declared.facets.ValueKind.{ValueKind}
 use Rattle.sk_base.specs.declared.find.Ask.{Ask}
 use Rattle.sk_base.specs.declared.find.Collapse.{Collapse}
 use Rattle.sk_base.specs.declared.find.Options.{Options}
@@ -75,7 +76,10 @@ abbrev pub field : List ℕ → FieldKind → Field
 field name kind = record { name = name; kind = kind }
 
 abbrev pub opened : List Field → Result (Command Data) LineFault
-opened fields = Ok (Command.Schema (record { fields = fields }))
+opened fields = Ok (Command.Schema (record { fields = fields; stem = false }))
+
+abbrev pub opened_stemming : List Field → Result (Command Data) LineFault
+opened_stemming fields = Ok (Command.Schema (record { fields = fields; stem = true }))
 
 -- an edit
 abbrev pub entry : ℕ → FieldValue → Entry
@@ -131,6 +135,10 @@ found ask = sought ask plain relevance None
 abbrev pub shown : List ℕ → Join → Result (Command Data) LineFault
 shown text join = Ok (Command.Ask (Question.Show text join))
 
+-- how often each value stands
+abbrev pub faceted : List ℕ → Join → ℕ → ValueKind → ℕ → Result (Command Data) LineFault
+faceted text join slot kind size = Ok (Command.Ask (Question.Facets (record { text = text; join = join; slot = slot; kind = kind; size = size })))
+
 -- ---- the schema of most lines
 
 abbrev pub schema : Schema
@@ -139,4 +147,5 @@ schema =
       fields =
           field (codes "body") (FieldKind.Text [] 1) ∷ field (codes "lang") (FieldKind.Filter (codes "L")) ∷ field (codes "year") (FieldKind.Number 0)
           ∷ field (codes "site") (FieldKind.Word 1) ∷ field (codes "cat") (FieldKind.Filter (codes "XCAT")) ∷ [];
+      stem = false;
     }

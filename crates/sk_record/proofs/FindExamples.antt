@@ -2,9 +2,10 @@
 use Rattle.std.proofs.Common.{◌∷◌, [], refl, Some, None, codes, true, false}
 use Rattle.sk_base.specs.declared.find.Join.{Join}
 use Rattle.sk_base.specs.declared.find.Scheme.{Scheme}
+use Rattle.sk_base.specs.declared.facets.ValueKind.TheVariants as ValueKind
 use Rattle.sk_base.specs.declared.rank.OrderBy.TheVariants as OrderBy
 use Rattle.sk_base.specs.declared.find.Ask.{Ask}
-use Rattle.sk_record.proofs.ExampleLines.{on_lines, AreGiven, row, schema, plain, rising, relevance, key, collapsed_on, tree_of, found, sought, shown, bad_shape, bad_field}
+use Rattle.sk_record.proofs.ExampleLines.{on_lines, AreGiven, row, schema, plain, rising, relevance, key, collapsed_on, tree_of, found, sought, shown, faceted, bad_shape, bad_field}
 
 -- A text, and how its words are joined.
 texts : AreGiven (Some schema) (
@@ -164,3 +165,41 @@ texts_to_show : AreGiven (Some schema) (
     [])
 unfolding on_lines
 texts_to_show = refl
+
+-- How often each value of a field stands: the field has values, and no more than 100,000 are told.
+facets : AreGiven (Some schema) (
+    row (codes "{'facets':'red','by':'year'}") (faceted (codes "red") Join.Or 0 ValueKind.Number 10) ∷
+    row (codes "{'facets':'red','by':'site'}") (faceted (codes "red") Join.Or 1 ValueKind.Word 10) ∷
+    row (codes "{'by':'site','size':7,'op':'and','facets':''}") (faceted [] Join.And 1 ValueKind.Word 7) ∷
+    row (codes "{'facets':'red','by':'site','op':'or','size':0}") (faceted (codes "red") Join.Or 1 ValueKind.Word 0) ∷
+    row (codes "{'facets':'red','by':'site','size':100000}") (faceted (codes "red") Join.Or 1 ValueKind.Word 100000) ∷
+    row (codes "{'facets':'red','by':'site','size':100001}") bad_shape ∷
+    row (codes "{'facets':'red','by':'site','size':18446744073709551615}") bad_shape ∷
+    row (codes "{'facets':'red','by':'site','size':18446744073709551616}") bad_shape ∷
+    row (codes "{'facets':'red','by':'site','size':-1}") bad_shape ∷
+    row (codes "{'facets':'red','by':'site','size':1.0}") bad_shape ∷
+    row (codes "{'facets':'red','by':'site','size':null}") bad_shape ∷
+    row (codes "{'facets':'red','by':'site','op':'xor'}") bad_shape ∷
+    row (codes "{'facets':'red'}") bad_shape ∷
+    row (codes "{'facets':'red','size':10}") bad_shape ∷
+    row (codes "{'facets':'red','by':null}") bad_shape ∷
+    row (codes "{'facets':'red','by':['site']}") bad_shape ∷
+    row (codes "{'facets':7,'by':'site'}") bad_shape ∷
+    row (codes "{'facets':null,'by':'site'}") bad_shape ∷
+    row (codes "{'facets':{'all':[]},'by':'site'}") bad_shape ∷
+    row (codes "{'facets':'red','by':'site','first':0}") bad_shape ∷
+    row (codes "{'facets':'red','by':'site','cutoff':0}") bad_shape ∷
+    row (codes "{'facets':'red','by':'site','scheme':'bool'}") bad_shape ∷
+    row (codes "{'facets':'red','by':'site','check':0}") bad_shape ∷
+    row (codes "{'facets':'red','by':'site','reverse':false}") bad_shape ∷
+    row (codes "{'facets':'red','by':'site','find':'red'}") bad_shape ∷
+    row (codes "{'facets':'red','by':'site','show':'red'}") bad_shape ∷
+    row (codes "{'facets':'red','by':'body'}") bad_field ∷
+    row (codes "{'facets':'red','by':'lang'}") bad_field ∷
+    row (codes "{'facets':'red','by':'nope'}") bad_field ∷
+    row (codes "{'facets':'red','by':''}") bad_field ∷
+    row (codes "{'facets':'red','by':'nope','size':100001}") bad_shape ∷
+    row (codes "{'facets':'(','by':'site'}") (faceted (codes "(") Join.Or 1 ValueKind.Word 10) ∷
+    [])
+unfolding on_lines
+facets = refl

@@ -3,11 +3,12 @@ use Rattle.std.proofs.Common.{◌≡◌, ℕ, zero, suc, ◌+◌, ◌/◌, ◌%�
 use Rattle.std.specs.List.{range_with_len}
 use Rattle.std.specs.Str.{encode_utf8_all}
 use Rattle.serde_json.specs.Data.{Data, string, array, object, no_items, item, no_members, member}
+use Rattle.sk_base.specs.declared.facets.ValueKind.TheVariants as ValueKind
 use Rattle.sk_base.specs.declared.find.Join.{Join}
 use Rattle.sk_base.specs.declared.schema.FieldKind.TheVariants as FieldKind
 use Rattle.sk_record.specs.Outcome.{outcome}
 use Rattle.sk_base.specs.declared.find.Ask.{Ask}
-use Rattle.sk_record.proofs.ExampleLines.{on_lines, AreGiven, row, schema, field, opened, found, not_json, no_schema, bad_shape, bad_field}
+use Rattle.sk_record.proofs.ExampleLines.{on_lines, AreGiven, row, schema, field, opened, found, faceted, not_json, no_schema, bad_shape, bad_field}
 
 -- Bytes that are not UTF-8 are no value, and a mark of the order of bytes is no white space.
 no_text_at_first : AreGiven None (
@@ -100,6 +101,16 @@ longest_text text e = rw e
 
 too_long_a_text : (text : List ℕ) → length text ≡ 1048577 → outcome (Some schema) (Some (asking text)) ≡ bad_shape
 too_long_a_text text e = rw e
+
+-- and so has that of facets
+abbrev counting : List ℕ → Data
+counting text = object (member (codes "by") (string (codes "site")) (member (codes "facets") (string text) no_members))
+
+longest_facets : (text : List ℕ) → length text ≡ 1048576 → outcome (Some schema) (Some (counting text)) ≡ faceted text Join.Or 1 ValueKind.Word 10
+longest_facets text e = rw e
+
+too_long_facets : (text : List ℕ) → length text ≡ 1048577 → outcome (Some schema) (Some (counting text)) ≡ bad_shape
+too_long_facets text e = rw e
 
 -- so have the strings of a record together, wherever they stand in it
 abbrev adding : List ℕ → List ℕ → Data

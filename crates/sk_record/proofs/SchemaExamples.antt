@@ -1,7 +1,7 @@
 -- Lines before a schema was accepted, and what they give, worked out by hand from the rules. A ' stands for a ".
 use Rattle.std.proofs.Common.{◌∷◌, [], refl, None, codes}
 use Rattle.sk_base.specs.declared.schema.FieldKind.TheVariants as FieldKind
-use Rattle.sk_record.proofs.ExampleLines.{on_lines, AreGiven, row, field, opened, not_json, no_schema, bad_shape, bad_field}
+use Rattle.sk_record.proofs.ExampleLines.{on_lines, AreGiven, row, field, opened, opened_stemming, not_json, no_schema, bad_shape, bad_field}
 
 -- Bytes that are no JSON value.
 no_json : AreGiven None (
@@ -26,6 +26,7 @@ no_schema_yet : AreGiven None (
     row (codes "['schema']") no_schema ∷
     row (codes "{'find':'red'}") no_schema ∷
     row (codes "{'find':7}") no_schema ∷
+    row (codes "{'facets':'red','by':'site'}") no_schema ∷
     row (codes "{'schemas':[]}") no_schema ∷
     row (codes "{'add':{'schema':[]}}") no_schema ∷
     [])
@@ -48,6 +49,23 @@ lines : AreGiven None (
     [])
 unfolding on_lines
 lines = refl
+
+-- Whether words are stemmed: true or false, and false where nothing is said.
+stems : AreGiven None (
+    row (codes "{'schema':[{'name':'a','kind':'text'}],'stem':true}") (opened_stemming (field (codes "a") (FieldKind.Text [] 1) ∷ [])) ∷
+    row (codes "{'stem':false,'schema':[{'name':'a','kind':'text'}]}") (opened (field (codes "a") (FieldKind.Text [] 1) ∷ [])) ∷
+    row (codes "{'stem':7,'schema':[{'name':'a','kind':'text'}],'stem':true}") (opened_stemming (field (codes "a") (FieldKind.Text [] 1) ∷ [])) ∷
+    row (codes "{'schema':[{'name':'a','kind':'text'}],'stem':null}") bad_shape ∷
+    row (codes "{'schema':[{'name':'a','kind':'text'}],'stem':1}") bad_shape ∷
+    row (codes "{'schema':[{'name':'a','kind':'text'}],'stem':'true'}") bad_shape ∷
+    row (codes "{'schema':[{'name':'a','kind':'text'}],'stem':[]}") bad_shape ∷
+    row (codes "{'schema':[{'name':'a','kind':'text','stem':true}]}") bad_shape ∷
+    row (codes "{'schema':[{'name':'A','kind':'text'}],'stem':true}") bad_field ∷
+    row (codes "{'schema':[{'name':'A','kind':'text'}],'stem':1}") bad_shape ∷
+    row (codes "{'stem':true}") no_schema ∷
+    [])
+unfolding on_lines
+stems = refl
 
 -- A field has a name and a kind.
 names_and_kinds : AreGiven None (

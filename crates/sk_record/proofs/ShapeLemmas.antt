@@ -10,9 +10,9 @@ use Rattle.sk_base.specs.declared.find.Options.{Options}
 use Rattle.sk_base.specs.Finds.{FitsAsk}
 use Rattle.sk_base.specs.Records.{most_bytes}
 use Rattle.sk_json.specs.Values.{has, has_only, text_at, whole_number, between, optional_text, optional_number, bytes_in}
-use Rattle.sk_record.specs.Shapes.{Given, CollapsedOn, Wanted, Shape, schema, add, replace, replace_by, delete, delete_by, seek, show}
+use Rattle.sk_record.specs.Shapes.{Given, CollapsedOn, Wanted, Counted, Shape, schema, add, replace, replace_by, delete, delete_by, seek, show, facets}
 use Rattle.sk_record.specs.Options.{query_at, join_at, scheme_at, page_at, check_at, cutoff_at, falling_at, sorted_at, collapsed_on, collapsed_by, collapsed_at, options_at, wanted_at, option_names, find_row, tree_row}
-use Rattle.sk_record.specs.Rows.{values_object, given_at, id_member, pair_at, add_row, replace_row, replace_by_row, delete_row, delete_by_row, show_row, later_shape}
+use Rattle.sk_record.specs.Rows.{values_object, given_at, id_member, pair_at, add_row, replace_row, replace_by_row, delete_row, delete_by_row, show_row, told_at, facets_row, later_shape}
 use Rattle.sk_record.proofs.Choices.{some_is, chained, mapped, guarded, either}
 
 -- the query, the page and the collapsing are in their ranges
@@ -20,6 +20,11 @@ pub record FitsWanted (wanted : Wanted) : Type 0 where
   pub ask : FitsAsk wanted.ask
   pub page : wanted.options.first + wanted.options.size ≤ 100000
   pub collapsed : IfSome wanted.collapsed (λ c. 1 ≤ c.max)
+
+-- the text is not too long, and not too many values are told
+pub record FitsCounted (counted : Counted) : Type 0 where
+  pub text : length counted.text ≤ most_bytes
+  pub size : counted.size ≤ 100000
 
 -- a shape that is no schema, and is in its ranges
 abbrev pub FitsShape : Shape → Type 0
@@ -31,11 +36,17 @@ FitsShape (delete id) = 1 ≤ id
 FitsShape (delete_by pair) = Unit {0}
 FitsShape (seek wanted) = FitsWanted wanted
 FitsShape (show text join) = length text ≤ most_bytes
+FitsShape (facets counted) = FitsCounted counted
 
 between_least : (least most n m : ℕ) → between least most n ≡ Some m → least ≤ m
 between_least least most n m =
     guarded (λ k. least ≤ k) (nat_le least n && nat_le n most) (Some n) m
     (λ both is. subst (λ k. least ≤ k) (some_is n m is) (leb-true least n (first_so (nat_le least n) (nat_le n most) both)))
+
+between_most : (least most n m : ℕ) → between least most n ≡ Some m → m ≤ most
+between_most least most n m =
+    guarded (λ k. k ≤ most) (nat_le least n && nat_le n most) (Some n) m
+    (λ both is. subst (λ k. k ≤ most) (some_is n m is) (leb-true n most (second_so (nat_le least n) (nat_le n most) both)))
 
 values_short : (d values : Data) → values_object d ≡ Some values → bytes_in values ≤ most_bytes
 values_short d values =
@@ -141,6 +152,19 @@ show_fits d shape =
     (λ only. chained FitsShape _ (query_at (codes "show") d) shape
     (λ text is. mapped FitsShape (show text) (join_at d) shape (λ join it. query_short (codes "show") d text is)))
 
+told_fits : (d : Data) (size : ℕ) → told_at d ≡ Some size → size ≤ 100000
+told_fits d size =
+    chained (λ n. n ≤ 100000) (between 0 100000) (optional_number (codes "size") 10 d) size (λ n is e. between_most 0 100000 n size e)
+
+facets_fit : (d : Data) (counted : Counted) → facets_row d ≡ Some counted → FitsCounted counted
+facets_fit d counted =
+    guarded FitsCounted (has_only (codes "facets" ∷ codes "op" ∷ codes "by" ∷ codes "size" ∷ []) d) _ counted
+    (λ only. chained FitsCounted _ (query_at (codes "facets") d) counted
+    (λ text is. chained FitsCounted _ (join_at d) counted
+    (λ join it. chained FitsCounted _ (text_at (codes "by") d) counted
+    (λ field there. mapped FitsCounted _ (told_at d) counted
+    (λ size told. record { text = query_short (codes "facets") d text is; size = told_fits d size told })))))
+
 pub later_fits : (d : Data) (shape : Shape) → later_shape d ≡ Some shape → FitsShape shape
 later_fits d shape =
     either FitsShape (has (codes "add") d) _ _ shape (add_fits d shape)
@@ -150,4 +174,5 @@ later_fits d shape =
     (either FitsShape (has (codes "delete_by") d) _ _ shape (delete_by_fits d shape)
     (either FitsShape (has (codes "find") d) _ _ shape (mapped FitsShape seek (find_row d) shape (find_fits d))
     (either FitsShape (has (codes "tree") d) _ _ shape (mapped FitsShape seek (tree_row d) shape (tree_fits d))
-    (either FitsShape (has (codes "show") d) _ _ shape (show_fits d shape) (λ e. cc))))))))
+    (either FitsShape (has (codes "show") d) _ _ shape (show_fits d shape)
+    (either FitsShape (has (codes "facets") d) _ _ shape (mapped FitsShape facets (facets_row d) shape (facets_fit d)) (λ e. cc)))))))))

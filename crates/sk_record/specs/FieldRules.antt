@@ -5,6 +5,8 @@ use Rattle.serde_json.specs.Data.{Data, null, boolean, number, string, array, ob
 use Rattle.serde_json.specs.Find.{get, as_str}
 use Rattle.sk_base.specs.declared.command.Command.{Command}
 use Rattle.sk_base.specs.declared.command.Question.{Question}
+use Rattle.sk_base.specs.declared.facets.FacetQuery.{FacetQuery}
+use Rattle.sk_base.specs.declared.facets.ValueKind.{ValueKind}
 use Rattle.sk_base.specs.declared.find.Collapse.{Collapse}
 use Rattle.sk_base.specs.declared.find.Find.{Find}
 use Rattle.sk_base.specs.declared.find.Paging.{Paging}
@@ -20,7 +22,7 @@ use Rattle.sk_base.specs.Fields.{are_fields, kind_slot}
 use Rattle.sk_base.specs.Terms.{prefixed}
 use Rattle.sk_record.specs.declared.row.Sort.{Sort}
 use Rattle.sk_json.specs.Values.{all_names, whole_number, texts_of}
-use Rattle.sk_record.specs.Shapes.{Given, Sorted, by_relevance, by_field, CollapsedOn, Wanted, Shape, schema, add, replace, replace_by, delete, delete_by, seek, show}
+use Rattle.sk_record.specs.Shapes.{Given, Sorted, by_relevance, by_field, CollapsedOn, Wanted, Counted, Shape, schema, add, replace, replace_by, delete, delete_by, seek, show, facets}
 
 -- The field with this name.
 abbrev pub field_named : List Field → List ℕ → Option Field
@@ -97,6 +99,17 @@ term_by_filter fields pair = option_map (λ prefix. prefixed prefix pair.1) (pre
 abbrev pub slot_named : List Field → List ℕ → Option ℕ
 slot_named fields name = option_and_then (λ field. kind_slot field.kind) (field_named fields name)
 
+-- The slot of the values of a field of this kind, and what they are; none where it has no values.
+abbrev pub slot_and_kind : FieldKind → Option (ℕ × ValueKind)
+slot_and_kind (FieldKind.Text prefix step) = None
+slot_and_kind (FieldKind.Filter prefix) = None
+slot_and_kind (FieldKind.Number slot) = Some (slot, ValueKind.Number)
+slot_and_kind (FieldKind.Word slot) = Some (slot, ValueKind.Word)
+
+-- The slot of the named number or word, and which of the two it is.
+abbrev pub valued_named : List Field → List ℕ → Option (ℕ × ValueKind)
+valued_named fields name = option_and_then (λ field. slot_and_kind field.kind) (field_named fields name)
+
 -- What decides, by this key.
 abbrev pub keyed : Sort → SortKey → OrderBy
 keyed Sort.Value key = OrderBy.Value key
@@ -124,6 +137,12 @@ paging_of fields wanted =
 abbrev pub find_of : List Field → Wanted → Option (Find Data)
 find_of fields wanted = option_map (λ paging. record { ask = wanted.ask; paging = paging }) (paging_of fields wanted)
 
+-- The facets of a field, with its slot.
+abbrev pub facets_of : List Field → Counted → Option FacetQuery
+facets_of fields counted =
+    option_map (λ valued. record { text = counted.text; join = counted.join; slot = valued.0; kind = valued.1; size = counted.size })
+    (valued_named fields counted.field)
+
 -- The edit that puts a record in the place of all documents with a term, where the field and the record keep the rules.
 abbrev pub replaced_by : List Field → List ℕ × List ℕ → Given → Option Edit
 replaced_by fields pair given = option_and_then (λ term. option_map (λ it. Edit.ReplaceBy term it) (record_of fields given)) (term_by_filter fields pair)
@@ -138,3 +157,4 @@ command_of fields (delete id) = Some (Command.Edit (Edit.Delete id))
 command_of fields (delete_by pair) = option_map (λ term. Command.Edit (Edit.DeleteBy term)) (term_by_filter fields pair)
 command_of fields (seek wanted) = option_map (λ find. Command.Ask (Question.Find find)) (find_of fields wanted)
 command_of fields (show text join) = Some (Command.Ask (Question.Show text join))
+command_of fields (facets counted) = option_map (λ it. Command.Ask (Question.Facets it)) (facets_of fields counted)

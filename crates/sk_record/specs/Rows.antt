@@ -3,9 +3,10 @@ use Rattle.std.specs.Prelude.{ℕ, ◌&&◌, nat_le, List, [], ◌∷◌, Option
 use Rattle.std.specs.Option.{option_and_then}
 use Rattle.serde_json.specs.Data.{Data}
 use Rattle.serde_json.specs.Find.{get, as_object}
+use Rattle.sk_base.specs.Finds.{default_options}
 use Rattle.sk_base.specs.Records.{most_bytes}
-use Rattle.sk_json.specs.Values.{has, has_only, whole_number, between, optional_text, two_texts, bytes_in}
-use Rattle.sk_record.specs.Shapes.{Given, Shape, schema, add, replace, replace_by, delete, delete_by, seek, show}
+use Rattle.sk_json.specs.Values.{has, has_only, text_at, whole_number, between, optional_text, optional_number, two_texts, bytes_in}
+use Rattle.sk_record.specs.Shapes.{Given, Counted, Shape, schema, add, replace, replace_by, delete, delete_by, seek, show, facets}
 use Rattle.sk_record.specs.SchemaFields.{schema_row}
 use Rattle.sk_record.specs.Options.{query_at, join_at, find_row, tree_row}
 
@@ -60,6 +61,21 @@ show_row d =
     option_and_then (λ text. option_map (show text) (join_at d)) (query_at (codes "show") d)
     else None
 
+-- How many values are told at the most: as many as a find gives hits where nothing is said, and up to 100,000.
+abbrev pub told_at : Data → Option ℕ
+told_at d = option_and_then (between 0 100000) (optional_number (codes "size") default_options.size d)
+
+-- A text, and the field whose values are counted.
+abbrev pub facets_row : Data → Option Counted
+facets_row d =
+    if has_only (codes "facets" ∷ codes "op" ∷ codes "by" ∷ codes "size" ∷ []) d then
+    option_and_then (λ text.
+    option_and_then (λ join.
+    option_and_then (λ field.
+    option_map (λ size. record { text = text; join = join; field = field; size = size })
+    (told_at d)) (text_at (codes "by") d)) (join_at d)) (query_at (codes "facets") d)
+    else None
+
 -- The rows other than a schema, each known by its first member.
 abbrev pub later_shape : Data → Option Shape
 later_shape d =
@@ -71,7 +87,8 @@ later_shape d =
     else (if has (codes "find") d then option_map seek (find_row d)
     else (if has (codes "tree") d then option_map seek (tree_row d)
     else (if has (codes "show") d then show_row d
-    else None)))))))
+    else (if has (codes "facets") d then option_map facets (facets_row d)
+    else None))))))))
 
 -- The shape of a value, and none where it fits no row.
 abbrev pub row_shape : Data → Option Shape

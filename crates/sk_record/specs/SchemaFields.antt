@@ -6,7 +6,7 @@ use Rattle.serde_json.specs.Find.{get, as_array}
 use Rattle.sk_base.specs.declared.schema.Field.{Field}
 use Rattle.sk_base.specs.declared.schema.FieldKind.{FieldKind}
 use Rattle.sk_base.specs.declared.schema.Schema.{Schema}
-use Rattle.sk_json.specs.Values.{has_only, text_at, optional_text, optional_number, whole_number, count_items}
+use Rattle.sk_json.specs.Values.{has_only, text_at, optional_text, optional_number, optional_flag, whole_number, count_items}
 
 -- A number beyond 32 bits is taken as the greatest of 32 bits, which is out of range as well.
 abbrev pub capped : ℕ → ℕ
@@ -57,9 +57,13 @@ fields_of (item d ds) = option_and_then (λ field. option_map (λ fields. field 
 abbrev pub some_fields : Items → Option (List Field)
 some_fields ds = if nat_le 1 (count_items ds) && nat_le (count_items ds) 64 then fields_of ds else None
 
--- The schema of a schema line.
+-- The fields of a schema line.
+abbrev pub fields_at : Data → Option (List Field)
+fields_at d = option_and_then some_fields (option_and_then as_array (get (codes "schema") d))
+
+-- The schema of a schema line. Words are not stemmed where nothing is said.
 abbrev pub schema_row : Data → Option Schema
 schema_row d =
-    if has_only (codes "schema" ∷ []) d then
-    option_map (λ fields. record { fields = fields }) (option_and_then some_fields (option_and_then as_array (get (codes "schema") d)))
+    if has_only (codes "schema" ∷ codes "stem" ∷ []) d then
+    option_and_then (λ stem. option_map (λ fields. record { fields = fields; stem = stem }) (fields_at d)) (optional_flag (codes "stem") d)
     else None

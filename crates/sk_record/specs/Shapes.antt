@@ -30,6 +30,13 @@ pub record Wanted : Type 0 where
   pub falling : Bool
   pub collapsed : Option CollapsedOn
 
+-- A query text, the named field whose values are counted, and how many values are told at the most.
+pub record Counted : Type 0 where
+  pub text : List ℕ
+  pub join : Join
+  pub field : List ℕ
+  pub size : ℕ
+
 -- The rows. A field and a text are those of `replace_by` and `delete_by`.
 pub data Shape : Type 0 where
   schema : Schema → Shape
@@ -40,3 +47,4 @@ pub data Shape : Type 0 where
   delete_by : List ℕ × List ℕ → Shape
   seek : Wanted → Shape
   show : List ℕ → Join → Shape
+  facets : Counted → Shape

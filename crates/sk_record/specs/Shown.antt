@@ -8,9 +8,10 @@ use Rattle.sk_record.specs.declared.row.AskRow.{AskRow}
 use Rattle.sk_record.specs.declared.row.OrderRow.{OrderRow}
 use Rattle.sk_record.specs.declared.row.CollapseRow.{CollapseRow}
 use Rattle.sk_record.specs.declared.row.FindRow.{FindRow}
+use Rattle.sk_record.specs.declared.row.FacetRow.{FacetRow}
 use Rattle.sk_record.specs.declared.row.TextRow.{TextRow}
 use Rattle.sk_record.specs.declared.row.Row.{Row}
-use Rattle.sk_record.specs.Shapes.{Given, Sorted, by_relevance, by_field, CollapsedOn, Wanted, Shape, add, replace, replace_by, delete, delete_by, seek, show}
+use Rattle.sk_record.specs.Shapes.{Given, Sorted, by_relevance, by_field, CollapsedOn, Wanted, Counted, Shape, add, replace, replace_by, delete, delete_by, seek, show, facets}
 
 -- A field's name and a text.
 abbrev pub pair_shown : TextRow → List ℕ × List ℕ
@@ -39,6 +40,10 @@ abbrev pub wanted_shown : FindRow → Wanted
 wanted_shown row =
     record { ask = ask_shown row.ask; options = row.options; sorted = sorted_shown row.order; falling = row.falling; collapsed = option_map collapsed_shown row.collapse }
 
+-- A row that asks for facets.
+abbrev pub counted_shown : FacetRow → Counted
+counted_shown row = record { text = row.text.now; join = row.join; field = row.field.now; size = row.size }
+
 -- A row.
 abbrev pub shape_shown : Row → Shape
 shape_shown (Row.Add given) = add (given_shown given)
@@ -48,3 +53,4 @@ shape_shown (Row.Delete id) = delete id
 shape_shown (Row.DeleteBy pair) = delete_by (pair_shown pair)
 shape_shown (Row.Find wanted) = seek (wanted_shown wanted)
 shape_shown (Row.Show text join) = show text.now join
+shape_shown (Row.Facets counted) = facets (counted_shown counted)

@@ -4,15 +4,16 @@ ghost use Rattle.serde_json.specs.View.{view};
 ghost use Rattle.sk_base.specs.Fields.{are_fields};
 ghost use Rattle.sk_base.specs.Finds.{ask_over, find_over};
 ghost use Rattle.sk_base.specs.Commands.{command_over};
-ghost use Rattle.sk_record.specs.Shown.{pair_shown, given_shown, ask_shown, sorted_shown, collapsed_shown, wanted_shown, shape_shown};
-ghost use Rattle.sk_record.specs.FieldRules.{field_named, filter_texts, told_value, member_value, with_entry, record_entries, record_of, prefix_named, filter_prefix, term_by_filter, slot_named, keyed, order_of, collapse_of, paging_of, find_of, replaced_by, command_of};
+ghost use Rattle.sk_record.specs.Shown.{pair_shown, given_shown, ask_shown, sorted_shown, collapsed_shown, wanted_shown, counted_shown, shape_shown};
+ghost use Rattle.sk_record.specs.FieldRules.{field_named, filter_texts, told_value, member_value, with_entry, record_entries, record_of, prefix_named, filter_prefix, term_by_filter, slot_named, slot_and_kind, valued_named, facets_of, keyed, order_of, collapse_of, paging_of, find_of, replaced_by, command_of};
 
-use crate::row::{AskRow, CollapseRow, FindRow, OrderRow, RecordRow, Row, Sort, TextRow};
+use crate::row::{AskRow, CollapseRow, FacetRow, FindRow, OrderRow, RecordRow, Row, Sort, TextRow};
 use crate::taken::{into_texts, take_member, text_of};
 use serde_json::Value;
 use sk_base::{
-    Ask, Collapse, Command, Edit, Entries, Entry, Field, FieldKind, FieldValue, Find, Items, Order,
-    OrderBy, Paging, Question, Record, SortKey, Term, Text, Texts, prefixed,
+    Ask, Collapse, Command, Edit, Entries, Entry, FacetQuery, Field, FieldKind, FieldValue, Find,
+    Items, Order, OrderBy, Paging, Question, Record, SortKey, Term, Text, Texts, ValueKind,
+    prefixed,
 };
 use sk_json::{has_only, whole_number};
 use std::alloc::{AllocError, Global};
@@ -52,6 +53,10 @@ pub fn command_of(
             let text = Text::new(alloc, text)?;
             Ok(Some(Command::Ask(Question::Show(text, join))))
         }
+        Row::Facets(counted) => match facets_of(alloc, fields, counted)? {
+            Some(facets) => Ok(Some(Command::Ask(Question::Facets(facets)))),
+            None => Ok(None),
+        },
     }
 }
 
@@ -190,6 +195,45 @@ fn collapse_of(fields: &[Field], collapse: Option<CollapseRow<'_>>) -> Option<Op
             Some(Some(Collapse { slot, max: row.max }))
         }
         None => Some(None),
+    }
+}
+
+/// The facets of a field, with its slot.
+fn facets_of(
+    alloc: Global,
+    fields: &[Field],
+    counted: FacetRow<'_>,
+) -> Result<Option<FacetQuery>, AllocError>
+    ensures { IfOk result (λ f. f ≡ facets_of fields.now (counted_shown counted.entry)) }
+{
+    let Some((slot, kind)) = valued_named(fields, counted.field) else {
+        return Ok(None);
+    };
+    let text = Text::new(alloc, counted.text)?;
+    Ok(Some(FacetQuery {
+        text,
+        join: counted.join,
+        slot,
+        kind,
+        size: counted.size,
+    }))
+}
+
+/// The slot of the named number or word, and which of the two it is.
+fn valued_named(fields: &[Field], name: &str) -> Option<(u32, ValueKind)>
+    ensures { result ≡ valued_named fields.now name.now }
+{
+    slot_and_kind(&field_named(fields, name)?.kind)
+}
+
+fn slot_and_kind(kind: &FieldKind) -> Option<(u32, ValueKind)>
+    ensures { result ≡ slot_and_kind kind.now }
+{
+    match kind {
+        FieldKind::Text(_, _) => None,
+        FieldKind::Filter(_) => None,
+        FieldKind::Number(slot) => Some((*slot, ValueKind::Number)),
+        FieldKind::Word(slot) => Some((*slot, ValueKind::Word)),
     }
 }
 

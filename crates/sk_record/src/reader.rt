@@ -41,10 +41,10 @@ fn first_command(alloc: Global, value: &Value) -> Result<Command<Value>, LineFau
     if !has(value, "schema") {
         return Err(LineFault::NoSchema);
     }
-    let Some(fields) = schema_row(alloc, value)? else {
+    let Some(row) = schema_row(alloc, value)? else {
         return Err(LineFault::BadShape);
     };
-    match Schema::check(fields) {
+    match Schema::check(row.fields, row.stem) {
         Some(schema) => Ok(Command::Schema(schema)),
         None => Err(LineFault::BadField),
     }

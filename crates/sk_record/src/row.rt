@@ -56,6 +56,15 @@ pub struct FindRow<'a> {
     pub collapse: Option<CollapseRow<'a>>,
 }
 
+/// A query text, the field whose values are counted, and how many values are told at the most.
+#[derive(Clone, Copy)]
+pub struct FacetRow<'a> {
+    pub text: &'a str,
+    pub join: Join,
+    pub field: &'a str,
+    pub size: u32,
+}
+
 /// A line after the schema, by its row.
 #[derive(Drop)]
 pub enum Row<'a> {
@@ -66,4 +75,5 @@ pub enum Row<'a> {
     DeleteBy(TextRow<'a>),
     Find(FindRow<'a>),
     Show(&'a str, Join),
+    Facets(FacetRow<'a>),
 }

@@ -2,16 +2,18 @@
 ghost use Rattle.std.specs.Prelude.{◌≡◌, OnSome, option_map, codes};
 ghost use Rattle.serde_json.specs.View.{view};
 ghost use Rattle.sk_json.specs.Values.{optional_text};
-ghost use Rattle.sk_record.specs.Rows.{values_object, given_at, id_member, pair_at, add_row, replace_row, replace_by_row, delete_row, delete_by_row, show_row, later_shape};
-ghost use Rattle.sk_record.specs.Shown.{pair_shown, given_shown, shape_shown};
+ghost use Rattle.sk_record.specs.Rows.{values_object, given_at, id_member, pair_at, add_row, replace_row, replace_by_row, delete_row, delete_by_row, show_row, told_at, facets_row, later_shape};
+ghost use Rattle.sk_record.specs.Shown.{pair_shown, given_shown, counted_shown, shape_shown};
 ghost use Rattle.sk_record.specs.Taken.{without_member};
 
 use crate::options::{find_row, join_at, query_at, tree_row};
-use crate::row::{RecordRow, Row, TextRow};
+use crate::row::{FacetRow, RecordRow, Row, TextRow};
 use crate::taken::{take_member, text_of};
 use serde_json::Value;
-use sk_base::{MOST_TEXT, Text};
-use sk_json::{between, has, has_only, is_within, two_texts, whole_number};
+use sk_base::{MOST_HITS, MOST_TEXT, Text, default_options};
+use sk_json::{
+    between, has, has_only, is_within, optional_number, text_at, two_texts, whole_number,
+};
 use std::alloc::Global;
 
 /// The row of a line that is no schema, by its first member. What a record is given is taken out of the line.
@@ -36,6 +38,9 @@ pub fn later_row(alloc: Global, line: &mut Value) -> Option<Row<'_>>
         Some(Row::Find(find))
     } else if has(line, "show") {
         show_row(line)
+    } else if has(line, "facets") {
+        let facets = facets_row(line)?;
+        Some(Row::Facets(facets))
     } else {
         None
     }
@@ -103,6 +108,32 @@ fn show_row(line: &Value) -> Option<Row<'_>>
     let text = query_at(line, "show")?;
     let join = join_at(line)?;
     Some(Row::Show(text, join))
+}
+
+fn facets_row(line: &Value) -> Option<FacetRow<'_>>
+    ensures { option_map counted_shown result ≡ facets_row (view line.entry.now) }
+{
+    if !has_only(line, &["facets", "op", "by", "size"]) {
+        return None;
+    }
+    let text = query_at(line, "facets")?;
+    let join = join_at(line)?;
+    let field = text_at(line, "by")?;
+    let size = told_at(line)?;
+    Some(FacetRow {
+        text,
+        join,
+        field,
+        size,
+    })
+}
+
+/// How many values are told at the most.
+fn told_at(line: &Value) -> Option<u32>
+    ensures { result ≡ told_at (view line.now) }
+{
+    let default = u64::from(default_options().size);
+    between(0, MOST_HITS, optional_number(line, "size", default)?)
 }
 
 /// The values object at a member, and the payload. Both are taken out of the line.

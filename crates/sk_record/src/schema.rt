@@ -1,24 +1,44 @@
-//! The fields of a schema line.
+//! The schema of a schema line.
 ghost use Rattle.std.specs.Prelude.{◌≡◌, ◌≤◌, ◌&&◌, nat_le, length, IfOk, IfSome, option_map};
 ghost use Rattle.std.specs.Option.{option_and_then};
 ghost use Rattle.serde_json.specs.View.{view, items_view};
 ghost use Rattle.serde_json.specs.Find.{get, as_array};
 ghost use Rattle.sk_base.specs.declared.schema.FieldKind.TheVariants as FieldKind;
-ghost use Rattle.sk_record.specs.SchemaFields.{capped, text_kind, filter_kind, slot_at, kind_named, kind_of, field_of, fields_of, some_fields, schema_row};
+ghost use Rattle.sk_record.specs.SchemaFields.{capped, text_kind, filter_kind, slot_at, kind_named, kind_of, field_of, fields_of, some_fields, fields_at, schema_row};
 
 use serde_json::Value;
 use sk_base::{Field, FieldKind, MOST_FIELDS, Text};
-use sk_json::{has_only, optional_number, optional_text, text_at, whole_number};
+use sk_json::{has_only, optional_flag, optional_number, optional_text, text_at, whole_number};
 use std::alloc::{AllocError, Global};
 
-/// The fields of a schema line, none where it has not the shape of one.
-pub fn schema_row(alloc: Global, line: &Value) -> Result<Option<Vec<Field>>, AllocError>
-    ensures value { IfOk result (λ r. option_map (λ fields. record { fields = fields.items }) r ≡ schema_row (view line.now)) }
-    ensures count { IfOk result (λ r. IfSome r (λ fields. (1 ≤ length fields.items) × (length fields.items ≤ 64))) }
+/// The fields of a schema line, and whether it asks for stems.
+#[derive(Drop)]
+pub struct SchemaRow {
+    pub fields: Vec<Field>,
+    pub stem: bool,
+}
+
+/// What a schema line gives, none where it has not the shape of one.
+pub fn schema_row(alloc: Global, line: &Value) -> Result<Option<SchemaRow>, AllocError>
+    ensures value { IfOk result (λ r. option_map (λ row. record { fields = row.fields.items; stem = row.stem }) r ≡ schema_row (view line.now)) }
+    ensures count { IfOk result (λ r. IfSome r (λ row. (1 ≤ length row.fields.items) × (length row.fields.items ≤ 64))) }
 {
-    if !has_only(line, &["schema"]) {
+    if !has_only(line, &["schema", "stem"]) {
         return Ok(None);
     }
+    let Some(stem) = optional_flag(line, "stem") else {
+        return Ok(None);
+    };
+    match fields_at(alloc, line)? {
+        Some(fields) => Ok(Some(SchemaRow { fields, stem })),
+        None => Ok(None),
+    }
+}
+
+fn fields_at(alloc: Global, line: &Value) -> Result<Option<Vec<Field>>, AllocError>
+    ensures value { IfOk result (λ r. option_map (λ fields. fields.items) r ≡ fields_at (view line.now)) }
+    ensures count { IfOk result (λ r. IfSome r (λ fields. (1 ≤ length fields.items) × (length fields.items ≤ 64))) }
+{
     match items_at(line, "schema") {
         Some(items) => some_fields(alloc, items),
         None => Ok(None),

@@ -3,10 +3,10 @@ ghost use Rattle.std.specs.Prelude.{◌≡◌, ◌+◌};
 
 use crate::shelf::Shelf;
 use serde_json::Value;
-use sk_base::{Edit, Find, Reply, Report, Schema};
-use sk_parser::{AskError, query_of};
+use sk_base::{Edit, FacetQuery, Facets, Find, Reply, Report, Schema};
+use sk_parser::{AskError, query_of, text_query};
 use sk_run::{Response, Store};
-use sk_sharp::report_of;
+use sk_sharp::{facets_of, report_of};
 use sk_steps::Steps;
 use std::alloc::{AllocError, Global};
 use std::sync::ledger::Ledger;
@@ -47,6 +47,24 @@ impl Store for Shelf {
             Ok(report) => {
                 count(report.steps, steps);
                 Ok(report)
+            }
+            Err(AllocError) => Err(AskError::NoMemory),
+        }
+    }
+
+    /// The steps of the facets are the most that the rules allow.
+    fn facets<L: Ledger>(
+        &self,
+        wanted: &FacetQuery,
+        steps: &mut Steps<L>,
+    ) -> Result<Facets, AskError> {
+        let alloc = self.allocator();
+        let schema = Shelf::schema(self);
+        let query = text_query(alloc, schema, wanted.join, wanted.text.as_str())?;
+        match facets_of(alloc, self.documents(), &query, wanted.slot, wanted.size) {
+            Ok(facets) => {
+                count(facets.steps, steps);
+                Ok(facets)
             }
             Err(AllocError) => Err(AskError::NoMemory),
         }

@@ -113,6 +113,7 @@ ask_fits f (Ask.Tree tree) fits = tt
 question_fits : {A B : Type 0} (f : A → B) (question : Question A) → FitsQuestion (question_over f question) → FitsQuestion question
 question_fits f (Question.Find find) fits = record { ask = ask_fits f find.ask fits.ask; paging = fits.paging }
 question_fits f (Question.Show text join) fits = fits
+question_fits f (Question.Facets facets) fits = fits
 
 -- A command may come where what it stands for may.
 pub comes_as : {A B : Type 0} (f : A → B) (schema : Option Schema) (command : Command A) → MayCome schema (command_over f command) → MayCome schema command

@@ -1,9 +1,16 @@
 -- Small values that the definitions must give, worked out by hand.
-use Rattle.std.proofs.Common.{◌≡◌, [], ◌∷◌, None, codes, refl}
+use Rattle.std.proofs.Common.{◌≡◌, ◌<◌, ◌^◌, ℕ, [], ◌∷◌, None, codes, refl}
+use Rattle.std.proofs.lemmas.Nat.{from_be_bytes-to_be_bytes_8}
 use Rattle.std.specs.Fmt.{digits}
+use Rattle.std.specs.Int.{w64, to_be_bytes}
+use Rattle.std.specs.Str.{is_utf8, chars}
+use lib.Utf8.{encode}
+use Rattle.json.specs.Print.{escape_byte}
+use Rattle.sk_base.specs.declared.facets.ValueKind.TheVariants as ValueKind
 use Rattle.sk_grammar.specs.declared.fault.FaultKind.TheVariants as FaultKind
 use Rattle.sk_run.specs.declared.refusal.Refusal.TheVariants as Refusal
 use Rattle.sk_run.specs.declared.response.Response.TheVariants as Response
+use Rattle.sk_run.specs.Facets.{number_in}
 use Rattle.sk_run.specs.Responses.{text_of}
 use Rattle.sk_run.specs.Meaning.{meaning, blank}
 
@@ -18,6 +25,28 @@ found_text_of_one = refl
 found_text_of_none : text_of (Response.Found 3 (record { hits = []; lower = 0; estimate = 0; upper = 0; greatest = 0; steps = 0 })) ≡ codes "found hits=0 lower=0 estimate=0 upper=0 max=0 steps=0\n"
 unfolding digits
 found_text_of_none = refl
+
+-- a number field's values are numbers
+numbers_text :
+    text_of (Response.Facets ValueKind.Number (record { values = record { value = 0 ∷ 0 ∷ 0 ∷ 0 ∷ 0 ∷ 0 ∷ 7 ∷ 198 ∷ []; count = 2 } ∷ record { value = 255 ∷ []; count = 1 } ∷ []; distinct = 3; without = 1; matches = 5; steps = 9 }))
+    ≡ codes "facets matches=5 distinct=3 without=1 steps=9\nfacet count=2 value=1990\nfacet count=1 value=0\n"
+unfolding digits
+numbers_text = refl
+
+-- a word field's are strings
+words_text :
+    text_of (Response.Facets ValueKind.Word (record { values = record { value = codes "a\"b"; count = 2 } ∷ record { value = 255 ∷ []; count = 1 } ∷ []; distinct = 2; without = 0; matches = 3; steps = 4 }))
+    ≡ codes "facets matches=3 distinct=2 without=0 steps=4\nfacet count=2 value=\"a\\\"b\"\nfacet count=1 value=\"\"\n"
+unfolding digits is_utf8 chars encode escape_byte
+words_text = refl
+
+facets_text_of_none : text_of (Response.Facets ValueKind.Word (record { values = []; distinct = 0; without = 0; matches = 0; steps = 0 })) ≡ codes "facets matches=0 distinct=0 without=0 steps=0\n"
+unfolding digits
+facets_text_of_none = refl
+
+-- what a number is kept as is told as that number
+number_back : (n : ℕ) → n < 2 ^ 64 → number_in (to_be_bytes w64 n) ≡ n
+number_back n small = from_be_bytes-to_be_bytes_8 n small
 
 refused_text : text_of (Response.Refused Refusal.BadField) ≡ codes "refused 6 BadField\n"
 unfolding digits

@@ -11,4 +11,5 @@ mod FormLemmas
 mod Examples
 mod RanLemmas
 pub mod AskLemmas
+pub mod FacetLemmas
 pub mod ProgramLemmas

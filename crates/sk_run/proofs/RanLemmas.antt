@@ -11,7 +11,7 @@ use Rattle.sk_io.specs.Seen.{Seen}
 use Rattle.sk_run.specs.Outsides.{Outside}
 use Rattle.sk_run.specs.Ends.{TakesAll, Stopped}
 use Rattle.sk_run.specs.ByForm.{EndedBy, TakenBy, LeavesAlone}
-use Rattle.sk_run.specs.Ran.{IsQuiet, Ran}
+use Rattle.sk_run.specs.Ran.{IsQuiet, AllQuiet, Ran}
 
 some≢none : {A : Type 0} (a : A) → Some a ≡ None → ⊥
 some≢none a e = cc
@@ -39,15 +39,15 @@ module _ {S : Type 0} (conduct : Conduct S) where
   never_taken (Form.Search join) status before after answers input records (inr taken) = never_stopped status before.input after.input input taken.0
   never_taken (Form.Demo documents) status before after answers input records taken = taken
 
-  comes_to_its_end : (form : Form) (status : Status) (before after : Outside) → EndedBy conduct form status before after → IsQuiet before.input after.input → IsQuiet before.records after.records → (Rose before.output.sink.faults after.output.sink.faults → ⊥)
+  ends : (form : Form) (status : Status) (before after : Outside) → EndedBy conduct form status before after → IsQuiet before.input after.input → IsQuiet before.records after.records → (Rose before.output.sink.faults after.output.sink.faults → ⊥)
       → IsFinished status ⊎ (status ≡ Status.Memory)
-  comes_to_its_end form Status.Done before after e input records sound = inl tt
-  comes_to_its_end form Status.Refused before after e input records sound = inl tt
-  comes_to_its_end form Status.Usage before after e input records sound = absurd e
-  comes_to_its_end form Status.ReadFault before after e input records sound = absurd (never_taken form Status.ReadFault before after e.answers input records e.lines)
-  comes_to_its_end form Status.WriteFault before after e input records sound = absurd (sound e.1)
-  comes_to_its_end form Status.Memory before after e input records sound = inr refl
-  comes_to_its_end form Status.TooMuch before after e input records sound = absurd (never_taken form Status.TooMuch before after e.answers input records e.lines)
+  ends form Status.Done before after e input records sound = inl tt
+  ends form Status.Refused before after e input records sound = inl tt
+  ends form Status.Usage before after e input records sound = absurd e
+  ends form Status.ReadFault before after e input records sound = absurd (never_taken form Status.ReadFault before after e.answers input records e.lines)
+  ends form Status.WriteFault before after e input records sound = absurd (sound e.1)
+  ends form Status.Memory before after e input records sound = inr refl
+  ends form Status.TooMuch before after e input records sound = absurd (never_taken form Status.TooMuch before after e.answers input records e.lines)
 
   counts_on : (form : Form) (status : Status) (before after : Outside) → EndedBy conduct form status before after → before.output.steps ≤ after.output.steps
   counts_on form Status.Done before after e = omega (arith, e.steps)
@@ -75,8 +75,6 @@ module _ {S : Type 0} (conduct : Conduct S) where
     untouched = λ h. absurd (no_usage form status before after e h);
     ended = λ other same. subst (λ (f : Form). EndedBy conduct f status before after) (same_form form other (sym is ∙ same)) e;
     kept = λ other same. subst (λ (f : Form). LeavesAlone f before after) (same_form form other (sym is ∙ same)) keeps;
-    complete = λ other same input records sound. comes_to_its_end form status before after e input records sound;
-    counts = counts_on form status before after e;
   }
 
   -- Where the words are no form, nothing happens.
@@ -86,9 +84,17 @@ module _ {S : Type 0} (conduct : Conduct S) where
     untouched = λ _. same;
     ended = λ form h. absurd (some≢none form (sym h ∙ is));
     kept = λ form h. absurd (some≢none form (sym h ∙ is));
-    complete = λ form h input records sound. absurd (some≢none form (sym h ∙ is));
-    counts = by_same same;
   }
-    where
-      by_same : after ≡ before → before.output.steps ≤ after.output.steps
-      by_same e = let s : after.output.steps ≡ before.output.steps = (λ i. (e i).output.steps) in omega (arith, s)
+
+  -- Under the words of a form a run comes to its end, or memory ran out, where all is quiet.
+  pub comes_to_its_end : (words : List (List ℕ)) (form : Form) (status : Status) (before after : Outside) → Ran conduct words status before after → form_of words ≡ Some form → AllQuiet before after
+      → IsFinished status ⊎ (status ≡ Status.Memory)
+  comes_to_its_end words form status before after ran is quiet = ends form status before after (ran.ended form is) quiet.input quiet.records quiet.sink
+
+  -- The counter never falls: where nothing happened it is as before.
+  pub counter_never_falls : (words : List (List ℕ)) (status : Status) (before after : Outside) → Ran conduct words status before after → before.output.steps ≤ after.output.steps
+  counter_never_falls words status before after ran =
+      elim (form_of words) as (λ form. form_of words ≡ form → before.output.steps ≤ after.output.steps) [
+        | None ↦ λ is. let same : after.output.steps ≡ before.output.steps = (λ i. (ran.untouched (ran.usage.1 is) i).output.steps) in omega (arith, same)
+        | Some form ↦ λ is. counts_on form status before after (ran.ended form is)
+      ] refl

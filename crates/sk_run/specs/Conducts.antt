@@ -4,6 +4,7 @@ use Rattle.std.specs.Option.{option_map}
 use Rattle.serde_json.specs.Data.{Data}
 use Rattle.sk_base.specs.declared.command.Command.{Command}
 use Rattle.sk_base.specs.declared.command.Question.{Question}
+use Rattle.sk_base.specs.declared.facets.Facets.{Facets}
 use Rattle.sk_base.specs.declared.find.Paging.{Paging}
 use Rattle.sk_base.specs.declared.find.Join.{Join}
 use Rattle.sk_base.specs.declared.record.Edit.{Edit}
@@ -15,17 +16,18 @@ use Rattle.sk_model.specs.Edits.{Live, edited, reply_to}
 use Rattle.sk_parser.specs.Asked.{asked, text_asked}
 use Rattle.sk_run.specs.declared.response.Response.{Response}
 use Rattle.sk_run.specs.Responses.{response_to}
-use Rattle.sk_run.specs.Asking.{AnswersAsk, IsFound, IsShown}
+use Rattle.sk_run.specs.Asking.{AnswersAsk, IsFound, IsCounted, IsShown}
 use Rattle.sk_run.specs.declared.machine.Reading.{Reading}
 use Rattle.sk_run.specs.declared.machine.Reading.TheVariants.{Commands, Queries}
 use Rattle.sk_run.specs.Meaning.{Meaning, blank, refusal, asks, unread, meaning}
 use Rattle.sk_run.specs.Queries.{query_meaning}
 
--- A store's conduct, by its states under a schema: the state that a schema begins, what an edit is replied and the state that it leaves, the reports that a find of a query may have, and what may close a run.
+-- A store's conduct, by its states under a schema: the state that a schema begins, what an edit is replied and the state that it leaves, the reports that a find of a query may have, the facets of a slot that so many may be told of for a query, and what may close a run.
 pub record Conduct (S : Type 0) : Type 1 where
   pub begun : S
   pub edits : Schema → S → Edit → Reply → S → Type 0
   pub finds : S → Paging → Tree → Report → Type 0
+  pub facets : S → ℕ → ℕ → Tree → Facets → Type 0
   pub closes : Schema → S → Response → Type 0
 
 -- The state of a run over a store with states of its own: nothing yet, or the schema that was accepted and the state under it.
@@ -36,16 +38,18 @@ State S = Option (Schema × S)
 abbrev pub schema_of : {S : Type 0} → State S → Option Schema
 schema_of s = option_map (λ p. p.0) s
 
--- Whether readings may be counted where a question is answered: a find alone reads.
+-- Whether readings may be counted where a question is answered: a show alone reads nothing.
 abbrev pub reads : {T : Type 0} → Question T → Bool
 reads (Question.Find find) = true
 reads (Question.Show text join) = false
+reads (Question.Facets facets) = true
 
 module _ {S : Type 0} (conduct : Conduct S) where
-  -- What a question is answered by a store in a state. A find is answered a report that it may have, where it asks for a query, and a show the query of its text; and each a refusal, where there is no query.
+  -- What a question is answered by a store in a state. A find is answered a report that it may have, where it asks for a query, a show the query of its text, and facets are answered that its text may have; and each is answered a refusal, where there is no query.
   abbrev pub AnswersQuestion : Schema → Question Data → S → Response → Type 0
   AnswersQuestion schema (Question.Find find) s answer = AnswersAsk (λ query found. IsFound (conduct.finds s find.paging query) find.paging.options.first found) (asked schema find.ask) answer
   AnswersQuestion schema (Question.Show text join) s answer = AnswersAsk IsShown (text_asked schema join text) answer
+  AnswersQuestion schema (Question.Facets facets) s answer = AnswersAsk (λ query found. IsCounted (conduct.facets s facets.slot facets.size query) facets.kind found) (text_asked schema facets.join facets.text) answer
 
   -- What a command is answered by a store in a state, and the state that it leaves: an edit its reply, and a question its answer, which leaves the state as it was.
   abbrev pub Does : Schema → S → Command Data → Response → S → Type 0

@@ -21,6 +21,7 @@ abbrev pub demo_schema : Schema
 demo_schema = record {
   fields =
       record { name = codes "body"; kind = FieldKind.Text [] 1 } ∷ record { name = codes "year"; kind = FieldKind.Number 0 } ∷ record { name = codes "site"; kind = FieldKind.Word 1 } ∷ [];
+  stem = false;
 }
 
 -- The word `all` so often again, each behind a space.

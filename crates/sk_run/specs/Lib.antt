@@ -1,5 +1,6 @@
 pub mod Refusals
 pub mod Found
+pub mod Facets
 pub mod Responses
 pub mod Asking
 pub mod Statuses

@@ -5,9 +5,10 @@ use Rattle.sk_run.specs.declared.refusal.Refusal.{Refusal}
 use Rattle.sk_run.specs.declared.response.Response.{Response}
 use Rattle.sk_run.specs.declared.response.Printing.{Printing}
 use Rattle.sk_run.specs.declared.response.Printing.TheVariants.{All, WithoutOk}
-use Rattle.sk_run.specs.declared.response.Response.TheVariants.{Skipped, Refused, Schema, Id, Deleted, Found, Query}
+use Rattle.sk_run.specs.declared.response.Response.TheVariants.{Skipped, Refused, Schema, Id, Deleted, Found, Query, Facets}
 use Rattle.sk_run.specs.Refusals.{refusal_line}
 use Rattle.sk_run.specs.Found.{found_text}
+use Rattle.sk_run.specs.Facets.{facets_text}
 
 -- The text of one answer.
 abbrev pub text_of : Response → List ℕ
@@ -18,6 +19,7 @@ text_of (Id id) = codes "ok id " ++ (decimal id ++ codes "\n")
 text_of (Deleted count) = codes "ok deleted " ++ (decimal count ++ codes "\n")
 text_of (Found first report) = found_text first report
 text_of (Query text) = codes "query " ++ (text ++ codes "\n")
+text_of (Facets kind facets) = facets_text kind facets
 
 -- Whether the answer says no more than that its line was done: its line begins with `ok`.
 abbrev pub says_ok : Response → Bool
@@ -28,6 +30,7 @@ says_ok (Id id) = true
 says_ok (Deleted count) = true
 says_ok (Found first report) = false
 says_ok (Query text) = false
+says_ok (Facets kind facets) = false
 
 -- The text of one answer, where all answers are printed, or all but those that say `ok`.
 abbrev pub text_under : Printing → Response → List ℕ
@@ -43,6 +46,7 @@ is_refusal (Id id) = false
 is_refusal (Deleted count) = false
 is_refusal (Found first report) = false
 is_refusal (Query text) = false
+is_refusal (Facets kind facets) = false
 
 -- The readings that an answer tells of: the number behind `steps=`.
 abbrev pub steps_of : Response → ℕ
@@ -53,6 +57,7 @@ steps_of (Id id) = 0
 steps_of (Deleted count) = 0
 steps_of (Found first report) = report.steps
 steps_of (Query text) = 0
+steps_of (Facets kind facets) = facets.steps
 
 -- What an edit's reply is answered.
 abbrev pub response_to : Reply → Response

@@ -2,7 +2,7 @@
 ghost use Rattle.std.specs.Prelude.{◌≡◌, ◌≤◌, ◌+◌, false, length, IfOk};
 ghost use Rattle.serde_json.specs.View.{view};
 ghost use Rattle.sk_base.specs.declared.command.Question.TheVariants as Question;
-ghost use Rattle.sk_base.specs.Commands.{FitsQuestion, question_over};
+ghost use Rattle.sk_base.specs.Commands.{FitsFacets, FitsQuestion, question_over};
 ghost use Rattle.sk_base.specs.Finds.{FitsFind, find_over};
 ghost use Rattle.sk_parser.specs.Asked.{text_asked};
 ghost use Rattle.sk_run.specs.Responses.{steps_of};
@@ -11,7 +11,7 @@ ghost use Rattle.sk_run.specs.Conducts.{reads, AnswersQuestion};
 
 use crate::{Refusal, Response, Store};
 use serde_json::Value;
-use sk_base::{Find, Join, Question, Schema, Text};
+use sk_base::{FacetQuery, Find, Join, Question, Schema, Text};
 use sk_parser::{AskError, text_query};
 use sk_query_json::text as compact_text;
 use sk_steps::Steps;
@@ -46,21 +46,23 @@ pub(crate) fn answer_question<M: Store, L: Ledger>(
     match question {
         Question::Find(find) => found(store, find, steps),
         Question::Show(text, join) => shown(alloc, store.schema(), *join, text.as_str()),
+        Question::Facets(wanted) => counted(store, wanted, steps),
     }
 }
 
-/// Whether readings may be counted where a question is answered: a find alone reads.
+/// Whether readings may be counted where a question is answered: a show alone reads nothing.
 pub(crate) fn reads(question: &Question<Value>) -> bool
     ensures { result ≡ reads question.now }
 {
     match question {
         Question::Find(_) => true,
         Question::Show(_, _) => false,
+        Question::Facets(_) => true,
     }
 }
 
 /// What a find is answered over a store.
-#[tactic(auto, using(crate::proofs::AskLemmas::found, crate::proofs::AskLemmas::not_found))]
+#[tactic(auto, using(crate::proofs::AskLemmas::told, crate::proofs::AskLemmas::not_told))]
 fn found<M: Store, L: Ledger>(
     store: &M,
     find: &Find<Value>,
@@ -73,6 +75,24 @@ fn found<M: Store, L: Ledger>(
 {
     match store.find(find, steps) {
         Ok(report) => Ok(Response::Found(find.paging.options.first, report)),
+        Err(why) => refused(why),
+    }
+}
+
+/// What a line is answered that asks for facets.
+#[tactic(auto, using(crate::proofs::AskLemmas::told, crate::proofs::AskLemmas::not_told))]
+fn counted<M: Store, L: Ledger>(
+    store: &M,
+    wanted: &FacetQuery,
+    steps: &mut Steps<L>,
+) -> Result<Response, AllocError>
+    requires { FitsFacets wanted.now }
+    ensures answer { IfOk result (λ answer. (s : M.State) → M.holds store.now s → AnswersQuestion M.conduct (M.under store.now) (Question.Facets wanted.now) s answer) }
+    ensures cost { IfOk result (λ answer. steps.new ≡ steps.old + steps_of answer) }
+    ensures later { steps.old ≤ steps.new }
+{
+    match store.facets(wanted, steps) {
+        Ok(facets) => Ok(Response::Facets(wanted.kind, facets)),
         Err(why) => refused(why),
     }
 }

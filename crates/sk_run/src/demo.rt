@@ -112,7 +112,7 @@ fn demo_schema(alloc: Global) -> Result<Schema, AllocError>
         name: Text::new(alloc, "site")?,
         kind: FieldKind::Word(1),
     })?;
-    match Schema::check(fields) {
+    match Schema::check(fields, false) {
         Some(schema) => Ok(schema),
         None => unreachable!(),
     }

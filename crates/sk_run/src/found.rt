@@ -4,7 +4,7 @@ ghost use Rattle.json.specs.Print.{quoted};
 ghost use Rattle.sk_run.specs.Found.{found_line, found_rest, hit_line, hit_rest, found_text};
 
 use serde_json::Value;
-use sk_base::{Ranked, Report, Text};
+use sk_base::{Ranked, Report};
 use std::alloc::{AllocError, Global};
 
 /// The line of a report, and one line for each hit.
@@ -55,15 +55,15 @@ fn hit_rest(alloc: Global, hit: &Ranked) -> Result<String, AllocError>
     ensures { IfOk result (λ s. string_bytes s ≡ hit_rest hit.now) }
 {
     let collapsed = hit.collapsed;
-    let data = json_string(alloc, &hit.payload)?;
+    let data = json_string(alloc, hit.payload.as_str())?;
     let data = data.as_str();
     format!(in alloc; " collapsed={collapsed} data={data}\n")
 }
 
 /// The text as a JSON string.
-fn json_string(alloc: Global, text: &Text) -> Result<String, AllocError>
+pub(crate) fn json_string(alloc: Global, text: &str) -> Result<String, AllocError>
     ensures { IfOk result (λ s. string_bytes s ≡ quoted text.now) }
 {
-    let value = Value::String(String::from_str(alloc, text.as_str())?);
+    let value = Value::String(String::from_str(alloc, text)?);
     value.to_string(alloc)
 }

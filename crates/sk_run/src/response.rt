@@ -2,9 +2,10 @@
 ghost use Rattle.std.specs.Prelude.{◌≡◌, ◌++◌, codes, IfOk, string_bytes};
 ghost use Rattle.sk_run.specs.Responses.{response_to};
 
+use crate::facets::facets_lines;
 use crate::found::found_lines;
 use crate::refusal::Refusal;
-use sk_base::{DocId, Reply, Report, Text};
+use sk_base::{DocId, Facets, Reply, Report, Text, ValueKind};
 use std::alloc::{AllocError, Global};
 
 /// What one line is answered.
@@ -23,6 +24,8 @@ pub enum Response {
     Found(u32, Report),
     /// The text of a query.
     Query(Text),
+    /// What the values are, and how often each stands.
+    Facets(ValueKind, Facets),
 }
 
 /// Which answers are printed.
@@ -66,6 +69,7 @@ impl Response {
             Response::Deleted(count) => format!(in alloc; "ok deleted {count}\n"),
             Response::Found(first, report) => found_lines(alloc, *first, report),
             Response::Query(text) => query_line(alloc, text),
+            Response::Facets(kind, facets) => facets_lines(alloc, *kind, facets),
         }
     }
 

@@ -2,17 +2,20 @@
 ghost use Rattle.std.specs.Prelude.{◌≡◌, IfOk};
 ghost use Rattle.sk_base.specs.declared.schema.Schema.{Schema};
 ghost use Rattle.serde_json.specs.View.{view};
+ghost use Rattle.sk_base.specs.declared.facets.Facets.{Facets};
+ghost use Rattle.sk_base.specs.declared.report.Report.{Report};
+ghost use Rattle.sk_base.specs.Commands.{FitsFacets};
 ghost use Rattle.sk_base.specs.Finds.{FitsFind, ask_over};
 ghost use Rattle.sk_base.specs.Records.{FitsEdit};
-ghost use Rattle.sk_parser.specs.Asked.{asked};
+ghost use Rattle.sk_parser.specs.Asked.{asked, text_asked};
 ghost use Rattle.sk_run.specs.Conducts.{Conduct};
-ghost use Rattle.sk_run.specs.Asking.{TellsOfFind, CountsSteps};
+ghost use Rattle.sk_run.specs.Asking.{TellsOfQuestion, CountsSteps};
 ghost use Rattle.sk_run.specs.Lines.{IsReached};
 ghost use Rattle.sk_run.specs.Responses.{steps_of};
 
 use crate::Response;
 use serde_json::Value;
-use sk_base::{Edit, Find, Reply, Report, Schema};
+use sk_base::{Edit, FacetQuery, Facets, Find, Reply, Report, Schema};
 use sk_parser::AskError;
 use sk_steps::Steps;
 use std::alloc::{AllocError, Global};
@@ -49,8 +52,19 @@ pub trait Store: Drop {
     /// The report of a find, or why there is none. The counter rises by the steps of the report.
     fn find<L: Ledger>(&self, find: &Find<Value>, steps: &mut Steps<L>) -> Result<Report, AskError>
         requires { FitsFind find.now }
-        ensures tells { (s : State) → holds self.now s → TellsOfFind (conduct.finds s find.now.paging) (asked (under self.now) (ask_over view find.now.ask)) result }
-        ensures counts { CountsSteps result steps.old steps.new };
+        ensures tells { (s : State) → holds self.now s → TellsOfQuestion (conduct.finds s find.now.paging) (asked (under self.now) (ask_over view find.now.ask)) result }
+        ensures counts { CountsSteps (λ (report : Report). report.steps) result steps.old steps.new };
+
+    /// How often each value stands among the matches of a text, or why it is no query. The counter rises by the steps
+    /// of the answer.
+    fn facets<L: Ledger>(
+        &self,
+        wanted: &FacetQuery,
+        steps: &mut Steps<L>,
+    ) -> Result<Facets, AskError>
+        requires { FitsFacets wanted.now }
+        ensures tells { (s : State) → holds self.now s → TellsOfQuestion (conduct.facets s wanted.now.slot wanted.now.size) (text_asked (under self.now) wanted.now.join wanted.now.text) result }
+        ensures counts { CountsSteps (λ (facets : Facets). facets.steps) result steps.old steps.new };
 
     /// What is put at the end of a run. It is no reading.
     fn close(self, alloc: Global) -> Result<Response, AllocError>
