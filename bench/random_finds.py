@@ -1,7 +1,8 @@
 #!/usr/bin/env python3
-"""Compares finds of the built sk_tool with those of the built sk_reference, over random documents, trees and options: hits,
-order, weights and payloads are to be equal, counts within their bounds, and steps no more than the rules allow, which is
-what sk_reference prints. Ends with 1 where one differs.
+"""Compares finds of the built sk_tool with those of the built sk_reference, over random documents, trees and options,
+and texts of words that have stems, under schemas that ask for these or do not: hits, order, weights and payloads are to
+be equal, counts within their bounds, and steps no more than the rules allow, which is what sk_reference prints. Facets
+of random texts are to be equal but for their steps. Ends with 1 where one differs.
 
 Wants both programs: (cd crates/sk_tool && rt run; cd ../sk_reference && rt run). Run it at the top of the repository:
 python3 bench/random_finds.py [SEEDS [FOLDER]], FOLDER being where crates/ is."""
@@ -21,6 +22,9 @@ SCHEMA = {
     ]
 }
 FINDS = 40
+FACETS = 10
+STEMMED = 10
+FORMS = ["hop", "hops", "hopping", "Hopped", "hope", "hoping", "Hopes", "fly", "flies"]
 COLLAPSED = re.compile(r" collapsed=(\d+)")
 
 
@@ -103,11 +107,24 @@ def options(picks, fields):
     return find
 
 
+def counted(picks):
+    """A line that asks for facets of a random text."""
+    parts = ["a", "b", "c d", "hoped", "Fly", "a*", "a NEAR b", '"a b"', "year:3..7", "site:x", "-b", "+a", "a AND b", "c XOR a"]
+    line = {"facets": " ".join(picks.choices(parts, k=picks.randint(1, 4))), "by": picks.choice(["site", "year"])}
+    if picks.random() < 0.5:
+        line["size"] = picks.randint(0, 12)
+    if picks.random() < 0.5:
+        line["op"] = picks.choice(["or", "and"])
+    return line
+
+
 def commands(picks):
-    """A schema, documents and some deletions, and finds."""
-    yield SCHEMA
+    """A schema, documents and some deletions, finds by tree and by text, and facets."""
+    stem = picks.random() < 0.5
+    yield SCHEMA | ({"stem": True} if stem else {})
     for number in range(picks.randint(5, 60) if picks.random() < 0.8 else picks.randint(200, 600)):
-        record = {"body": " ".join(picks.choices("abcde", [5, 3, 2, 1, 1], k=picks.randint(0, 8)))}
+        words = picks.choices("abcde", [5, 3, 2, 1, 1], k=picks.randint(0, 8))
+        record = {"body": " ".join([*words, *picks.choices(FORMS, k=picks.randint(0, 3))])}
         if picks.random() < 0.8:
             record["site"] = picks.choice(["x", "y", "z", ""])
         if picks.random() < 0.8:
@@ -117,15 +134,19 @@ def commands(picks):
             yield {"delete": picks.randint(1, number + 1)}
     for _ in range(FINDS):
         yield asked(picks)
+    for _ in range(STEMMED):
+        yield {"find": " ".join(picks.choices([*FORMS, "-hop", "+hoped"], k=picks.randint(1, 4)))} | options(picks, ["site", "year"])
+    for _ in range(FACETS):
+        yield counted(picks)
 
 
 def answers(program, text, words=("run",)):
-    """Each answer with its hits, the number that the program ended with, and what it said on the errors."""
+    """Each answer with its hits or values, the number that the program ended with, and what it said on the errors."""
     ran = subprocess.run([program, *words], input=text, capture_output=True)
     *lines, rest = ran.stdout.decode(errors="surrogateescape").split("\n")
     told = []
     for line in lines:
-        if told and line.startswith("hit "):
+        if told and line.startswith(("hit ", "facet ")):
             told[-1].append(line)
         else:
             told.append([line])
@@ -140,22 +161,36 @@ def wanted(find):
     return max(find.get("check", 0), find.get("first", 0) + find.get("size", 10))
 
 
+def numbers_in(line):
+    """The numbers of an answer, by their names."""
+    return {name: int(number) for name, number in (word.split("=") for word in line.split()[1:])}
+
+
+def same_facets(ours, plain):
+    """Whether the two are the same facets, and ours took no more steps than the rules allow, and one for each match."""
+    mine, true = numbers_in(ours[0]), numbers_in(plain[0])
+    steps = mine.pop("steps"), true.pop("steps")
+    return mine == true and ours[1:] == plain[1:] and mine["matches"] <= steps[0] <= steps[1]
+
+
 def agree(ours, plain, few=0):
     """Whether an answer is one that the plain program's allows, and the true count where fewer than `few` match."""
+    if ours[0].startswith("facets ") and plain[0].startswith("facets "):
+        return same_facets(ours, plain)
     if not (ours[0].startswith("found ") and plain[0].startswith("found ")):
         return ours == plain
-    mine, true = (dict(word.split("=") for word in told[0].split()[1:]) for told in (ours, plain))
-    lower, upper, count = int(mine["lower"]), int(mine["upper"]), int(true["lower"])
+    mine, true = numbers_in(ours[0]), numbers_in(plain[0])
+    lower, upper, count = mine["lower"], mine["upper"], true["lower"]
     hits = [[COLLAPSED.search(line) for line in told[1:]] for told in (ours, plain)]
     collapsed = [[int(hit.group(1)) for hit in told] for told in hits]
     bare = [[(hit.string[: hit.start()], hit.string[hit.end() :]) for hit in told] for told in hits]
     return (
         bare[0] == bare[1]
         and mine["max"] == true["max"]
-        and int(mine["steps"]) <= int(true["steps"])
+        and mine["steps"] <= true["steps"]
         and lower <= count <= upper
         and (count >= few or lower == upper)
-        and int(mine["estimate"]) == (lower + upper) // 2
+        and mine["estimate"] == (lower + upper) // 2
         and all(some <= most for some, most in zip(*collapsed))
     )
 
@@ -164,18 +199,19 @@ def main():
     seeds = int(sys.argv[1]) if len(sys.argv) > 1 else 100
     folder = sys.argv[2] if len(sys.argv) > 2 else os.path.join(HERE, "..")
     programs = [os.path.join(folder, "crates", name, "out", name) for name in ("sk_tool", "sk_reference")]
-    finds = differing = 0
+    finds = facets = differing = 0
     for seed in range(seeds):
         lines = list(commands(random.Random(seed)))
         text = "".join(json.dumps(line) + "\n" for line in lines).encode()
         ours, plain = (answers(program, text)[0] for program in programs)
         for line, mine, true in zip(lines, ours, plain):
-            finds += "tree" in line
-            if not agree(mine, true, wanted(line) if "tree" in line else 0):
+            finds += "tree" in line or "find" in line
+            facets += "facets" in line
+            if not agree(mine, true, wanted(line) if "tree" in line or "find" in line else 0):
                 differing += 1
                 print(seed, json.dumps(line), mine, true)
         differing += abs(len(ours) - len(plain))
-    print(f"{finds} finds, {differing} differ")
+    print(f"{finds} finds, {facets} facets, {differing} differ")
     sys.exit(1 if differing else 0)
 
 

@@ -40,6 +40,13 @@ TEXTS = r"""
 {"find":"red AND"}
 {"find":"(red"}
 """
+FACETS = """
+{"facets":"red fox","by":"site"}
+{"facets":"red NEAR fox","by":"year","size":1}
+{"facets":"red fox -hen","by":"year","op":"and"}
+{"facets":"red AND","by":"year"}
+{"facets":"red","by":"body"}
+"""
 TREES = """
 {"tree":{"xor":[{"term":"red"},{"term":"fox"},{"max":[{"term":"red"},{"term":"den"}]}]}}
 {"tree":{"and_maybe":[{"synonym":["red","fox"]},{"scale":[5,{"term":"hen"}]}]},"scheme":"coord"}
@@ -82,6 +89,7 @@ ROWS = [
         + '{"find":"red fox","order":"value","by":"year","reverse":true,"collapse":"site"}\n',
     ),
     ("texts", ["run"], "", DOCUMENTS + TEXTS),
+    ("facets", ["run"], "", DOCUMENTS + FACETS),
     ("trees", ["run"], "", DOCUMENTS + TREES),
     ("edits", ["run"], "", DOCUMENTS + EDITS),
     ("query texts", ["search", "FILE"], DOCUMENTS + '{"find":"hen"}\n', "red fox\n\nred AND\n"),
@@ -112,8 +120,8 @@ class Runs:
 
 
 def is_front(put, whole):
-    """Whether whole answers were put, to first lines: no hit of the last one is missing."""
-    return whole.startswith(put) and put[-1:] in (b"", b"\n") and not whole[len(put) :].startswith(b"hit ")
+    """Whether whole answers were put, to first lines: no hit, or value, of the last one is missing."""
+    return whole.startswith(put) and put[-1:] in (b"", b"\n") and not whole[len(put) :].startswith((b"hit ", b"facet "))
 
 
 def came_to(ended, whole):

@@ -1,9 +1,10 @@
 #!/usr/bin/env python3
-"""Holds the built sk_tool against the built sk_reference over hostile streams of lines, made from a seed: schemas, edits
-by id and by filter, finds by text and by tree with options, shows, query texts behind records, numbers at their bounds,
-and lines that are cut, doubled, flipped or too long. Answer by answer: hits, order, weights and payloads equal, counts
-enclosed, refusals equal, and no more steps than the rules allow, which is what sk_reference prints; the status and the
-errors equal. A stream that differs is told by its seed, and cut down to few lines that differ; then it ends with 1.
+"""Holds the built sk_tool against the built sk_reference over hostile streams of lines, made from a seed: schemas,
+edits by id and by filter, finds by text and by tree with options, facets, shows, query texts behind records, numbers at
+their bounds, and lines that are cut, doubled, flipped or too long. Answer by answer: hits, order, weights and payloads
+equal, counts enclosed, facets and refusals equal, and no more steps than the rules allow, which is what sk_reference
+prints; the status and the errors equal. A stream that differs is told by its seed, and cut down to few lines that
+differ; then it ends with 1.
 
 Wants both programs: (cd crates/sk_tool && rt run; cd ../sk_reference && rt run). Run it at the top of the repository:
 python3 bench/streams.py [STREAMS [FIRST [FOLDER]]], FIRST being the first seed and FOLDER where crates/ is."""
@@ -22,7 +23,7 @@ BOUNDS = [0, 1, 2, 127, 128, 255, 256, 2**31, 2**32 - 2, 2**32 - 1, 2**32, 2**53
 NUMBERS = [str(bound) for bound in BOUNDS] + ["-1", "-0", "1.0", "1e0", "1e3", "01", "1e400", "9" * 400, "null", "true"]
 PLAIN = ["a", "b", "c", "d", "e"]
 ODD = [
-    "fox", "FOX", "foxes", "don't", "don’t", "'a'", "café", "cafe\u0301", "CAFÉ", "straße", "STRASSE", "ﬁne", "ΌΣΟΣ",
+    "fox", "FOX", "foxes", "Foxes", "hopping", "hoped", "Hope", "relational", "skies", "fishing", "ﬁshes", "don't", "don’t", "'a'", "café", "cafe\u0301", "CAFÉ", "straße", "STRASSE", "ﬁne", "ΌΣΟΣ",
     "日本", "x_1", "me@example.org", "a-b", "a.b-c", "http://e.org/a", "1990", "AND", "NOT", "NEAR", "_", "x" * 64, "x" * 65,
     "é" * 32, "é" * 33, "\u0301", "a\u0323\u0301", "a\u0301\u0323", "\U0001f98a", "\u2028", "ǅ", "İ", "\u0345", "가", "𝐀",
     "a\u200db",
@@ -38,7 +39,7 @@ FIELDS = [
     {"name": "site", "kind": "word", "slot": 255},
 ]
 DISTANCES = ["", "/0", "/1", "/2", "/10000", "/10001", "/70000"]
-TERMS = ["a", "a", "b", "b", "c", "d", "en", "fr", "fox", "café", ":x", "Dog"]
+TERMS = ["a", "a", "b", "b", "c", "d", "en", "fr", "fox", "café", ":x", "Dog", "Zfox", "Za", "ZSfish"]
 SIGNS = [b'"', b"{", b"}", b"[", b"]", b",", b":", b"\\", b" ", b"\0", b"\\u0000", b"\\ud800"]
 MEMBERS = [b'"data":"x"', b'"max":2', b'"op":"and"', b'"size":3', b'"x":0']
 FILTERS = ["en", "fr", "En", ":x", "", "Dog", "dog", "a b", "é"]
@@ -155,7 +156,7 @@ class Stream:
                 lambda: {"term": term()},
                 lambda: {"all": []},
                 lambda: {"nothing": []},
-                lambda: {"wildcard": picks.choice(["a", "f", "L", "XCAT", "S", "x", "zz"])},
+                lambda: {"wildcard": picks.choice(["a", "f", "L", "XCAT", "S", "x", "zz", "Z", "ZS"])},
                 lambda: {"range": [picks.choice([0, 0, 255, 1, 256]), bound(), bound()]},
                 lambda: {"synonym": list({term(), term(), term()})},
                 lambda: {"near": [picks.choice([1, 2, 3, 5, 1_048_576, 0]), *terms()]},
@@ -183,9 +184,22 @@ class Stream:
         kind = self.picks.random()
         if kind < 0.1:
             return {"show": self.text()} | self.picks.choice([{}, {"op": "and"}, {"op": "or"}])
-        if kind < 0.55:
+        if kind < 0.25:
+            return self.counted()
+        if kind < 0.6:
             return {"find": self.text(), **({"op": "and"} if self.picks.random() < 0.3 else {}), **self.options()}
         return {"tree": self.tree(self.picks.randint(0, 3)), **self.options()}
+
+    def counted(self):
+        """A line that asks for facets."""
+        picks = self.picks
+        names = self.named("number", "word") if picks.random() < 0.95 else ["body", "none", "lang", ""]
+        line = {"facets": self.text(), "by": picks.choice(names or ["year"])}
+        if picks.random() < 0.3:
+            line["op"] = picks.choice(["or", "and"])
+        if picks.random() < 0.5:
+            line["size"] = picks.choice([0, 1, 2, 3, 100, 100_000]) if picks.random() < 0.9 else picks.choice(BOUNDS)
+        return line
 
     def mutated(self, line):
         """The line with one thing or two changed."""
@@ -217,8 +231,11 @@ class Stream:
         """All lines: bytes without their ends."""
         picks = self.picks
         schema = {"schema": self.fields}
+        if picks.random() < 0.5:
+            schema["stem"] = picks.random() < 0.9
         if picks.random() < 0.1:
             bad = [{"schema": fields} for fields in ([], [{**FIELDS[0], "name": "T"}], self.fields * 2)]
+            bad += [{**schema, "stem": stem} for stem in (None, 1, "true")]
             yield picks.choice([{"find": "a"}, 7, *bad])
         if picks.random() < 0.97:
             yield schema
@@ -335,8 +352,8 @@ def main():
         for answer in told[1][0]:
             kind, number, *_ = answer[0].split(" ")
             seen[f"{kind} {number}" if kind in ("refused", "ok") else kind] += 1
-            seen["hits"] += len(answer) - 1
-            seen["finds with hits"] += len(answer) > 1
+            seen["values" if kind == "facets" else "hits"] += len(answer) - 1
+            seen["facets with values" if kind == "facets" else "finds with hits"] += len(answer) > 1
         seen[f"status {told[1][1]}"] += 1
         if difference(told, few(words, lines)):
             wrong += 1

@@ -1,7 +1,7 @@
 #!/bin/sh
 # Writes the packages that are installed on a Debian system as command lines: a schema, and one document a package.
 # sh examples/packages.sh > packages.jsonl
-printf '%s\n' '{"schema":[{"name":"title","kind":"text","prefix":"S","step":256},{"name":"any_title","kind":"text","step":256},{"name":"body","kind":"text"},{"name":"name","kind":"filter","prefix":"N"},{"name":"section","kind":"filter","prefix":"C"},{"name":"size","kind":"number","slot":0}]}'
+printf '%s\n' '{"schema":[{"name":"title","kind":"text","prefix":"S","step":256},{"name":"any_title","kind":"text","step":256},{"name":"body","kind":"text"},{"name":"name","kind":"filter","prefix":"N"},{"name":"section","kind":"filter","prefix":"C"},{"name":"size","kind":"number","slot":0},{"name":"counted_section","kind":"word","slot":1}]}'
 # A description goes on in lines that begin with a space.
 dpkg-query -W -f '${db:Status-Status}\t${Package}\t${Section}\t${Installed-Size}\t${Description}\n' | awk -F '\t' '
 function text(s) {
@@ -14,7 +14,8 @@ function put() {
     if (name != "") {
         title = text(name " - " about)
         printf "{\"add\":{\"title\":%s,\"any_title\":%s,\"body\":%s,", title, title, text(body)
-        printf "\"name\":%s,\"section\":%s,\"size\":%s},", text(name), text(section), size
+        printf "\"name\":%s,\"section\":%s,\"size\":%s,", text(name), text(section), size
+        printf "\"counted_section\":%s},", text(section)
         printf "\"data\":\"%s\\n%s\"}\n", part(name), part(about)
     }
     name = ""

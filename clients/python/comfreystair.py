@@ -52,6 +52,7 @@ __all__ = [
     "EVERY",
     "Count",
     "Error",
+    "Facets",
     "Fault",
     "Found",
     "Hit",
@@ -266,10 +267,22 @@ class Found:
         return f"Found(hits={self.hits!r}, count={self.count!r}, max={self.max}, steps={self.steps})"
 
 
+class Facets(NamedTuple):
+    """How often each value of a field stands among all documents that match. So many match, they have so many different
+    values, so many of them have none, and so many readings were made in the index. Of the values the first, each with
+    how many documents have it: the more the first, and of equal counts the lesser value."""
+
+    matches: int
+    distinct: int
+    without: int
+    steps: int
+    values: List[Tuple[Union[int, str], int]]
+
+
 class Reply:
     """The answer to an addition or a replacement, which may still be under way."""
 
-    __slots__ = ("_index", "_reads", "_query", "_document", "_data", "_value", "_error", "_kept")
+    __slots__ = ("_index", "_reads", "_query", "_most", "_document", "_data", "_value", "_error", "_kept")
 
     def __init__(
         self,
@@ -278,10 +291,12 @@ class Reply:
         query: Optional[Query] = None,
         document: Optional[Values] = None,
         data: Optional[str] = None,
+        most: int = 0,
     ) -> None:
         self._index: Optional[Index] = index
         self._reads = reads  # The first words of its answer.
         self._query = query
+        self._most = most  # How many values of facets it tells at the most.
         self._document = document
         self._data = data
         self._value: Any = None
@@ -486,6 +501,7 @@ class Index:
 
     path: the program; a name without a slash is looked up in PATH.
     fields: the schema, 1 to 64 objects as docs/FORMATS.md has them.
+    stem: whether words are found by their stems too, as docs/QUERIES.md has it.
     timeout: for how many seconds the process may do nothing that is seen while something waits for it, before it is
         taken for stuck, ended, and reported as a Fault; None waits for ever.
     on_refused: is called with each Refused of an addition or a replacement that nobody waited for; without it these
@@ -499,11 +515,12 @@ class Index:
         path: Union[str, "os.PathLike[str]"],
         fields: Sequence[Mapping[str, Any]],
         *,
+        stem: bool = False,
         timeout: Optional[float] = 60.0,
         on_refused: Optional[Callable[[Refused], None]] = None,
     ) -> None:
         schema = [dict(field) for field in fields]
-        line = _line({"schema": schema}, "these fields")
+        line = _line({"schema": schema, **({"stem": stem} if stem else {})}, "these fields")
         self.fields: Tuple[Mapping[str, Any], ...] = tuple(schema)
         self.path = os.fspath(path)
         self.status: Optional[int] = None
@@ -513,8 +530,8 @@ class Index:
         self._refusals: List[Refused] = []
         self._refused = 0  # How many refusals are to be reported.
         self._answered = 0
-        self._page: Optional[Found] = None  # A find's answer whose hits still come.
-        self._hits = 0
+        self._page: Union[Found, Facets, None] = None  # An answer of which lines still come.
+        self._left = 0  # How many.
         self._fault: Optional[Fault] = None
         self._pipes = _Pipes(self.path, timeout)
         self._end = weakref.finalize(self, _kill, self._pipes.process)
@@ -640,6 +657,18 @@ class Index:
             raise Error("the tree of this text nests deeper than Python reads") from None
         return tree
 
+    def facets(self, text: str, by: str, *, op: Optional[str] = None, size: Optional[int] = None) -> Facets:
+        """How often each value of the number or word field `by` stands among all documents that match a query text.
+
+        op: "or" or "and", between the words of the text.
+        size: how many values are told at the most, 10 where it is not said.
+        """
+        if not isinstance(text, str):
+            raise TypeError(f"a query text is wanted, not {type(text).__name__}")
+        line = _with({"facets": text, "by": by}, {"op": op, "size": size})
+        facets: Facets = self._call(line, "facets", text, 10 if size is None else size)
+        return facets
+
     # The end.
 
     def close(self) -> int:
@@ -688,12 +717,12 @@ class Index:
             self._report()
         return reply
 
-    def _call(self, line: Dict[str, Any], reads: str, query: Optional[Query] = None) -> Any:
+    def _call(self, line: Dict[str, Any], reads: str, query: Optional[Query] = None, most: int = 0) -> Any:
         """Writes a line and waits for its answer, behind those of all lines before it."""
         text = _line(line, query if query is not None else line)
         with self._lock:
             self._settle()
-            return self._send(text, Reply(self, reads, query=query))._wait()
+            return self._send(text, Reply(self, reads, query=query, most=most))._wait()
 
     def _settle(self) -> None:
         """Waits for what was not waited for, and tells its refusals."""
@@ -784,8 +813,8 @@ class Index:
         """Takes a line of the output."""
         try:
             text = line.decode("utf-8")
-            if self._hits:
-                self._take_hit(text)
+            if self._left:
+                self._take_more(text)
                 return
             if not self._waiting:
                 raise ValueError("no line asks for it")
@@ -796,6 +825,8 @@ class Index:
                 raise ValueError(f"its line wants '{reply._reads}'")
             elif reply._reads == "found":
                 self._take_found(text)
+            elif reply._reads == "facets":
+                self._take_facets(text, reply._most)
             elif reply._reads == "query":
                 self._answer(text[len("query ") :])
             else:
@@ -806,13 +837,41 @@ class Index:
     def _take_found(self, text: str) -> None:
         told = _numbers(text)
         count = Count(told["lower"], told["estimate"], told["upper"])
-        self._page = Found([], count, told["max"], told["steps"])
-        self._hits = told["hits"]
-        if not self._hits:
+        self._begin(Found([], count, told["max"], told["steps"]), told["hits"])
+
+    def _take_facets(self, text: str, most: int) -> None:
+        told = _numbers(text)
+        facets = Facets(told["matches"], told["distinct"], told["without"], told["steps"], [])
+        self._begin(facets, min(facets.distinct, most))
+
+    def _begin(self, page: Union[Found, Facets], lines: int) -> None:
+        """Takes the first line of an answer, behind which so many come."""
+        self._page = page
+        self._left = lines
+        if not lines:
+            self._answer(page)
+
+    def _take_more(self, text: str) -> None:
+        """Takes one more line of an answer."""
+        if isinstance(self._page, Facets):
+            self._take_facet(self._page, text)
+        else:
+            assert self._page is not None
+            self._take_hit(self._page, text)
+        self._left -= 1
+        if not self._left:
             self._answer(self._page)
 
-    def _take_hit(self, text: str) -> None:
-        assert self._page is not None
+    def _take_facet(self, facets: Facets, text: str) -> None:
+        front, data = text.split(" value=", 1)
+        if not front.startswith("facet "):
+            raise ValueError("a facet is wanted")
+        value = json.loads(data)
+        if isinstance(value, bool) or not isinstance(value, (int, str)):
+            raise ValueError("a value is a number or a text")
+        facets.values.append((value, _numbers(front)["count"]))
+
+    def _take_hit(self, found: Found, text: str) -> None:
         front, data = text.split(" data=", 1)
         if not front.startswith("hit "):
             raise ValueError("a hit is wanted")
@@ -820,10 +879,7 @@ class Index:
         payload = json.loads(data)
         if not isinstance(payload, str):
             raise ValueError("the data of a hit are a text")
-        self._page.hits.append(Hit(told["rank"], told["id"], told["weight"], told["collapsed"], payload))
-        self._hits -= 1
-        if not self._hits:
-            self._answer(self._page)
+        found.hits.append(Hit(told["rank"], told["id"], told["weight"], told["collapsed"], payload))
 
     def _answer(self, value: Any, error: Optional[Refused] = None) -> None:
         """The answer of the first line that waits is whole."""
@@ -950,7 +1006,7 @@ class Index:
     ) -> List[Tree]:
         """The pairs of words whose places are looked at: of few words, and not of two that are common."""
         prefix = "" if "" in boosted or not boosted else next(iter(boosted))
-        terms = [leaf for leaf in leaves if "term" in leaf and not _is_prefixed(leaf)]
+        terms = [leaf for leaf in leaves if "term" in leaf and not _is_prefixed(leaf) and not _is_stem(leaf)]
         words = {leaf["term"]: counted[prefix, _key(leaf)] for leaf in terms}
         if len(words) > _MOST_NEAR:
             return []
@@ -981,11 +1037,16 @@ _COMMON = 16  # A word is common where more than one in so many documents have i
 _LEAVES = ("term", "wildcard", "phrase", "near")
 
 
+def _is_stem(leaf: Tree) -> bool:
+    """Whether the leaf is the stem of a word, which has no places: a Z stands before its prefix."""
+    return "term" in leaf and leaf["term"].startswith("Z")
+
+
 def _is_prefixed(leaf: Tree) -> bool:
     """Whether the words of a leaf stand under a prefix: they are folded, and a prefix has capital letters."""
     (value,) = leaf.values()
     first: str = value if isinstance(value, str) else value[1]
-    return "A" <= first[0] <= "Z"
+    return "A" <= first[1 if _is_stem(leaf) else 0] <= "Z"
 
 
 def _size(leaf: Tree) -> int:
@@ -1016,6 +1077,8 @@ def _variants(leaf: Tree, prefixes: Iterable[str]) -> List[Tuple[Tuple[str, str]
     key = _key(leaf)
     if _is_prefixed(leaf):
         return [(("", key), leaf)]
+    if _is_stem(leaf):
+        return [((prefix, key), {form: "Z" + prefix + value[1:]}) for prefix in prefixes]
     if isinstance(value, str):
         return [((prefix, key), {form: prefix + value}) for prefix in prefixes]
     return [((prefix, key), {form: [value[0], *(prefix + word for word in value[1:])]}) for prefix in prefixes]

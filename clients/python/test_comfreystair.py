@@ -17,7 +17,7 @@ import time
 import unittest
 from unittest import mock
 
-from comfreystair import EVERY, Error, Fault, Index, NotSent, Refused, RefusedLines
+from comfreystair import EVERY, Error, Facets, Fault, Index, NotSent, Refused, RefusedLines
 
 HERE = os.path.dirname(os.path.realpath(__file__))
 PROGRAM = os.environ.get("SK_TOOL") or os.path.join(HERE, "..", "..", "crates", "sk_tool", "out", "sk_tool")
@@ -51,6 +51,13 @@ def by_hand(lines):
                 hit = re.fullmatch(r"hit rank=(\d+) id=(\d+) weight=(\d+) collapsed=(\d+) data=(.*)", rows.pop(0))
                 page.append((*map(int, hit.groups()[:4]), json.loads(hit[5])))
             answers.append(("found", page, *(int(number) for number in found.groups()[1:])))
+        elif row.startswith("facets "):
+            values = []
+            while rows and rows[0].startswith("facet "):
+                facet = re.fullmatch(r"facet count=(\d+) value=(.*)", rows.pop(0))
+                values.append((json.loads(facet[2]), int(facet[1])))
+            numbers = re.fullmatch(r"facets matches=(\d+) distinct=(\d+) without=(\d+) steps=(\d+)", row).groups()
+            answers.append(("facets", *map(int, numbers), values))
         else:
             answers.append(row)
     return answers, told.returncode
@@ -66,6 +73,8 @@ def told(call):
         return "query " + json.dumps(value, ensure_ascii=False, separators=(",", ":"))
     if isinstance(value, (int, str)):
         return value
+    if isinstance(value, Facets):
+        return ("facets", *value)
     return ("found", [tuple(hit) for hit in value.hits], *value.count, value.max, value.steps)
 
 
@@ -109,6 +118,20 @@ class Sessions(unittest.TestCase):
         self.assertEqual(index.count({"all": []}), 3)
         self.assertEqual(index.show("red -fox"), {"and_not": [{"term": "red"}, {"term": "fox"}]})
         self.assertEqual(index.delete_by("lang", "en"), 3)
+
+    def test_facets(self):
+        index = self.open(FIELDS)
+        for year, site in ((1990, "a"), (2000, 'b"'), ((1 << 64) - 1, "a"), (2000, None)):
+            index.add({"body": "red fox", "year": year, "site": site})
+        self.assertEqual(index.facets("red", "site"), Facets(4, 2, 1, 8, [("a", 2), ('b"', 1)]))
+        years = index.facets("red owl", by="year", op="or")
+        self.assertEqual(years.values, [(2000, 2), (1990, 1), ((1 << 64) - 1, 1)])
+        self.assertEqual((years.matches, years.distinct, years.without), (4, 3, 0))
+        self.assertEqual(index.facets("red", "year", size=1).values, [(2000, 2)])
+        self.assertEqual(index.facets("red", "year", size=0), (4, 3, 0, 8, []))
+        self.assertEqual(index.facets("red owl", "year", op="and").matches, 0)
+        self.assertEqual(index.facets("owl", "year"), (0, 0, 0, 0, []))
+        self.assertEqual(index.find("red", size=1)[0].id, 1)
 
     def test_replies(self):
         index = self.open(FIELDS)
@@ -204,6 +227,11 @@ class Sessions(unittest.TestCase):
         asked = " ".join(picks.choice([*signs, word(), word()]) for _ in range(picks.randint(0, 4)))
         if form < 0.66:
             return {"show": asked, "op": "and"}, now(lambda: index.show(asked, op="and")), ""
+        if form < 0.71:
+            by = picks.choice(["year", "site", "site", "lang", "nope"])
+            size = picks.choice([0, 1, 2, 10, 100_001])
+            line = {"facets": asked, "by": by, "op": "or", "size": size}
+            return line, now(lambda: index.facets(asked, by, op="or", size=size)), ""
         options = {}
         for name, value in (
             ("scheme", picks.choice(["bool", "coord", "nnn", "tf"])),
@@ -269,6 +297,9 @@ class Refusals(unittest.TestCase):
         self.assertEqual(self.refused(lambda: self.index.find("fox", first=100_001)).name, "BadShape")
         self.assertEqual(self.refused(lambda: self.index.find("fox", collapse="body")).name, "BadField")
         self.assertEqual(self.refused(lambda: self.index.show("(")).byte, 0)
+        self.assertEqual(self.refused(lambda: self.index.facets("red", "body")).name, "BadField")
+        self.assertEqual(self.refused(lambda: self.index.facets("red", "year", size=-1)).name, "BadShape")
+        self.assertEqual(self.refused(lambda: self.index.facets("fox (", "year")).byte, 4)
         self.assertEqual(self.index.close(), 1)
 
     def test_of_fields(self):
@@ -356,6 +387,19 @@ class Refusals(unittest.TestCase):
         with self.assertRaises(TypeError):
             self.index.find(7)
         self.assertEqual(self.index.count({"all": []}), 0)
+
+
+class Stems(unittest.TestCase):
+    def test_words_are_found_by_their_stems_where_that_is_asked_for(self):
+        with Index(PROGRAM, [*BODY, {"name": "title", "kind": "text", "prefix": "S"}], stem=True) as index:
+            index.add_all([{"body": "hopping cats", "title": "Hopes"}, {"body": "Hoping"}])
+            self.assertEqual([hit.id for hit in index.find("hopes")], [2])
+            self.assertEqual([hit.id for hit in index.find("title:hope")], [1])
+            self.assertEqual([hit.id for hit in index.find("Hope")], [])
+            self.assertEqual(index.show("hop +Hop"), {"and_maybe": [{"term": "hop"}, {"term": "Zhop"}]})
+            self.assertEqual([hit.id for hit in index.find_by_idf("hoped cat")], [1, 2])
+        with Index(PROGRAM, BODY) as index:
+            self.assertEqual(index.show("hopes"), {"term": "hopes"})
 
 
 class Loads(unittest.TestCase):

@@ -10,7 +10,7 @@ pub(crate) fn empty_index(alloc: Global) -> Result<Index, AllocError> {
         name: Text::new(alloc, "body")?,
         kind: FieldKind::Text(Text::empty(alloc), 1),
     })?;
-    let Some(schema) = Schema::check(fields) else {
+    let Some(schema) = Schema::check(fields, false) else {
         return Err(AllocError);
     };
     Index::new(alloc, schema)
