@@ -20,6 +20,7 @@ SCHEMA = [
     {"name": "body", "kind": "text"},
     {"name": "name", "kind": "filter", "prefix": "N"},
     {"name": "section", "kind": "filter", "prefix": "C"},
+    {"name": "counted_section", "kind": "word", "slot": 0},
 ]
 # Requests whose words are no text, and names that mdoc has inside a row.
 SILENT = re.compile(
@@ -87,6 +88,7 @@ def document(path):
     about = re.sub(r"^.*?\s-+\s", "", heading)
     data = f"{name}({section})\n{about}"
     values = {"title": heading, "any_title": heading, "body": plain(text), "name": name, "section": section}
+    values["counted_section"] = section
     while True:
         told = json.dumps({"add": values, "data": data}, ensure_ascii=False, separators=(",", ":"))
         told = told.encode("utf-8", "replace")

@@ -38,6 +38,8 @@ def fits(written, told):
 
 
 def main():
+    if not os.access(TOOL, os.X_OK):
+        sys.exit(f"no program at {TOOL}: ./prove builds it, or SK_TOOL names it")
     with open(PAGE, encoding="utf-8") as file:
         page = file.read()
     differing = blocks = 0

@@ -100,7 +100,7 @@ class Refused(Error):
 
     number, name: of the refusal, as docs/FORMATS.md has them.
     kind, byte: of a query text's fault the kind and the byte at which it stands; None otherwise.
-    query: the query's text or tree where it was a find or a show; None otherwise.
+    query: the query's text or tree where it was a find, a show or facets; None otherwise.
     document, data: what was to be added; None otherwise.
     hint: what the client sees to be wrong with the document; empty where it sees nothing.
     """
@@ -960,7 +960,7 @@ class Index:
         boosts: by the names of text fields what their words weigh, 1 where it is not said; fields of one prefix weigh
             what the first of them does.
         near: 0 looks at no places, which is quicker where words are common. Of more than ten words none are looked at,
-            and in a text of hundreds the fields under a prefix are left out.
+            nor of one that is asked for by its stem; in a text of hundreds the fields under a prefix are left out.
         """
         tree = self.show(text, op=op)
         boosted: Dict[str, float] = {}
