@@ -26,6 +26,8 @@ import comfreystair  # noqa: E402
 
 SIZE = 10
 LAST_PAGE = 100_000 // SIZE
+MOST_VALUES = 8  # Of a field, at the side of the page.
+LONGEST_VALUE = 60  # There, in characters.
 REASONS = {
     "StrayBracket": "This bracket closes nothing.",
     "UnclosedBracket": "This bracket is never closed.",
@@ -67,10 +69,14 @@ class Corpus:
         """Starts the program, and adds all documents."""
         begin = time.monotonic()
         with open(self.path, "rb") as lines:
-            schema = json.loads(next(lines, b"null").decode("utf-8-sig"))
+            try:
+                schema = json.loads(next(lines, b"null").decode("utf-8-sig"))
+            except (ValueError, RecursionError):
+                schema = None
             if not isinstance(schema, dict) or "schema" not in schema:
                 raise ValueError(f"{self.path}: its first line is no schema")
-            index = comfreystair.Index(self.tool, schema["schema"], on_refused=complain)
+            self.stem = schema.get("stem", False)
+            index = comfreystair.Index(self.tool, schema["schema"], stem=self.stem, on_refused=complain)
             for place, line in enumerate(lines, 2):
                 try:
                     told = json.loads(line.decode())
@@ -83,7 +89,7 @@ class Corpus:
         return index
 
     def find(self, asked):
-        """What is found, and in how many seconds."""
+        """What is found, in how many seconds, and what is counted of all matches."""
         options = {"first": asked.first, "size": SIZE}
         if asked.exact:
             options["check"] = comfreystair.EVERY
@@ -94,18 +100,62 @@ class Corpus:
         with self.lock:
             if self.index is None:
                 self.index = self.load()
-            begin = time.monotonic()
             try:
+                base = {"all": []} if asked.everything else self.meant(asked.text, asked.op)
+                begin = time.monotonic()
                 if asked.everything:
-                    found = self.index.find({"all": []}, **options)
-                elif asked.order:
+                    found = self.index.find(base, **options)
+                elif asked.order or base is None:
                     found = self.index.find(asked.text, op=asked.op, **options)
                 else:
                     found = self.index.find_by_idf(asked.text, op=asked.op, **options)
-                return found, time.monotonic() - begin
+                return found, time.monotonic() - begin, self.counted(asked, base)
             except comfreystair.Fault:
                 self.index = None
                 raise
+
+    def counted(self, asked, base):
+        """Of each number and word field its name, how many matches have each value, and the texts that narrow to it."""
+        told = []
+        for field in self.fields:
+            name = field["name"]
+            if field["kind"] not in ("number", "word"):
+                continue
+            # Nothing lies in this range, so what takes it away is all documents.
+            text = f"-{name}:1..0" if asked.everything else asked.text
+            counts = self.index.facets(text, name, op=asked.op, size=MOST_VALUES)
+            # Numbers most of which stand alone, such as moments, tell nothing.
+            is_alone = field["kind"] == "number" and 2 * counts.distinct > counts.matches - counts.without
+            if counts.values and not is_alone:
+                texts = [
+                    self.narrowed(asked, base, field, value) if base and count < counts.matches else None
+                    for value, count in counts.values
+                ]
+                told.append((name, counts, texts))
+        return told
+
+    def narrowed(self, asked, base, field, value):
+        """The text that wants this value too, or None where none says so: the program tells what each means."""
+        wish = f"{field['name']}:{value}"
+        if len(wish) > 2 * LONGEST_VALUE:
+            return None
+        # The last is for a text with a quote that is not closed.
+        texts = [f"{asked.text} {wish}", f"({asked.text}) {wish}", f'({asked.text}") {wish}']
+        one = {"range": [field["slot"], value, value]}
+        wanted = [{"filter": [base, one]}, {"filter": [*base.get("filter", [base]), one]}]
+        for text in [wish] if asked.everything else texts:
+            if self.meant(text, asked.op) in wanted:
+                return text
+        return None
+
+    def meant(self, text, op):
+        """The query of a text, or None where it is none, or nests deeper than Python reads."""
+        try:
+            return self.index.show(text, op=op)
+        except comfreystair.Fault:
+            raise
+        except comfreystair.Error:
+            return None
 
 
 @dataclass(frozen=True)
@@ -254,8 +304,8 @@ def refusal(text, refused):
 <p class="facts">{shown(told)}</p></section>"""
 
 
-def help_of(fields):
-    """How to ask, over these fields."""
+def help_of(fields, stem):
+    """How to ask, over these fields, where words are stemmed or not."""
     rows = [
         ('"owl box"', "these words, one behind the other"),
         ("owl*", "words that begin so"),
@@ -264,6 +314,8 @@ def help_of(fields):
         ("owl OR (box AND tree)", "operators are in capitals"),
         ("owl NEAR/3 box", "within three places of each other"),
     ]
+    if stem:
+        rows.insert(0, ("Owls", "this word as it stands; owls finds owl as well"))
     for field in fields:
         name, kind = field["name"], field["kind"]
         if kind == "text" and field.get("prefix"):
@@ -278,9 +330,25 @@ def help_of(fields):
     return f'<section><h2>How to ask</h2><dl class="help">{told}</dl></section>'
 
 
-def facets(asked, found):
-    """Where facets will stand: the program has none yet."""
-    return ""
+def facets(asked, counted):
+    """How many of all matches have each value of a field, and the ways to those alone."""
+    told = ""
+    for name, counts, texts in counted:
+        rows = ""
+        for (value, count), text in zip(counts.values, texts):
+            label = str(value)
+            label = shown(label if len(label) <= LONGEST_VALUE else label[:LONGEST_VALUE - 1] + "…")
+            if text:
+                label = f'<a href="{asked.address(text=text, everything=False, page=1)}">{label}</a>'
+            rows += f"<li><span>{label}</span> <span>{count:,}</span></li>"
+        below = []
+        if counts.distinct > len(texts):
+            below.append(plural(counts.distinct - len(texts), "more value"))
+        if counts.without:
+            below.append(f"{plural(counts.without, 'document')} without")
+        below = f"<p>{', '.join(below)}</p>" if below else ""
+        told += f'<section class="facets"><h2>{shown(name)}</h2><ul>{rows}</ul>{below}</section>'
+    return told
 
 
 def page(corpus, asked, title, main, aside):
@@ -292,7 +360,7 @@ def page(corpus, asked, title, main, aside):
 <header><p class="name"><a href="/">{shown(corpus.name)}</a></p>
 {box(asked, corpus.fields)}</header>
 <div class="columns"><main id="hits" tabindex="-1">{main}</main>
-<aside>{aside}{help_of(corpus.fields)}</aside></div>
+<aside>{aside}{help_of(corpus.fields, corpus.stem)}</aside></div>
 <footer>{plural(corpus.count, "document")} in memory · searched by Comfreystair</footer></body></html>
 """.encode("utf-8", "xmlcharrefreplace")
 
@@ -307,7 +375,7 @@ def response(corpus, query):
         main = f'<div class="welcome"><p>{many} to search in.</p><p>{all_of_them}</p></div>'
         return 200, page(corpus, asked, title, main, "")
     try:
-        found, seconds = corpus.find(asked)
+        found, seconds, counted = corpus.find(asked)
     except comfreystair.Refused as refused:
         return 200, page(corpus, asked, title, refusal(asked.text, refused), "")
     except (comfreystair.Error, OSError, ValueError) as cause:
@@ -315,7 +383,7 @@ def response(corpus, query):
         main = f'''<section class="refused" role="alert"><h2>The program ended</h2><p>{shown(str(cause))}</p>
 <p>It is started anew at the next search.</p></section>'''
         return 503, page(corpus, asked, title, main, "")
-    return 200, page(corpus, asked, title, answer(asked, found, seconds), facets(asked, found))
+    return 200, page(corpus, asked, title, answer(asked, found, seconds), facets(asked, counted))
 
 
 POLICY = ("default-src 'none'; style-src 'self'; img-src 'self'; form-action 'self'; base-uri 'none'; "

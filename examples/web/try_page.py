@@ -26,6 +26,9 @@ from selenium.webdriver.support.ui import Select, WebDriverWait
 HERE = os.path.dirname(os.path.realpath(__file__))
 TOP = os.path.join(HERE, "..", "..")
 HOSTILE = "<script>document.title='taken'</script>\"'><img src=x onerror=alert(1)>"
+# Values of a field: the first row can be asked for in a text, the others cannot.
+SAID = ["north", "a&b=c%20+d#e", 'a"b', "<b>", "(x", "-x", "é", "year:7", "\u202egnirts", "'&amp;"]
+UNSAID = [HOSTILE, "new york", "x)", "1..2", "..", "long" * 50]
 
 
 class Served:
@@ -85,6 +88,22 @@ def corpus_of(folder):
         subprocess.run(words, stdout=out, check=True)
         out.write(json.dumps({"add": {"body": "hostile"}, "data": f"{HOSTILE}\n{HOSTILE}"}).encode() + b"\n")
         out.write(b"this is no line of JSON\n")
+    return path
+
+
+def shelf_of(folder):
+    """Documents whose values are hard to ask for: in each group three of them, each once more than the one before."""
+    path = os.path.join(folder, "shelf.jsonl")
+    fields = [{"name": "body", "kind": "text"}, {"name": "site", "kind": "word", "slot": 0},
+              {"name": "year", "kind": "number", "slot": 1}, {"name": "moment", "kind": "number", "slot": 2}]
+    lines = [{"schema": fields, "stem": True}]
+    for place, value in enumerate(SAID + UNSAID):
+        for count in range(place % 3 + 1):
+            values = {"body": f"groups owl{place // 3}", "site": value, "year": 1990 + count, "moment": len(lines)}
+            lines.append({"add": values, "data": value})
+    lines.append({"add": {"body": "groups"}, "data": "none"})
+    with open(path, "w", encoding="utf-8") as out:
+        out.writelines(json.dumps(line) + "\n" for line in lines)
     return path
 
 
@@ -153,6 +172,57 @@ def try_orders(driver, page):
     assert text(driver, ".counts").startswith("Nothing on page 77"), text(driver, ".counts")
     driver.get(page.address(q="zebra"))
     assert text(driver, ".counts").startswith("Nothing matches"), text(driver, ".counts")
+
+
+def facets(driver):
+    """By field what stands at the side: each value with its count."""
+    told = {}
+    for part in driver.find_elements(By.CSS_SELECTOR, ".facets"):
+        rows = [[cell.text for cell in row.find_elements(By.CSS_SELECTOR, "li > span")]
+                for row in part.find_elements(By.TAG_NAME, "li")]
+        told[part.find_element(By.TAG_NAME, "h2").text] = {value: int(count) for value, count in rows}
+    return told
+
+
+def try_facets(driver, page):
+    driver.get(page.address(q="budget OR pump", order="-date"))
+    threads = {"b1@example.org": 3, "c1@example.org": 2, "f1@example.org": 2, "g1@example.org": 1}
+    assert facets(driver) == {"thread": threads}, facets(driver)
+    leave(driver, driver.find_element(By.LINK_TEXT, "b1@example.org").send_keys, Keys.ENTER)
+    assert driver.find_element(By.ID, "q").get_attribute("value") == "(budget OR pump) thread:b1@example.org"
+    assert text(driver, ".counts").startswith("Hits 1 to 3 of exactly 3"), text(driver, ".counts")
+    assert "order=-date" in driver.current_url, driver.current_url
+    assert facets(driver) == {"thread": {"b1@example.org": 3}}, facets(driver)
+    assert not driver.find_elements(By.CSS_SELECTOR, ".facets a"), "what all have narrows nothing"
+    driver.get(page.address(all="1"))
+    assert len(facets(driver)["thread"]) == 7 and "1 document without" in text(driver, ".facets"), facets(driver)
+    click(driver, ".facets a")
+    assert driver.find_element(By.ID, "q").get_attribute("value") == "thread:b1@example.org"
+    assert text(driver, ".counts").startswith("Hits 1 to 3 of exactly 3"), text(driver, ".counts")
+    driver.get(page.address(q="zebra"))
+    assert not facets(driver), facets(driver)
+
+
+def try_values(driver, page):
+    """Each value that a text can say has a way to the documents that have it, and to no other."""
+    driver.get(page.address(q="group"))
+    assert list(facets(driver)) == ["site", "year"], facets(driver)
+    assert "Owls" in text(driver, ".help"), "words are stemmed here"
+    assert f"{len(SAID + UNSAID) - 8} more values, 1 document without" in text(driver, ".facets")
+    shown = {}
+    for group in range((len(SAID + UNSAID) + 2) // 3):
+        for words in (f"owl{group}", f'"owl{group}', f"owl{group} OR owl{group}", f"-(groups -owl{group}) site:!.."):
+            driver.get(page.address(q=words))
+            told = facets(driver)["site"]
+            ways = {link.text: link.get_attribute("href")
+                    for link in driver.find_elements(By.CSS_SELECTOR, ".facets:first-child a")}
+            for label, way in ways.items():
+                driver.get(way)
+                assert set(titles(driver)) == {label} and len(titles(driver)) == told[label], (words, label)
+            shown |= {label: label in ways for label in told}
+    cut = [value if len(value) <= 60 else value[:59] + "…" for value in SAID + UNSAID]
+    cut = [value.replace("\u202e", "\ufffd") for value in cut]
+    assert shown == dict(zip(cut, [True] * len(SAID) + [False] * len(UNSAID))), shown
 
 
 def try_refusals(driver, page):
@@ -233,9 +303,12 @@ def main():
     with tempfile.TemporaryDirectory() as folder, Served(corpus_of(folder), words.tool) as page:
         driver = browser()
         try:
-            for tried in (try_finds, try_orders, try_refusals, try_hostile):
+            for tried in (try_finds, try_orders, try_facets, try_refusals, try_hostile):
                 tried(driver, page)
                 print(f"{tried.__name__}: ok")
+            with Served(shelf_of(folder), words.tool) as shelf:
+                try_values(driver, shelf)
+                print("try_values: ok")
         finally:
             driver.quit()
         try_narrow(page)
