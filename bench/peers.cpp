@@ -1,5 +1,6 @@
-// The lines that bench/peers.py makes, over Xapian's in-memory database, or over a floor: what any engine must keep to
-// answer one-word finds, written by hand. Usage: peers xapian | floor < LINES
+// The lines that bench/peers.py makes, over Xapian's in-memory database, over a table of SQLite's FTS5 in memory, or over a
+// floor: what any engine must keep to answer one-word finds, written by hand. Usage: peers xapian | fts5 | floor < LINES
+#include <sqlite3.h>
 #include <xapian.h>
 #include <algorithm>
 #include <cstdint>
@@ -66,6 +67,77 @@ struct Xapian_peer {
     }
 };
 
+// One transaction over one table, whose statements are prepared once. The best hits are those of its own BM25.
+struct Fts5_peer {
+    sqlite3 *db = nullptr;
+    sqlite3_stmt *adds, *replaces, *removes, *finds;
+
+    static void check(bool is_well)
+    {
+        if (!is_well)
+            exit(3);
+    }
+
+    sqlite3_stmt *prepared(const char *text)
+    {
+        sqlite3_stmt *statement;
+        check(sqlite3_prepare_v2(db, text, -1, &statement, nullptr) == SQLITE_OK);
+        return statement;
+    }
+
+    Fts5_peer()
+    {
+        check(sqlite3_open(":memory:", &db) == SQLITE_OK);
+        check(sqlite3_exec(db, "CREATE VIRTUAL TABLE pages USING fts5(body); BEGIN", nullptr, nullptr, nullptr) == SQLITE_OK);
+        adds = prepared("INSERT INTO pages (body) VALUES (?1)");
+        replaces = prepared("UPDATE pages SET body = ?1 WHERE rowid = ?2");
+        removes = prepared("DELETE FROM pages WHERE rowid = ?2");
+        finds = prepared("SELECT rowid, rank FROM pages WHERE pages MATCH ?1 ORDER BY rank LIMIT 10");
+    }
+
+    static void bind(sqlite3_stmt *statement, const string &text)
+    {
+        check(sqlite3_bind_text(statement, 1, text.data(), int(text.size()), SQLITE_STATIC) == SQLITE_OK);
+    }
+
+    static void done(sqlite3_stmt *statement)
+    {
+        check(sqlite3_step(statement) == SQLITE_DONE);
+        sqlite3_reset(statement);
+    }
+
+    void add(const string &body)
+    {
+        bind(adds, body);
+        done(adds);
+        printf("id %lld\n", sqlite3_last_insert_rowid(db));
+    }
+
+    void replace(unsigned id, const string &body)
+    {
+        bind(replaces, body);
+        sqlite3_bind_int64(replaces, 2, id);
+        done(replaces);
+        printf("id %u\n", id);
+    }
+
+    void remove(unsigned id)
+    {
+        sqlite3_bind_int64(removes, 2, id);
+        done(removes);
+        printf("ok\n");
+    }
+
+    void find(const string &text)
+    {
+        bind(finds, text);
+        printf("found\n");
+        while (sqlite3_step(finds) == SQLITE_ROW)
+            printf("hit %lld %f\n", sqlite3_column_int64(finds, 0), sqlite3_column_double(finds, 1));
+        sqlite3_reset(finds);
+    }
+};
+
 struct Floor {
     std::unordered_map<string, std::vector<std::pair<uint32_t, uint32_t>>> lists;
     uint32_t last = 0;
@@ -125,8 +197,10 @@ int main(int argc, char **argv)
 {
     if (argc == 2 && string(argv[1]) == "xapian")
         return run<Xapian_peer>();
+    if (argc == 2 && string(argv[1]) == "fts5")
+        return run<Fts5_peer>();
     if (argc == 2 && string(argv[1]) == "floor")
         return run<Floor>();
-    fprintf(stderr, "usage: peers xapian | floor < LINES\n");
+    fprintf(stderr, "usage: peers xapian | fts5 | floor < LINES\n");
     return 1;
 }

@@ -1,9 +1,10 @@
 #!/usr/bin/env python3
-"""Prints a table: what the same lines cost in the built program, in Xapian's in-memory database, and in a floor written by
-hand that keeps lists of words alone: processor time, of it system time, and memory.
+"""Prints a table: what the same lines cost in the built program, in Xapian's in-memory database, in a table of SQLite's FTS5
+in memory, and in a floor written by hand that keeps lists of words alone: processor time, of it system time, and memory.
 
-Wants the built program, (cd crates/sk_tool && rt run), g++, and Xapian's headers (Debian: libxapian-dev). Run it at the top of the
-repository: python3 bench/peers.py [DOCUMENTS] [PROGRAM..]. Each further PROGRAM is one to compare with. The seed is fixed."""
+Wants the built program, (cd crates/sk_tool && rt run), g++, and the headers of Xapian and SQLite (Debian: libxapian-dev,
+libsqlite3-dev). Run it at the top of the repository: python3 bench/peers.py [DOCUMENTS] [PROGRAM..]. Each further PROGRAM is
+one to compare with. The seed is fixed."""
 import json
 import os
 import random
@@ -106,15 +107,16 @@ def main():
     programs = [OURS, *sys.argv[2:]]
     with tempfile.TemporaryDirectory() as folder:
         peers = os.path.join(folder, "peers")
-        subprocess.run(["g++", "-O2", os.path.join(HERE, "peers.cpp"), "-lxapian", "-o", peers], check=True)
+        subprocess.run(["g++", "-O2", os.path.join(HERE, "peers.cpp"), "-lxapian", "-lsqlite3", "-o", peers], check=True)
         print(f"{documents} documents; answers go into a pipe; seconds (of the system), MiB")
-        names = ["sk_tool"] + [f"program {n}" for n in range(2, len(programs) + 1)] + ["Xapian", "floor"]
+        names = ["sk_tool"] + [f"program {n}" for n in range(2, len(programs) + 1)] + ["Xapian", "FTS5", "floor"]
         print(f"{'':38s}" + "".join(f"{name:>26s}" for name in names))
         for name, lines, floor in rows(documents):
             path = os.path.join(folder, "lines")
             write(lines, path)
             with open(path) as given:
-                commands = [[program, "run"] for program in programs] + [[peers, "xapian"]] + ([[peers, "floor"]] if floor else [])
+                commands = [[program, "run"] for program in programs]
+                commands += [[peers, peer] for peer in (["xapian", "fts5", "floor"] if floor else ["xapian", "fts5"])]
                 told = [min(run(command, given) for _ in range(RUNS)) for command in commands]
             print(f"{name:38s}" + "".join(f"{f'{time:.2f} ({system:.2f}), {most:.0f}':>26s}" for time, system, most in told), flush=True)
 
