@@ -5,7 +5,8 @@ be equal, counts within their bounds, and steps no more than the rules allow, wh
 of random texts are to be equal but for their steps. Ends with 1 where one differs.
 
 Wants both programs: (cd crates/sk_tool && rt run; cd ../sk_reference && rt run). Run it at the top of the repository:
-python3 bench/random_finds.py [SEEDS [FOLDER]], FOLDER being where crates/ is."""
+python3 bench/random_finds.py [SEEDS [FIRST [TEXTS [FOLDER]]]], FIRST being the first seed, TEXTS how many finds by such
+texts each seed has, and FOLDER where crates/ is."""
 import json
 import os
 import random
@@ -118,8 +119,8 @@ def counted(picks):
     return line
 
 
-def commands(picks):
-    """A schema, documents and some deletions, finds by tree and by text, and facets."""
+def commands(picks, texts=STEMMED):
+    """A schema, documents and some deletions, finds by tree and so many by text, and facets."""
     stem = picks.random() < 0.5
     yield SCHEMA | ({"stem": True} if stem else {})
     for number in range(picks.randint(5, 60) if picks.random() < 0.8 else picks.randint(200, 600)):
@@ -134,7 +135,7 @@ def commands(picks):
             yield {"delete": picks.randint(1, number + 1)}
     for _ in range(FINDS):
         yield asked(picks)
-    for _ in range(STEMMED):
+    for _ in range(texts):
         yield {"find": " ".join(picks.choices([*FORMS, "-hop", "+hoped"], k=picks.randint(1, 4)))} | options(picks, ["site", "year"])
     for _ in range(FACETS):
         yield counted(picks)
@@ -197,21 +198,24 @@ def agree(ours, plain, few=0):
 
 def main():
     seeds = int(sys.argv[1]) if len(sys.argv) > 1 else 100
-    folder = sys.argv[2] if len(sys.argv) > 2 else os.path.join(HERE, "..")
+    first = int(sys.argv[2]) if len(sys.argv) > 2 else 0
+    texts = int(sys.argv[3]) if len(sys.argv) > 3 else STEMMED
+    folder = sys.argv[4] if len(sys.argv) > 4 else os.path.join(HERE, "..")
     programs = [os.path.join(folder, "crates", name, "out", name) for name in ("sk_tool", "sk_reference")]
-    finds = facets = differing = 0
-    for seed in range(seeds):
-        lines = list(commands(random.Random(seed)))
+    finds = facets = stemmed = differing = 0
+    for seed in range(first, first + seeds):
+        lines = list(commands(random.Random(seed), texts))
         text = "".join(json.dumps(line) + "\n" for line in lines).encode()
         ours, plain = (answers(program, text)[0] for program in programs)
         for line, mine, true in zip(lines, ours, plain):
             finds += "tree" in line or "find" in line
             facets += "facets" in line
+            stemmed += "stem" in lines[0] and ("find" in line or "facets" in line)
             if not agree(mine, true, wanted(line) if "tree" in line or "find" in line else 0):
                 differing += 1
                 print(seed, json.dumps(line), mine, true)
         differing += abs(len(ours) - len(plain))
-    print(f"{finds} finds, {facets} facets, {differing} differ")
+    print(f"seeds {first} to {first + seeds - 1}: {finds} finds, {facets} facets, {stemmed} texts under stems, {differing} differ")
     sys.exit(1 if differing else 0)
 
 
