@@ -11,12 +11,14 @@ pub enum Join {
     And,
 }
 
-/// How a term's wdf weighs: not at all, as one, or as it is.
+/// How a term's wdf weighs: not at all, as one, as it is, as one where there is one, or by its square.
 #[derive(Clone, Copy, Debug, PartialEq, Eq)]
 pub enum Scheme {
     Bool,
     Coord,
     Nnn,
+    Bnn,
+    Snn,
 }
 
 /// Of the documents that have the same value in a slot, only the best are kept.

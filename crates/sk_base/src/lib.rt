@@ -46,4 +46,4 @@ pub use text::{Term, Text, Texts};
 pub type DocId = u32;
 
 /// What a document scores for a query.
-pub type Weight = u64;
+pub type Weight = u128;

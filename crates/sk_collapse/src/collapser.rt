@@ -63,7 +63,7 @@ impl Collapser {
     /// Sees a match under its key. Without memory nothing changes.
     pub fn see(&mut self, key: &[u8], rank: &Rank) -> Result<Verdict, AllocError>
         requires few { self.old.seen + 1 < 2 ^ 32 }
-        requires light { rank.now.weight < 2 ^ 63 }
+        requires light { rank.now.weight < 2 ^ 127 }
         requires differs { (k : List ℕ) → 0 < length k → All (λ r. r.id ≢ rank.now.id) (group_of k self.old.groups).kept }
         ensures same { IfOk result (λ verdict. (self.new.order ≡ self.old.order) × (self.new.most ≡ self.old.most) × (self.new.seen ≡ self.old.seen + 1)) }
         ensures knows { IfOk result (λ verdict. KnowsMore self.old self.new verdict key.now rank.now) }
@@ -155,7 +155,7 @@ fn put(
     hit: Hit,
 ) -> Result<Option<Hit>, AllocError>
     requires alike { AreAlike order most (2 ^ 32 - 2) (values_of groups.old.entries) }
-    requires light { hit.rank.weight < 2 ^ 63 }
+    requires light { hit.rank.weight < 2 ^ 127 }
     requires differs { All (λ r. r.id ≢ hit.rank.id) (group_of key.now (groups_of groups.old.entries)).kept }
     ensures here { OnOk result (group_of key.now (groups_of groups.new.entries) ≡ group_with order most hit.rank (group_of key.now (groups_of groups.old.entries))) }
     ensures others { OnOk result ((k : List ℕ) → bytes_eq key.now k ≡ false → group_of k (groups_of groups.new.entries) ≡ group_of k (groups_of groups.old.entries)) }
@@ -179,7 +179,7 @@ fn put_new(
     hit: Hit,
 ) -> Result<Option<Hit>, AllocError>
     requires none { lookup (is_at (λ k. slice_cmp nat_cmp key.now k.items)) groups.old.entries ≡ None }
-    requires light { hit.rank.weight < 2 ^ 63 }
+    requires light { hit.rank.weight < 2 ^ 127 }
     ensures here { OnOk result (group_of key.now (groups_of groups.new.entries) ≡ group_with order most hit.rank (group_of key.now (groups_of groups.old.entries))) }
     ensures others { OnOk result ((k : List ℕ) → bytes_eq key.now k ≡ false → group_of k (groups_of groups.new.entries) ≡ group_of k (groups_of groups.old.entries)) }
     ensures alike { OnOk result ((seen : ℕ) → AreAlike order most seen (values_of groups.old.entries) → AreAlike order most (seen + 1) (values_of groups.new.entries)) }

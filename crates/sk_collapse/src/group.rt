@@ -30,7 +30,7 @@ impl KeyGroup {
     pub fn put(&mut self, hit: Hit) -> Result<Option<Hit>, AllocError>
         requires few { self.old.dropped + 1 < 2 ^ 32 }
         requires differs { All (λ r. r.id ≢ hit.rank.id) (group_in self.old).kept }
-        requires light { hit.rank.weight < 2 ^ 63 }
+        requires light { hit.rank.weight < 2 ^ 127 }
         ensures alike { (self.new.best.order ≡ self.old.best.order) × (self.new.best.most ≡ self.old.best.most) }
         ensures held { OnOk result (group_in self.new ≡ group_with self.old.best.order self.old.best.most hit.rank (group_in self.old)) }
         ensures gone { IfOk result (λ gone. ranks_of (option_to_list gone) ≡ fallen self.old.best.order self.old.best.most hit.rank (group_in self.old).kept) }

@@ -21,7 +21,7 @@ pub enum Meeting {
 
 /// Where sides with the heads `a` and `b`, which weigh `v` and `w` there, meet under the form.
 pub fn meeting_of(form: Form, a: Head, v: Weight, b: Head, w: Weight) -> Meeting
-    requires fits { v + w < 2 ^ 63 }
+    requires fits { v + w < 2 ^ 127 }
     requires led { is_led form ≡ true → a ≤ b }
     ensures meets { (f g : ℕ → Option ℕ) → IsHead a v f → IsHead b w g → Meets form a f g result }
     ensures on { GoesOnOnly form result }

@@ -9,7 +9,7 @@ use sk_query::Form;
 
 /// What stands for an or from now on. `a` and `b` are the greatest weights that are left on its sides.
 pub fn or_rule(a: Weight, b: Weight, a_ended: bool, b_ended: bool, need: Weight) -> Change
-    requires { a + b < 2 ^ 63 }
+    requires { a + b < 2 ^ 127 }
     ensures table { result ≡ or_change a b a_ended b_ended need }
     ensures serves { Serves result Form.Or a b a_ended b_ended need }
 {
@@ -39,7 +39,7 @@ pub fn or_rule(a: Weight, b: Weight, a_ended: bool, b_ended: bool, need: Weight)
 
 /// What stands for an and_maybe from now on. `a` and `b` are the greatest weights that are left on its sides.
 pub fn maybe_rule(a: Weight, b: Weight, a_ended: bool, b_ended: bool, need: Weight) -> Change
-    requires { a + b < 2 ^ 63 }
+    requires { a + b < 2 ^ 127 }
     ensures table { result ≡ maybe_change a b a_ended b_ended need }
     ensures serves { Serves result Form.AndMaybe a b a_ended b_ended need }
 {
@@ -60,7 +60,7 @@ pub fn maybe_rule(a: Weight, b: Weight, a_ended: bool, b_ended: bool, need: Weig
 
 /// What stands for an and from now on. `a` and `b` are the greatest weights that are left on its sides.
 pub fn both_rule(a: Weight, b: Weight, a_ended: bool, b_ended: bool, need: Weight) -> Change
-    requires { a + b < 2 ^ 63 }
+    requires { a + b < 2 ^ 127 }
     ensures table { result ≡ both_change a b a_ended b_ended need }
     ensures serves { Serves result Form.And a b a_ended b_ended need }
 {
@@ -78,7 +78,7 @@ pub fn both_rule(a: Weight, b: Weight, a_ended: bool, b_ended: bool, need: Weigh
 
 /// What stands for an xor of two sides from now on. `a` and `b` are the greatest weights that are left on its sides.
 pub fn xor_rule(a: Weight, b: Weight, a_ended: bool, b_ended: bool, need: Weight) -> Change
-    requires { a + b < 2 ^ 63 }
+    requires { a + b < 2 ^ 127 }
     ensures table { result ≡ xor_change a b a_ended b_ended need }
     ensures serves { Serves result Form.Xor a b a_ended b_ended need }
 {
@@ -105,7 +105,7 @@ pub fn xor_rule(a: Weight, b: Weight, a_ended: bool, b_ended: bool, need: Weight
 
 /// What stands for a max from now on. `a` and `b` are the greatest weights that are left on its sides.
 pub fn max_rule(a: Weight, b: Weight, a_ended: bool, b_ended: bool, need: Weight) -> Change
-    requires { a + b < 2 ^ 63 }
+    requires { a + b < 2 ^ 127 }
     ensures table { result ≡ max_change a b a_ended b_ended need }
     ensures serves { Serves result Form.Max a b a_ended b_ended need }
 {
@@ -132,7 +132,7 @@ pub fn max_rule(a: Weight, b: Weight, a_ended: bool, b_ended: bool, need: Weight
 
 /// What stands for a filter from now on. `a` and `b` are the greatest weights that are left on its sides.
 pub fn filter_rule(a: Weight, b: Weight, a_ended: bool, b_ended: bool, need: Weight) -> Change
-    requires { a + b < 2 ^ 63 }
+    requires { a + b < 2 ^ 127 }
     ensures table { result ≡ filter_change a b a_ended b_ended need }
     ensures serves { Serves result Form.Filter a b a_ended b_ended need }
 {
@@ -150,7 +150,7 @@ pub fn filter_rule(a: Weight, b: Weight, a_ended: bool, b_ended: bool, need: Wei
 
 /// What stands for an and_not from now on. `a` and `b` are the greatest weights that are left on its sides.
 pub fn not_rule(a: Weight, b: Weight, a_ended: bool, b_ended: bool, need: Weight) -> Change
-    requires { a + b < 2 ^ 63 }
+    requires { a + b < 2 ^ 127 }
     ensures table { result ≡ not_change a b a_ended b_ended need }
     ensures serves { Serves result Form.AndNot a b a_ended b_ended need }
 {
@@ -168,7 +168,7 @@ pub fn not_rule(a: Weight, b: Weight, a_ended: bool, b_ended: bool, need: Weight
 
 /// The change that the table of the form says.
 pub fn rule(form: Form, a: Weight, b: Weight, a_ended: bool, b_ended: bool, need: Weight) -> Change
-    requires { a + b < 2 ^ 63 }
+    requires { a + b < 2 ^ 127 }
     ensures table { result ≡ change_of form a b a_ended b_ended need }
     ensures serves { Serves result form a b a_ended b_ended need }
 {

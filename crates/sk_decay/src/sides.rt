@@ -33,7 +33,7 @@ pub fn second_need(form: Form, need: Weight, a: Weight) -> Weight
 
 /// No weight under the form is above it, by the greatest of the sides.
 pub fn greatest_under(form: Form, a: Weight, b: Weight) -> Weight
-    requires { a + b < 2 ^ 63 }
+    requires { a + b < 2 ^ 127 }
     ensures { result ≡ greatest_under form a b }
 {
     match form {

@@ -24,8 +24,8 @@ use Rattle.sk_model.proofs.FacetLaws.{sum_of_counts}
 use Rattle.sk_report.specs.Facets.{FacetsFor}
 use Rattle.sk_report.proofs.FacetLaws.{one_value_each}
 use Rattle.sk_index.specs.Indexed.{Indexed, slot_value}
-use Rattle.sk_nodes.specs.Built.{weighed_ids, left, scored, Built}
-use Rattle.sk_nodes.specs.declared.tree.Tree.{Tree}
+use Rattle.sk_tree.specs.Built.{weighed_ids, left, scored, Built}
+use Rattle.sk_tree.specs.declared.tree.Tree.{Tree}
 use Rattle.sk_facets.specs.declared.tally.Tally.{Tally}
 use Rattle.sk_facets.specs.Counts.{behind_first, values_left, IsCounting}
 use Rattle.sk_facets.specs.Tallied.{AreFirst, Knows}

@@ -6,8 +6,8 @@ use Rattle.sk_query.specs.Trees as Query
 use Rattle.sk_model.specs.Edits.{document_at}
 use Rattle.sk_model.specs.Facets.{values_found}
 use Rattle.sk_index.specs.Indexed.{Indexed, slot_value}
-use Rattle.sk_nodes.specs.Built.{left, Built}
-use Rattle.sk_nodes.specs.declared.tree.Tree.{Tree}
+use Rattle.sk_tree.specs.Built.{left, Built}
+use Rattle.sk_tree.specs.declared.tree.Tree.{Tree}
 use Rattle.sk_facets.specs.declared.tally.Tally.{Tally}
 use Rattle.sk_facets.specs.Tallied.{Knows}
 

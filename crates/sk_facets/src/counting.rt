@@ -5,16 +5,16 @@ ghost use Rattle.sk_query.specs.Trees as QueryTree;
 ghost use Rattle.sk_query.specs.Trees.{query_view};
 ghost use Rattle.sk_query.specs.Fits.{fits_tree};
 ghost use Rattle.sk_sorted.specs.Entries.{first_id};
-ghost use Rattle.sk_nodes.specs.Built.{left, IsTree, Built};
+ghost use Rattle.sk_tree.specs.Built.{left, IsTree, Built};
 ghost use Rattle.sk_report.specs.Facets.{FacetsFor};
 ghost use Rattle.sk_facets.specs.Counts.{behind_first};
 
 use crate::tally::Tally;
 use sk_base::{DocId, Facets, Scheme};
 use sk_index::Index;
-use sk_nodes::Tree;
 use sk_query::Query;
 use sk_steps::Steps;
+use sk_tree::Tree;
 use std::alloc::{AllocError, Global};
 use std::sync::ledger::Ledger;
 

@@ -12,10 +12,10 @@ use Rattle.sk_model.specs.Settled.{stop_point}
 use Rattle.sk_model.specs.Sharp.{ups, rare_readings}
 use Rattle.sk_report.specs.Reports.{ReportsFor}
 use Rattle.sk_index.specs.Indexed.{Indexed}
-use Rattle.sk_nodes.specs.Stops.{PaysToStop}
-use Rattle.sk_nodes.specs.Rare.{Rare}
-use Rattle.sk_nodes.specs.Decays.{Decays}
-use Rattle.sk_nodes.specs.Built.{gives, left}
+use Rattle.sk_tree.specs.Stops.{PaysToStop}
+use Rattle.sk_tree.specs.Rare.{Rare}
+use Rattle.sk_tree.specs.Decays.{Decays}
+use Rattle.sk_tree.specs.Built.{gives, left}
 use Rattle.sk_page.specs.Needs.{is_settled, is_whole}
 use Rattle.sk_page.specs.Tells.{IsSpent}
 use Rattle.sk_page.specs.Views.{MayReport, Reports}

@@ -7,9 +7,9 @@ use Rattle.sk_sorted.specs.Entries.{LieBelow, AreSorted}
 use Rattle.sk_model.specs.Covers.{Covers, CoversAt}
 use Rattle.sk_model.specs.Documents.{Document}
 use Rattle.sk_index.specs.Indexed.{Indexed}
-use Rattle.sk_nodes.specs.Built.{gives, left}
+use Rattle.sk_tree.specs.Built.{gives, left}
 use Rattle.sk_nodes.specs.Left.{from_on}
-use Rattle.sk_nodes.specs.declared.tree.Tree.{Tree}
+use Rattle.sk_tree.specs.declared.tree.Tree.{Tree}
 use Rattle.sk_page.proofs.WalkLaws.{all_quiet}
 use Rattle.sk_match.specs.Searches.{TreePasses}
 

@@ -21,13 +21,13 @@ use Rattle.sk_model.specs.Settled.{settled, stop_point, decay_point}
 use Rattle.sk_model.specs.Sharp.{is_plain, flat_lists, ups, rare_lists, rare_readings, terms_in, decay_readings}
 use Rattle.sk_model.specs.Matches.{key_of, found_by}
 use Rattle.sk_index.specs.Indexed.{Indexed}
-use Rattle.sk_nodes.specs.Built as Nodes
-use Rattle.sk_nodes.specs.Built.{weighed_ids, gives, left, scored, Built}
+use Rattle.sk_tree.specs.Built as Nodes
+use Rattle.sk_tree.specs.Built.{weighed_ids, gives, left, scored, Built}
 use Rattle.sk_nodes.specs.Flat.{IsAtLeast}
-use Rattle.sk_nodes.specs.Stops.{PaysToStop, MayMove}
-use Rattle.sk_nodes.specs.Rare.{Rare}
-use Rattle.sk_nodes.specs.Decays.{MayFall, DecaysBoth}
-use Rattle.sk_nodes.specs.declared.tree.Tree.{Tree}
+use Rattle.sk_tree.specs.Stops.{PaysToStop, MayMove}
+use Rattle.sk_tree.specs.Rare.{Rare}
+use Rattle.sk_tree.specs.Decays.{MayFall, DecaysBoth}
+use Rattle.sk_tree.specs.declared.tree.Tree.{Tree}
 use Rattle.sk_heap.specs.Held.{need_of}
 use Rattle.sk_collapse.specs.Collapsed.{Collapsed}
 use Rattle.sk_page.specs.Pages.{CollapsesBy}

@@ -14,11 +14,11 @@ use Rattle.sk_model.specs.Matches.{found_by}
 use Rattle.sk_model.specs.Settled.{stop_point, decay_point}
 use Rattle.sk_model.specs.Sharp.{is_plain, flat_lists, ups, rare_lists, rare_readings, terms_in, decay_readings}
 use Rattle.sk_index.specs.Indexed.{Indexed}
-use Rattle.sk_nodes.specs.Built.{gives, left, first_weight, Built}
-use Rattle.sk_nodes.specs.Stops.{PaysToStop, MayMove}
-use Rattle.sk_nodes.specs.Rare.{Rare}
-use Rattle.sk_nodes.specs.Decays.{Decays, MayFall}
-use Rattle.sk_nodes.specs.declared.tree.Tree.{Tree}
+use Rattle.sk_tree.specs.Built.{gives, left, first_weight, Built}
+use Rattle.sk_tree.specs.Stops.{PaysToStop, MayMove}
+use Rattle.sk_tree.specs.Rare.{Rare}
+use Rattle.sk_tree.specs.Decays.{Decays, MayFall}
+use Rattle.sk_tree.specs.declared.tree.Tree.{Tree}
 use Rattle.sk_page.specs.Needs.{is_settled, need_for}
 use Rattle.sk_page.specs.Paces.{reached_by}
 use Rattle.sk_page.specs.Views.{PageOf, Sees}

@@ -1,5 +1,5 @@
 -- What holds of a document among others: no wdf is above the greatest, and each of its terms is counted.
-use Rattle.std.proofs.Common.{◌≡◌, ◌<◌, ◌≤◌, ◌+◌, ◌-◌, ◌*◌, ◌^◌, ℕ, suc, min, max, Bool, true, false, not, cond, if◌then◌else◌, ◌||◌, ◌&&◌, nat_lt, List, [], ◌∷◌, length, map, filter, sum_by, bytes_eq, All, refl, sym, ap, ◌∙◌, subst, arith, true≢false, le_refl, mul-le-mul_right}
+use Rattle.std.proofs.Common.{◌≡◌, ◌<◌, ◌≤◌, ◌+◌, ◌-◌, ◌*◌, ◌^◌, ℕ, suc, min, max, Bool, true, false, not, cond, if◌then◌else◌, ◌||◌, ◌&&◌, nat_lt, List, [], ◌∷◌, length, map, filter, sum_by, bytes_eq, All, refl, sym, ap, ◌∙◌, subst, arith, true≢false, le_refl, mul-le-mul, mul-le-mul_right}
 use Rattle.std.proofs.lemmas.Bool.Decides.{nat_tests}
 use Rattle.std.proofs.lemmas.Bool.{and_from, or_left, or_right}
 use Rattle.std.proofs.lemmas.List.Elements.{All-weaker}
@@ -297,10 +297,13 @@ phrase_have window terms (t ∷ ts) e =
 
 -- ---- weights
 
-weigh_up : (scheme : Scheme) (factor w n : ℕ) → w ≤ n → weigh_by factor scheme w ≤ weigh_by factor scheme n
+-- a greater wdf weighs no less
+pub weigh_up : (scheme : Scheme) (factor w n : ℕ) → w ≤ n → weigh_by factor scheme w ≤ weigh_by factor scheme n
 weigh_up Scheme.Bool factor w n h = le_refl (0 * factor)
 weigh_up Scheme.Coord factor w n h = le_refl (1 * factor)
 weigh_up Scheme.Nnn factor w n h = mul-le-mul_right factor h
+weigh_up Scheme.Bnn factor w n h = let less : min 1 w ≤ min 1 n = omega (arith, h) in mul-le-mul_right factor less
+weigh_up Scheme.Snn factor w n h = mul-le-mul_right factor (mul-le-mul h h)
 
 is_more : (n : ℕ) → 0 < n → nat_lt 0 n ≡ true
 is_more n h = grind (arith, nat_tests)

@@ -7,6 +7,7 @@ use Rattle.sk_base.specs.declared.find.Scheme.{Scheme}
 use Rattle.sk_query.specs.declared.form.Form.{Form}
 use Rattle.sk_query.specs.Trees.{unbounded, number, bytes, Tree, nothing, all, term, wildcard, parts, near, phrase, synonym, scale, range, trees_from}
 use Rattle.sk_model.specs.Scores.{score}
+use Rattle.sk_model.proofs.Examples.{four}
 
 abbrev has : List ℕ → ℕ → List ℕ → DocTerm
 has t wdf places = record { term = t; wdf = wdf; positions = places }
@@ -92,7 +93,25 @@ under_schemes =
     ∷ (Scheme.Coord, scale 5 (parts Form.And (trees_from ((term (codes "red")) ∷ (term (codes "fox")) ∷ []))), Some 10)
     ∷ (Scheme.Bool, scale 5 (term (codes "red")), Some 0)
     ∷ (Scheme.Nnn, scale 5 (term (codes "red")), Some 10)
+    ∷ (Scheme.Bnn, term (codes "red"), Some 1)
+    ∷ (Scheme.Bnn, wildcard (codes "fox"), Some 1)
+    ∷ (Scheme.Bnn, synonym (codes "red" ∷ codes "hen" ∷ []), Some 1)
+    ∷ (Scheme.Bnn, near 2 (codes "red" ∷ codes "fox" ∷ []), Some 2)
+    ∷ (Scheme.Bnn, scale 5 (term (codes "red")), Some 5)
+    ∷ (Scheme.Snn, term (codes "red"), Some 4)
+    ∷ (Scheme.Snn, wildcard (codes "fox"), Some 64)
+    ∷ (Scheme.Snn, synonym (codes "red" ∷ codes "hen" ∷ []), Some 9)
+    ∷ (Scheme.Snn, near 2 (codes "red" ∷ codes "fox" ∷ []), Some 13)
+    ∷ (Scheme.Snn, parts Form.Or (trees_from ((term (codes "red")) ∷ (term (codes "hen")) ∷ [])), Some 5)
+    ∷ (Scheme.Snn, scale 5 (term (codes "red")), Some 20)
     ∷ []
 
 scheme_scores : map (λ row. score row.1 row.0 1 one) under_schemes ≡ map (λ row. row.2) under_schemes
 scheme_scores = refl
+
+-- the term of a filter has the wdf 0
+filter_bnn : map (λ d. score (term (codes "Len")) Scheme.Bnn 1 d.1) four ≡ Some 0 ∷ Some 0 ∷ None ∷ Some 0 ∷ []
+filter_bnn = refl
+
+filter_coord : map (λ d. score (term (codes "Len")) Scheme.Coord 1 d.1) four ≡ Some 1 ∷ Some 1 ∷ None ∷ Some 1 ∷ []
+filter_coord = refl

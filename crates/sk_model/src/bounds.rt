@@ -36,12 +36,12 @@ pub fn static_within_live()
 {}
 
 /// Laws: weights fit. Under a sound query and a factor of at most 65,536, over light documents, nothing weighs more
-/// than 2^45 a leaf: neither a document nor the bound. So with at most 1,024 leaves no weight is above 2^55.
+/// than 2^74 a leaf: neither a document nor the bound. So with at most 1,024 leaves no weight is above 2^84.
 pub fn weights_fit()
     ensures ceil { (query : Tree) (scheme : Scheme) (factor : ℕ) (docs : Docs) → is_sound factor query ≡ true → factor ≤ 65536
-        → All IsLight docs → ceil query scheme factor docs ≤ leaves_of query * 2 ^ 45 }
+        → All IsLight docs → ceil query scheme factor docs ≤ leaves_of query * 2 ^ 74 }
     ensures score { (query : Tree) (scheme : Scheme) (factor : ℕ) (one : ℕ × Doc) → is_sound factor query ≡ true → factor ≤ 65536
-        → IsLight one → IfSome (score query scheme factor one.1) (λ w. w ≤ leaves_of query * 2 ^ 45) }
+        → IsLight one → IfSome (score query scheme factor one.1) (λ w. w ≤ leaves_of query * 2 ^ 74) }
     ensures small { (query : Tree) (scheme : Scheme) (factor : ℕ) (docs : Docs) → is_sound factor query ≡ true → factor ≤ 65536
-        → All IsLight docs → leaves_of query ≤ 1024 → ceil query scheme factor docs ≤ 2 ^ 55 }
+        → All IsLight docs → leaves_of query ≤ 1024 → ceil query scheme factor docs ≤ 2 ^ 84 }
 {}

@@ -1,5 +1,5 @@
 -- Nodes of two lists of which one fades, as they are replaced and moved on.
-use Rattle.std.proofs.Common.{◌≡◌, ◌≤◌, ◌<◌, ◌+◌, ◌^◌, ◌⊎◌, ◌&&◌, ◌||◌, ◌==◌, ℕ, nat_lt, Bool, true, false, [], ◌∷◌, inl, inr, refl, sym, subst, ap, ◌∙◌, arith, le_refl}
+use Rattle.std.proofs.Common.{◌≡◌, ◌≤◌, ◌<◌, ◌+◌, ◌^◌, ◌⊎◌, ◌&&◌, ◌||◌, ◌==◌, ℕ, nat_lt, Bool, true, false, [], ◌∷◌, inl, inr, refl, sym, subst, ◌∙◌, arith, le_refl}
 use Rattle.std.proofs.lemmas.Bool.{cases_lt, ltb-false, or_parts}
 use Rattle.std.proofs.lemmas.Bool.Decides.{nat_tests}
 use Rattle.sk_chunks.specs.Postings.{Postings}
@@ -534,10 +534,3 @@ module _ (i : Indexed) (form : Form) (target from before spent between : ℕ) (t
           let stand = sides_stand i greatest first form ta a tb b (far.fading greatest first h) in
           both_on i from spent between ta a tb b ua c one after next small ub d two point (before + fading_room i point first (pair form ta0 a0 tb0 b0)) form first further stand.0 stand.1.0 stand.1.1 is on meets (far.ready point greatest first h may);
     }
-
--- ---- a tree that has ended
-
-pub fades_closed : (i : Indexed) (old new : Shape) (point greatest most spent : ℕ) (first : Bool) → new ≡ ended → spent + fading_room i point first old ≤ most → IsFading i greatest first new × (spent + fading_room i point first new ≤ most)
-fades_closed i old new point greatest most spent first is account =
-    let none : fading_room i point first new ≡ 0 = ap (fading_room i point first) is in
-    (subst (λ (s : Shape). IsFading i greatest first s) (sym is) tt, omega (arith, none, account))

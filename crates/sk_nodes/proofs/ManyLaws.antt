@@ -16,9 +16,6 @@ use Rattle.sk_nodes.specs.declared.xor_many.Tally.{Tally}
 use Rattle.sk_nodes.specs.Shapes.{Shape, xor_many, Sides, no_sides, side, shape_of, sides_on, sizes_in}
 use Rattle.sk_nodes.specs.Left.{rest, rests, from_on, greatest_sum, unread_in}
 use Rattle.sk_nodes.specs.Sound.{IsTop, IsMany, AreSound}
-use Rattle.sk_nodes.specs.Opened.{OpensSides}
-use Rattle.sk_model.specs.Documents.{Document}
-use Rattle.sk_model.specs.Edits.{document_at}
 use Rattle.sk_nodes.specs.Many.{AreSought, AreFrom, followed_by, weight_sum}
 use Rattle.sk_nodes.specs.XorMany.{IsTally}
 use Rattle.sk_nodes.proofs.LeafLaws.{from_on-at, from_on-below, from_cases, covers_none}
@@ -383,16 +380,6 @@ xor_top i ss t sound h exact closed = record {
   where
     at_end : 2 ^ 32 ≤ t.head → t.head ≤ 2 ^ 32 → t.head ≡ 2 ^ 32
     at_end p q = omega (arith, p, q)
-
--- ---- more sides
-
-pub opens_behind : (i : Indexed) (ss rs us : Sides) (f g h : Option Document → List (Option ℕ)) (m n most : ℕ) → us ≡ followed_by ss rs
-    → ((o : Option Document) → h o ≡ f o ++ g o) → most ≡ m + n → OpensSides i ss f m → OpensSides i rs g n → OpensSides i us h most
-opens_behind i ss rs us f g h m n most e scores sum some others = subst (λ (vs : Sides). OpensSides i vs h most) (sym e) (record {
-  sound = sound_behind i ss rs some.sound others.sound;
-  gives = λ id. rests_behind i ss rs id ∙ (λ j. some.gives id j ++ others.gives id j) ∙ sym (scores (document_at id i.live.documents));
-  ceiling = omega (arith, greatest_behind ss rs, some.ceiling, others.ceiling, sum);
-})
 
 -- sides that were moved on from 0 without a need
 pub xor_gives : (i : Indexed) (id : ℕ) (old new : Sides) → Covers (from_on 0 (rest i (xor_many old))) (rest i (xor_many new)) 0 → rest i (xor_many new) id ≡ combined Form.Xor (rests i old id)

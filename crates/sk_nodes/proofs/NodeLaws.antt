@@ -3,6 +3,7 @@ use Rattle.std.proofs.Common.{min, ◌==◌, ◌≡◌, ◌≤◌, ◌<◌, ◌^
 use Rattle.std.specs.Vec.{with_items}
 use Rattle.std.proofs.lemmas.Bool.{cases_lt}
 use Rattle.std.proofs.lemmas.List.{with_items_is}
+use Rattle.sk_base.specs.declared.find.Scheme.{Scheme}
 use Rattle.sk_query.specs.declared.form.Form.{Form}
 use Rattle.sk_model.specs.Covers.{CoversAt, Covers, first_need, second_need}
 use Rattle.sk_model.proofs.CoverLaws.{covers_itself, covers_then}
@@ -18,7 +19,7 @@ use Rattle.sk_nodes.specs.declared.node.Node.TheVariants as Node
 use Rattle.sk_nodes.specs.Leaves.{AtMost}
 use Rattle.sk_nodes.specs.declared.proximity.Proximity.{Proximity}
 use Rattle.sk_nodes.specs.declared.leaf.Leaf.{Leaf}
-use Rattle.sk_nodes.specs.Shapes.{Shape, ended, leaf, range, pair, xor_many, or_many, positional, shape_of, size_of, sides_on}
+use Rattle.sk_nodes.specs.Shapes.{Shape, ended, leaf, range, pair, xor_many, or_many, positional, synonym, shape_of, size_of, sides_on}
 use Rattle.sk_nodes.specs.Decayed.{changed_pair, decayed, SidesFit}
 use Rattle.sk_nodes.specs.Left.{rest, from_on, unread_of, greatest_held}
 use Rattle.sk_nodes.specs.Skips.{WeighsBelow}
@@ -45,6 +46,9 @@ shape_of-OrMany tops nodes = search (rules, the_lemmas)
 
 pub shape_of-Positional : (p : Proximity) (t : Top) (b : Box Node Global) → shape_of (Node.Positional p t b) ≡ positional p t (shape_of b.value)
 shape_of-Positional p t b = search (rules, the_lemmas)
+
+pub shape_of-Synonym : (scheme : Scheme) (factor : ℕ) (t : Top) (b : Box Node Global) → shape_of (Node.Synonym scheme factor t b) ≡ synonym scheme factor t (shape_of b.value)
+shape_of-Synonym scheme factor t b = search (rules, the_lemmas)
 
 -- ---- one side
 
@@ -297,6 +301,7 @@ sound_fits i (pair form ta a tb b) sound = sound.fits
 sound_fits i (xor_many ss) sound = tt
 sound_fits i (or_many ss) sound = tt
 sound_fits i (positional p t s) sound = tt
+sound_fits i (synonym scheme factor t s) sound = tt
 
 pub decays_itself : (i : Indexed) (need : ℕ) (s : Shape) → Sound i s → Replaces i need s s
 decays_itself i need s sound = record {
@@ -333,6 +338,11 @@ leaf_shape node l m e f = ap shape_of e ∙ shape_of-Leaf l ∙ (λ i. leaf (sym
 -- a test of a node
 pub positional_shape : (node : Node) (p : Proximity) (t : Top) (b : Box Node Global) (q : Proximity) (u : Top) (x : Node) → node ≡ Node.Positional p t b → q ≡ p → u ≡ t → x ≡ b.value → shape_of node ≡ positional q u (shape_of x)
 positional_shape node p t b q u x e f g h = ap shape_of e ∙ shape_of-Positional p t b ∙ (λ i. positional (sym f i) (sym g i) (shape_of (sym h i)))
+
+-- sums of wdfs
+pub synonym_shape : (node : Node) (scheme : Scheme) (factor : ℕ) (t : Top) (b : Box Node Global) (other : Scheme) (f : ℕ) (u : Top) (x : Node) → node ≡ Node.Synonym scheme factor t b → other ≡ scheme → f ≡ factor → u ≡ t → x ≡ b.value
+    → shape_of node ≡ synonym other f u (shape_of x)
+synonym_shape node scheme factor t b other f u x e es ef eu ex = ap shape_of e ∙ shape_of-Synonym scheme factor t b ∙ (λ i. synonym (sym es i) (sym ef i) (sym eu i) (shape_of (sym ex i)))
 
 -- many sides
 pub xor_many_shape : (node : Node) (tops : Vec Top Global) (nodes : Vec Node Global) (ts : List Top) (ns : List Node) → node ≡ Node.XorMany tops nodes → ts ≡ tops.items → ns ≡ nodes.items → shape_of node ≡ xor_many (sides_on ts ns)

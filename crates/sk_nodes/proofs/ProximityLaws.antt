@@ -4,7 +4,7 @@ use mathlib.Core.Bool.{true≢false}
 use Rattle.std.specs.List.{AllByRecursion}
 use Rattle.std.proofs.lemmas.Bool.{cases_lt}
 use Rattle.std.proofs.lemmas.List.Elements.{All-from_recursion}
-use Rattle.sk_nodes.proofs.ProximityOpenLaws.{from_zero}
+use Rattle.sk_nodes.proofs.BegunLaws.{from_zero}
 use Rattle.sk_sorted.specs.Entries.{RiseAbove, from, found, has}
 use Rattle.sk_sorted.proofs.EntryLaws.{from-below, from-at, found-other, found-below}
 use Rattle.sk_chunks.specs.Postings.{Postings}
@@ -21,7 +21,7 @@ use Rattle.sk_nodes.specs.Shapes.{Shape, ended, positional, size_of}
 use Rattle.sk_nodes.specs.Left.{rest, from_on}
 use Rattle.sk_nodes.specs.Proximity.{stand, positions_in, holds_in, entries_unread, AreInOrder, IsInAll, AreThere, CanTest, IsSameTest}
 use Rattle.sk_nodes.specs.Sound.{IsTop, IsPositional, Sound, Lands}
-use Rattle.sk_nodes.specs.Opened.{Yields}
+use Rattle.sk_nodes.specs.Begun.{Yields}
 use Rattle.sk_nodes.proofs.LeafLaws.{from_on-at, from_on-none, covers_none}
 use Rattle.sk_nodes.specs.Skips.{WeighsBelow}
 use Rattle.sk_nodes.proofs.NodeLaws.{IsHead-none, light_goes, goes_on_light, ended_top, none_bound}

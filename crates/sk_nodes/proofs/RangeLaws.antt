@@ -1,8 +1,6 @@
 -- The values of a slot that lie in a range, as what documents score.
-use Rattle.std.proofs.Common.{◌≡◌, ◌<◌, ◌≤◌, ◌^◌, ℕ, Bool, true, false, not, cond, if◌then◌else◌, ◌&&◌, nat_lt, List, [], ◌∷◌, length, Option, Some, None, unwrap_or, option_map, inl, inr, refl, sym, subst, ap, ◌∙◌, arith, rules, true≢false}
+use Rattle.std.proofs.Common.{◌≡◌, ◌<◌, ◌≤◌, ◌^◌, ℕ, Bool, true, false, cond, if◌then◌else◌, ◌&&◌, nat_lt, List, [], ◌∷◌, length, Option, Some, None, unwrap_or, option_map, inl, inr, refl, sym, subst, ap, ◌∙◌, arith, rules, true≢false}
 use Rattle.std.specs.List.{cons_option}
-use Rattle.std.specs.Cmp.Lexicographic.{slice_cmp}
-use Rattle.std.specs.Ordering.{nat_cmp, is_le}
 use Rattle.std.proofs.lemmas.Bool.{cases_eq}
 use Rattle.sk_base.proofs.Tests.{first_so}
 use Rattle.sk_base.specs.declared.doc_entry.SlotValue.{SlotValue}
@@ -15,26 +13,21 @@ use Rattle.sk_sorted.specs.Runs.{flat}
 use Rattle.sk_chunks.specs.Postings.{Postings, first_wdf}
 use Rattle.sk_values.specs.SlotValues.{SlotValues}
 use Rattle.sk_values.specs.RangeCursor.{in_range, left, IsOn}
-use Rattle.sk_query.specs.Trees as Query
-use Rattle.sk_model.specs.Ranges.{end_of, is_from, is_to, is_within, is_crossed}
+use Rattle.sk_model.specs.Ranges.{is_from, is_to, is_within}
 use Rattle.sk_model.specs.Documents.{Document}
 use Rattle.sk_model.specs.Edits.{document_at}
 use Rattle.sk_model.specs.Weights.{weigh_by}
-use Rattle.sk_model.specs.Scores.{weight_if}
 use Rattle.sk_model.specs.Covers.{Covers}
-use Rattle.sk_model.proofs.StaticLaws.{from_through, valued}
+use Rattle.sk_model.proofs.StaticLaws.{valued}
 use Rattle.sk_index.specs.Indexed.{Indexed, pieces_in, slot_values}
 use Rattle.sk_decay.specs.Heads.{IsHead}
-use Rattle.sk_nodes.specs.declared.top.Top.{Top}
 use Rattle.sk_nodes.specs.declared.range_node.RangeNode.{RangeNode}
 use Rattle.sk_nodes.specs.declared.node.Node.{Node, the_lemmas}
-use Rattle.sk_nodes.specs.declared.node.Node.TheVariants as Node
 use Rattle.sk_nodes.specs.Leaves.{weighed, head_of, AtMost}
-use Rattle.sk_nodes.specs.Shapes.{Shape, range, shape_of}
+use Rattle.sk_nodes.specs.Shapes.{range, shape_of}
 use Rattle.sk_nodes.specs.Left.{from_on}
 use Rattle.sk_nodes.specs.Sound.{IsTop}
 use Rattle.sk_nodes.specs.RangeNode.{unweighed, range_entries, range_rest, IsRangeOn}
-use Rattle.sk_nodes.specs.Opened.{score_of, Opens}
 use Rattle.sk_nodes.proofs.LeafLaws.{weighed-head, weighed-none, Passes-covers, Passes-from, head_of-Some, head_of-reached, RiseAbove-behind, from_on-none, covers_none}
 use Rattle.sk_nodes.proofs.ListLaws.{found_cons, found_skip}
 
@@ -117,7 +110,7 @@ sorted_slot slot docs sorted = record { rise = rise_slot slot 0 docs sorted.rise
 valued_within : (lo hi : Option (List ℕ)) (slot : ℕ) (values : List SlotValue) → is_within lo hi (value_in slot values) ≡ true → has_value slot values ≡ true
 valued_within lo hi slot values e = valued slot values (first_so (nat_lt 0 (length (value_in slot values))) (is_from lo (value_in slot values) && is_to hi (value_in slot values)) e)
 
-abbrev range_at : Option (List ℕ) → Option (List ℕ) → ℕ → Option Document → Option ℕ
+abbrev pub range_at : Option (List ℕ) → Option (List ℕ) → ℕ → Option Document → Option ℕ
 range_at lo hi slot None = None
 range_at lo hi slot (Some d) = if is_within lo hi (value_in slot d.values) then Some 0 else None
 
@@ -139,7 +132,7 @@ one_in lo hi slot one es = by (has_value slot one.1.values) (is_within lo hi (va
     by false true e f = absurd (true≢false (sym (valued_within lo hi slot one.1.values f) ∙ e))
     by false false e f = sym (ap (λ (c : Bool). cons_option (if c then Some (one.0, 0) else None) (unweighed (in_range lo hi es))) f)
 
-range_found : (lo hi : Option (List ℕ)) (slot low id : ℕ) (docs : Docs) → RiseAbove low docs → found id (unweighed (in_range lo hi (slot_values slot docs))) ≡ range_at lo hi slot (document_at id docs)
+pub range_found : (lo hi : Option (List ℕ)) (slot low id : ℕ) (docs : Docs) → RiseAbove low docs → found id (unweighed (in_range lo hi (slot_values slot docs))) ≡ range_at lo hi slot (document_at id docs)
 range_found lo hi slot low id [] up = refl
 range_found lo hi slot low id (one ∷ more) up =
     ap (found id) (one_in lo hi slot one (slot_values slot more))
@@ -153,47 +146,12 @@ range_found lo hi slot low id (one ∷ more) up =
           ∙ range_found lo hi slot one.0 id more up.1 ∙ sym (ap (range_at lo hi slot) (found-other id one more other))
     ]
 
-no_weight : (w : ℕ) → weigh_by 0 Scheme.Bool w ≡ 0
+pub no_weight : (w : ℕ) → weigh_by 0 Scheme.Bool w ≡ 0
 no_weight w = omega arith
-
--- the entries in the range give what the documents score
-pub range_scores : (lo hi : Query.Limit) (slot : ℕ) (scheme : Scheme) (factor id : ℕ) (docs : Docs) → AreSorted docs
-    → weighed 0 Scheme.Bool (unweighed (in_range (end_of lo) (end_of hi) (slot_values slot docs))) id ≡ score_of (Query.range slot lo hi) scheme factor (document_at id docs)
-range_scores lo hi slot scheme factor id docs sorted =
-    ap (option_map (weigh_by 0 Scheme.Bool)) (range_found (end_of lo) (end_of hi) slot 0 id docs sorted.rise) ∙ by (document_at id docs)
-  where
-    if_so : (b : Bool) → option_map (weigh_by 0 Scheme.Bool) (if b then Some 0 else None) ≡ weight_if b 0
-    if_so true = ap Some (no_weight 0)
-    if_so false = refl
-
-    by : (o : Option Document) → option_map (weigh_by 0 Scheme.Bool) (range_at (end_of lo) (end_of hi) slot o) ≡ score_of (Query.range slot lo hi) scheme factor o
-    by None = refl
-    by (Some d) = if_so (is_within (end_of lo) (end_of hi) (value_in slot d.values))
 
 pub range_live : (lo hi : Option (List ℕ)) (slot id : ℕ) (docs : Docs) → AreSorted docs → document_at id docs ≡ None → weighed 0 Scheme.Bool (unweighed (in_range lo hi (slot_values slot docs))) id ≡ None
 range_live lo hi slot id docs sorted none =
     weighed-none 0 Scheme.Bool id (unweighed (in_range lo hi (slot_values slot docs))) (range_found lo hi slot 0 id docs sorted.rise ∙ ap (range_at lo hi slot) none)
-
--- ---- ends that are crossed
-
-crossed_none : (lo hi : Option (List ℕ)) (v : List ℕ) → is_crossed lo hi ≡ true → is_within lo hi v ≡ false
-crossed_none lo None v e = absurd (true≢false (sym e))
-crossed_none lo (Some hi) v e = by (is_within lo (Some hi) v) refl
-  where
-    parts : (a b c : Bool) → (a && (b && c)) ≡ true → (b ≡ true) × (c ≡ true)
-    parts true true c g = (refl, g)
-    parts true false c g = cc
-    parts false b c g = cc
-
-    by : (w : Bool) → is_within lo (Some hi) v ≡ w → w ≡ false
-    by false g = refl
-    by true g =
-        let both = parts (nat_lt 0 (length v)) (is_from lo v) (is_le (slice_cmp nat_cmp v hi)) g in
-        absurd (true≢false (sym e ∙ ap not (from_through lo v hi both.0 both.1)))
-
-pub crossed_scores : (lo hi : Query.Limit) (slot : ℕ) (scheme : Scheme) (factor : ℕ) (o : Option Document) → is_crossed (end_of lo) (end_of hi) ≡ true → None ≡ score_of (Query.range slot lo hi) scheme factor o
-crossed_scores lo hi slot scheme factor None e = refl
-crossed_scores lo hi slot scheme factor (Some d) e = sym (ap (λ b. weight_if b 0) (crossed_none (end_of lo) (end_of hi) (value_in slot d.values) e))
 
 -- ---- a range node
 
@@ -257,16 +215,3 @@ shape_of-Range r = search (rules, the_lemmas)
 
 pub range_shape : (node : Node) (r m : RangeNode) → node ≡ Node.Range r → m ≡ r → shape_of node ≡ range m
 range_shape node r m e f = ap shape_of e ∙ shape_of-Range r ∙ (λ i. range (sym f i))
-
--- a range node that gives the entries in the range gives what the documents score
-pub range_opens : (i : Indexed) (t : Top) (r : RangeNode) (s : Shape) (lo hi : Query.Limit) (slot : ℕ) (scheme : Scheme) (factor : ℕ) → s ≡ range r → IsTop i t (range r) → IsRangeOn i r → t.greatest ≤ 0 → AreSorted i.live.documents
-    → ((id : ℕ) → range_rest i r id ≡ weighed 0 Scheme.Bool (unweighed (in_range (end_of lo) (end_of hi) (slot_values slot i.live.documents))) id)
-    → Opens i t s (score_of (Query.range slot lo hi) scheme factor) 0
-range_opens i t r s lo hi slot scheme factor shape top on greatest documents gives =
-    subst (λ (u : Shape). Opens i t u (score_of (Query.range slot lo hi) scheme factor) 0) (sym shape)
-    (record {
-      top = top;
-      sound = on;
-      gives = λ id. gives id ∙ range_scores lo hi slot scheme factor id i.live.documents documents;
-      ceiling = omega (arith, greatest);
-    })

@@ -321,10 +321,3 @@ meets_lead i form ta0 a0 tb0 b0 top ua c ub d head weight led at meets is = by (
     by (inl e) (inl f) = inl (is ∙ e ∙ f)
     by (inl e) (inr f) = inr (is ∙ e ∙ f)
     by (inr e) h = inr (is ∙ e)
-
--- ---- a tree that has ended
-
-pub rare_closed : (i : Indexed) (top : Top) (old new : Shape) (spent most : ℕ) → new ≡ ended → top.head ≡ 2 ^ 32 → spent + led_room i old ≤ most → IsLed i new × (IsAtLead i top new × (spent + led_room i new ≤ most))
-rare_closed i top old new spent most is head account =
-    let none : led_room i new ≡ 0 = ap (led_room i) is in
-    (subst (λ (s : Shape). IsLed i s) (sym is) tt, (inr head, omega (arith, none, account)))

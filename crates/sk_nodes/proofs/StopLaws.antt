@@ -1,5 +1,5 @@
 -- What a node of terms alone reads up to a point, and one entry behind it.
-use Rattle.std.proofs.Common.{◌≡◌, ◌≤◌, ◌<◌, ◌+◌, ◌-◌, ◌^◌, ◌⊎◌, ◌&&◌, ◌||◌, ◌==◌, ℕ, nat_lt, Bool, true, false, Option, None, Some, unwrap_or, if◌then◌else◌, inl, inr, refl, sym, subst, ap, ◌∙◌, arith, le_refl}
+use Rattle.std.proofs.Common.{◌≡◌, ◌≤◌, ◌<◌, ◌+◌, ◌-◌, ◌^◌, ◌&&◌, ◌||◌, ◌==◌, ℕ, nat_lt, Bool, true, false, Option, None, Some, unwrap_or, if◌then◌else◌, inl, inr, refl, sym, subst, ap, ◌∙◌, arith, le_refl}
 use Rattle.std.proofs.lemmas.Bool.{cases_lt, ltb-true}
 use Rattle.sk_query.specs.declared.form.Form.{Form}
 use Rattle.sk_model.specs.Covers.{CoversAt, Covers, first_need, second_need}
@@ -11,12 +11,11 @@ use Rattle.sk_decay.specs.Heads.{GoesOnOnly}
 use Rattle.sk_decay.specs.Sides.{paired, is_led, second_target}
 use Rattle.sk_nodes.specs.declared.top.Top.{Top}
 use Rattle.sk_nodes.specs.Leaves.{AtMost}
-use Rattle.sk_nodes.specs.Shapes.{Shape, ended, leaf, pair, or_many}
+use Rattle.sk_nodes.specs.Shapes.{Shape, ended, leaf, pair, or_many, synonym}
 use Rattle.sk_nodes.specs.Left.{rest, from_on}
 use Rattle.sk_nodes.specs.Sound.{IsTop}
 use Rattle.sk_nodes.specs.Decayed.{changed_pair, decayed}
 use Rattle.sk_nodes.proofs.LeafLaws.{from_on-at}
-use Rattle.sk_nodes.specs.Stops.{MayMove}
 use Rattle.sk_nodes.specs.Flat.{room_to, rooms_to, IsFlatForm, IsFlat, IsPlain, IsAtLeast, MayGo}
 use Rattle.sk_nodes.specs.Accounts.{Keeps}
 use Rattle.sk_nodes.specs.Moved.{flat_to, plain_to, account_of, Accounts}
@@ -208,6 +207,7 @@ flat-mono (pair form ta a tb b) m n le flat = (
     flat-mono b (second_need form m ta.greatest) (second_need form n ta.greatest) (second_need-mono form m n ta.greatest ta.greatest le (le_refl ta.greatest)) flat.1.1,
   ),
 )
+flat-mono (synonym scheme factor t s) m n le flat = λ wdf enough. flat wdf (omega (arith, le, enough))
 flat-mono _ m n le flat = flat
 
 -- ---- what is put in a node's place
@@ -349,6 +349,7 @@ pub decayed_room : (i : Indexed) (point : ℕ) (s : Shape) (need : ℕ) → room
 decayed_room i point (leaf l) need = le_refl (room_to i point (leaf l))
 decayed_room i point (pair form ta a tb b) need = changed_room i point (change_of form ta.greatest tb.greatest (ta.head == 2 ^ 32) (tb.head == 2 ^ 32) need) form ta a tb b
 decayed_room i point (or_many ss) need = le_refl (rooms_to i point ss)
+decayed_room i point (synonym scheme factor t s) need = le_refl (room_to i point s)
 decayed_room i point _ need = omega arith
 
 -- ---- two sides
@@ -440,26 +441,3 @@ no_or form next on is = subst (λ (f : Form). GoesOnOnly f (Meeting.Behind next)
 
 pub no_max : (form : Form) (next : ℕ) → GoesOnOnly form (Meeting.Behind next) → form ≡ Form.Max → ⊥
 no_max form next on is = subst (λ (f : Form). GoesOnOnly f (Meeting.Behind next)) is on
-
--- ---- a tree
-
--- one that was sought
-pub stops_sought : (i : Indexed) (old new : Shape) (last need target point most before after ceiling : ℕ) → last ≤ need → need ≤ ceiling → target < 2 ^ 32 → Accounts i target need before after old new
-    → IsFlat last old ⊎ IsPlain old → before + room_to i point old ≤ most → MayMove point target need ceiling (rest i old point)
-    → (IsFlat need new ⊎ IsPlain new) × (after + room_to i point new ≤ most)
-stops_sought i old new last need target point most before after ceiling rising enough lt accounts shape account (inl high) = absurd (omega (arith, enough, high))
-stops_sought i old new last need target point most before after ceiling rising enough lt accounts (inl flat) account (inr may) =
-    let keeps = accounts.keeps (flat_to point) in
-    let now = flat-mono old last need rising flat in
-    let paid : after + room_to i point new ≤ before + room_to i point old = keeps.paid now may in
-    (inl (keeps.kind now), omega (arith, paid, account))
-stops_sought i old new last need target point most before after ceiling rising enough lt accounts (inr plain) account (inr may) =
-    let keeps = accounts.keeps (plain_to point) in
-    let paid : after + room_to i point new ≤ before + room_to i point old = keeps.paid plain (may_target point target need (rest i old point) lt may) in
-    (inr (keeps.kind plain), omega (arith, paid, account))
-
--- one that has ended
-pub stops_closed : (i : Indexed) (old new : Shape) (need point most spent : ℕ) → new ≡ ended → spent + room_to i point old ≤ most → (IsFlat need new ⊎ IsPlain new) × (spent + room_to i point new ≤ most)
-stops_closed i old new need point most spent is account =
-    let none : room_to i point new ≡ 0 = ap (room_to i point) is in
-    (inl (subst (λ (s : Shape). IsFlat need s) (sym is) tt), omega (arith, none, account))

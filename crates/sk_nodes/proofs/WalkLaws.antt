@@ -5,10 +5,9 @@ use Rattle.std.proofs.lemmas.List.{length-append}
 use Rattle.sk_chunks.specs.Postings.{Postings, is_below}
 use Rattle.sk_lists.specs.declared.cursor.Cursor.{Cursor}
 use Rattle.sk_lists.specs.Lists.{Runs}
-use Rattle.sk_lists.specs.Seeks.{PassesPostings}
+use Rattle.sk_lists.specs.Seeks.{PassesPostings, count_to}
 use Rattle.sk_lists.specs.Cursor.{unread, headed, left, IsHeadAt, IsOn}
 use Rattle.sk_nodes.specs.Leaves.{head_of}
-use Rattle.sk_lists.specs.Seeks.{count_to}
 use Rattle.sk_nodes.specs.Led.{Advances, count_behind}
 use Rattle.sk_nodes.proofs.RareLaws.{advances_gone}
 

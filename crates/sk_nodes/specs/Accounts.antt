@@ -1,5 +1,5 @@
 -- What reading costs, and what pays for it.
-use Rattle.std.specs.Prelude.{◌≡◌, ◌≤◌, ◌<◌, ◌+◌, ◌^◌, ℕ}
+use Rattle.std.specs.Prelude.{◌≡◌, ◌≤◌, ◌+◌, ℕ}
 use Rattle.sk_nodes.specs.Shapes.{Shape}
 
 -- What was spent was left unread before, each reading of it is counted, and none is taken back.
@@ -7,19 +7,6 @@ pub record Spends (unread left spent spent_after steps steps_after : ℕ) : Type
   pub paid : spent_after + left ≤ spent + unread
   pub counted : steps_after + spent ≡ steps + spent_after
   pub later : spent ≤ spent_after
-
--- What an opening spent and left unread is no more than `most` rose by, that no more than the readings of its leaves, and all that is spent
--- no more than `most`.
-pub record Pays (spent spent_after most most_after unread readings : ℕ) : Type 0 where
-  pub paid : spent_after + unread + most ≤ spent + most_after
-  pub within : most_after ≤ most + readings
-  pub room : spent_after ≤ most_after
-
--- Whether memory was there or not: each reading that is spent is counted, and none is taken back.
-pub record CountsReadings (spent spent_after steps steps_after most_after : ℕ) : Type 0 where
-  pub counted : steps_after + spent ≡ steps + spent_after
-  pub later : spent ≤ spent_after
-  pub small : most_after < 2 ^ 128
 
 -- The account of nodes of one kind: what one may still read, as long as it is sought only from targets that it may be sought from.
 pub record Account : Type 1 where

@@ -20,7 +20,7 @@ changed_pair Change.NotSwap form ta a tb b = pair Form.AndNot tb b ta a
 
 -- What two sides can weigh together fits into 63 bits.
 abbrev pub SidesFit : Shape → Type 0
-SidesFit (pair form ta a tb b) = ta.greatest + tb.greatest < 2 ^ 63
+SidesFit (pair form ta a tb b) = ta.greatest + tb.greatest < 2 ^ 127
 SidesFit _ = Unit {0}
 
 -- What stands for a node under a need: of two sides what the table of the form says, and any other node itself.

@@ -1,13 +1,12 @@
 -- Nodes of terms alone that read no list behind a point by more than one entry.
-use Rattle.std.specs.Prelude.{◌≡◌, ◌≤◌, ◌<◌, ◌+◌, ◌-◌, ◌^◌, ◌⊎◌, ◌++◌, ℕ, min, List, [], ◌∷◌, Option, None, Some}
-use Rattle.sk_base.specs.Numbers.{Docs, length_of}
+use Rattle.std.specs.Prelude.{◌≡◌, ◌≤◌, ◌<◌, ◌+◌, ◌-◌, ◌^◌, ◌⊎◌, ℕ, Option, None, Some}
 use Rattle.sk_lists.specs.Seeks.{count_to}
 use Rattle.sk_query.specs.declared.form.Form.{Form}
 use Rattle.sk_model.specs.Covers.{first_need, second_need}
-use Rattle.sk_model.specs.Sharp.{up, ups}
+use Rattle.sk_model.specs.Weights.{weigh_by}
 use Rattle.sk_index.specs.Indexed.{Indexed}
 use Rattle.sk_nodes.specs.Leaves.{entries_of}
-use Rattle.sk_nodes.specs.Shapes.{Shape, ended, leaf, pair, or_many, Sides, no_sides, side}
+use Rattle.sk_nodes.specs.Shapes.{Shape, ended, leaf, pair, or_many, synonym, Sides, no_sides, side}
 
 abbrev mutual
   -- How many entries a node of terms has left with ids up to a point.
@@ -15,6 +14,7 @@ abbrev mutual
   room_to i point (leaf l) = count_to point (entries_of i l)
   room_to i point (pair form ta a tb b) = room_to i point a + room_to i point b
   room_to i point (or_many ss) = rooms_to i point ss
+  room_to i point (synonym scheme factor t s) = room_to i point s
   room_to i point _ = 0
 
   -- How many all sides have left.
@@ -30,12 +30,13 @@ IsFlatForm Form.AndMaybe need = 0 < need
 IsFlatForm _ need = ⊥
 
 abbrev mutual
-  -- Leaves, and what an or of leaves, nested to any depth, has become under needs that rose up to this one.
+  -- Leaves, and what an or of leaves, nested to any depth, has become under needs that rose up to this one; where its sums of wdfs are weighed, under each wdf that weighs what is needed.
   pub IsFlat : ℕ → Shape → Type 0
   IsFlat need ended = Unit {0}
   IsFlat need (leaf l) = Unit {0}
   IsFlat need (pair form ta a tb b) = IsFlatForm form need × (IsFlat (first_need form need tb.greatest) a × IsFlat (second_need form need ta.greatest) b)
   IsFlat need (or_many ss) = AreFlat ss
+  IsFlat need (synonym scheme factor t s) = (wdf : ℕ) → need ≤ weigh_by factor scheme wdf → IsFlat wdf s
   IsFlat need _ = ⊥
 
   -- The sides of an or of many sides, which are moved under no need.
@@ -74,35 +75,3 @@ abbrev mutual
   pub AreNests : Form → Sides → Type 0
   AreNests form no_sides = Unit {0}
   AreNests form (side t s ss) = IsNest form s × AreNests form ss
-
--- The forms that leave out no document of either side.
-abbrev pub IsJoint : Form → Type 0
-IsJoint form = (form ≡ Form.Or) ⊎ (form ≡ Form.Max)
-
--- A nest of two nests was opened, with this spent before and after.
-pub record PairsNest (i : Indexed) (form : Form) (a b s : Shape) (before after : ℕ) : Type 0 where
-  pub nest : IsNest form s
-  pub account : (point : ℕ) → after + room_to i point s ≤ before + (room_to i point a + room_to i point b)
-
--- Of each list its postings up to an id, and one reading where it has any.
-abbrev pub entered : List (List ℕ) → ℕ → Docs → ℕ
-entered [] id docs = 0
-entered (t ∷ ts) id docs = (min 1 (length_of t docs) + up t id docs) + entered ts id docs
-
--- A nest over these terms was opened, with this spent before and after.
-pub record OpensNest (i : Indexed) (form : Form) (s : Shape) (lists : List (List ℕ)) (before after : ℕ) : Type 0 where
-  pub nest : IsNest form s
-  pub account : (point : ℕ) → after + room_to i point s ≤ before + entered lists point i.live.documents
-
--- A node of terms alone was opened: no more is spent and left up to a point than each list has up to it, and one entry more.
-pub record OpensFlat (i : Indexed) (s : Shape) (lists : List (List ℕ)) (before after : ℕ) : Type 0 where
-  pub shape : IsFlat 0 s ⊎ IsPlain s
-  pub account : (point : ℕ) → after + room_to i point s ≤ before + ups lists point i.live.documents
-
--- The terms were split into two pieces, one before the other.
-pub record SplitsTerms (lists : List (List ℕ)) (front back : Option (List (List ℕ))) : Type 0 where
-  pub first : List (List ℕ)
-  pub second : List (List ℕ)
-  pub front_is : front ≡ Some first
-  pub back_is : back ≡ Some second
-  pub whole : (lists ≡ first ++ second) ⊎ (lists ≡ second ++ first)

@@ -1,12 +1,14 @@
 -- What a node still gives.
 use Rattle.std.specs.Prelude.{ℕ, ◌+◌, nat_le, List, [], ◌∷◌, Option, None, if◌then◌else◌}
+use Rattle.std.specs.Option.{option_map}
 use Rattle.sk_query.specs.declared.form.Form.{Form}
 use Rattle.sk_model.specs.Combining.{combined, where_so}
+use Rattle.sk_model.specs.Weights.{weigh_by}
 use Rattle.sk_index.specs.Indexed.{Indexed}
 use Rattle.sk_decay.specs.Sides.{paired, greatest_under}
 use Rattle.sk_nodes.specs.Leaves.{leaf_rest, leaf_unread}
 use Rattle.sk_nodes.specs.RangeNode.{range_rest, range_unread}
-use Rattle.sk_nodes.specs.Shapes.{Shape, ended, leaf, range, pair, xor_many, or_many, positional, Sides, no_sides, side}
+use Rattle.sk_nodes.specs.Shapes.{Shape, ended, leaf, range, pair, xor_many, or_many, positional, synonym, Sides, no_sides, side}
 use Rattle.sk_nodes.specs.Proximity.{holds_in, entries_unread}
 
 abbrev mutual
@@ -19,6 +21,7 @@ abbrev mutual
   rest i (xor_many ss) id = combined Form.Xor (rests i ss id)
   rest i (or_many ss) id = combined Form.Or (rests i ss id)
   rest i (positional p t s) id = where_so (holds_in i p id) (rest i s id)
+  rest i (synonym scheme factor t s) id = option_map (weigh_by factor scheme) (rest i s id)
 
   -- The weights that sides still give at an id.
   pub rests : Indexed → Sides → ℕ → List (Option ℕ)
@@ -35,6 +38,7 @@ abbrev mutual
   unread_of i (xor_many ss) = unread_in i ss
   unread_of i (or_many ss) = unread_in i ss
   unread_of i (positional p t s) = unread_of i s + entries_unread i p.next p.numbers.items
+  unread_of i (synonym scheme factor t s) = unread_of i s
 
   -- How many entries of their lists sides have not read.
   pub unread_in : Indexed → Sides → ℕ
@@ -55,6 +59,7 @@ greatest_held (pair form ta a tb b) = greatest_under form ta.greatest tb.greates
 greatest_held (xor_many ss) = greatest_sum ss
 greatest_held (or_many ss) = greatest_sum ss
 greatest_held (positional p t s) = t.greatest
+greatest_held (synonym scheme factor t s) = weigh_by factor scheme t.greatest
 
 -- What is given from an id on.
 abbrev pub from_on : ℕ → (ℕ → Option ℕ) → ℕ → Option ℕ

@@ -1,14 +1,13 @@
 -- The sides of an or of many sides: how they are moved.
-use Rattle.std.specs.Prelude.{◌≡◌, ◌≤◌, ◌<◌, ◌+◌, ◌^◌, ℕ, List, unwrap_or}
+use Rattle.std.specs.Prelude.{◌≡◌, ◌≤◌, ◌<◌, ◌+◌, ◌^◌, ℕ, unwrap_or}
 use Rattle.sk_query.specs.declared.form.Form.{Form}
 use Rattle.sk_model.specs.Combining.{sum_of_any}
-use Rattle.sk_model.specs.Sharp.{rare_readings}
 use Rattle.sk_index.specs.Indexed.{Indexed}
 use Rattle.sk_decay.specs.Heads.{NoneBelow}
 use Rattle.sk_nodes.specs.Shapes.{ended, or_many, Sides, no_sides, side, sizes_in}
 use Rattle.sk_nodes.specs.Sound.{AreSound}
 use Rattle.sk_nodes.specs.Left.{rest, rests, unread_in, greatest_sum}
-use Rattle.sk_nodes.specs.Flat.{rooms_to, AreFlat, AreNests, entered}
+use Rattle.sk_nodes.specs.Flat.{rooms_to, AreFlat, AreNests}
 use Rattle.sk_nodes.specs.Led.{follow_rooms, IsFollowing}
 use Rattle.sk_nodes.specs.Skips.{WeighsBelow}
 
@@ -45,12 +44,6 @@ pub record AreWeighed (i : Indexed) (need id others total : ℕ) (old new : Side
 abbrev pub AreEnded : Sides → Type 0
 AreEnded no_sides = Unit {0}
 AreEnded (side t s ss) = ((t ≡ record { head = 2 ^ 32; weight = 0; greatest = 0 }) × (s ≡ ended)) × AreEnded ss
-
--- Sides over these terms, one of each, were opened, with this spent before and after.
-pub record OpensTerms (i : Indexed) (ss : Sides) (lists : List (List ℕ)) (before after : ℕ) : Type 0 where
-  pub nests : AreNests Form.Or ss
-  pub account : (point : ℕ) → after + rooms_to i point ss ≤ before + entered lists point i.live.documents
-  pub follows : (head unread m : ℕ) → unread ≤ m → (head < 2 ^ 32 → unread < m) → after + follow_rooms i head unread ss ≤ before + rare_readings lists m i.live.documents
 
 -- The same sides in another order.
 pub record AreReordered (i : Indexed) (old new : Sides) : Type 0 where

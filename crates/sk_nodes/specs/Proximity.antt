@@ -1,8 +1,7 @@
 -- Terms that have to stand near, or as a phrase.
-use Rattle.std.specs.Prelude.{◌≡◌, ◌≤◌, ◌<◌, ◌+◌, ℕ, Bool, true, List, [], ◌∷◌, length, map, filter, is_some}
+use Rattle.std.specs.Prelude.{◌≡◌, ◌≤◌, ◌<◌, ◌+◌, ℕ, Bool, true, List, [], ◌∷◌, length, map}
 use Rattle.sk_sorted.specs.Entries.{AreSorted, from, has}
-use Rattle.sk_dict.specs.Terms.{term_at, number_of}
-use Rattle.sk_query.specs.Trees as Query
+use Rattle.sk_dict.specs.Terms.{term_at}
 use Rattle.sk_model.specs.Edits.{document_at}
 use Rattle.sk_model.specs.Positions.{is_near, is_phrase}
 use Rattle.sk_index.specs.Indexed.{Indexed, term_positions}
@@ -10,11 +9,6 @@ use Rattle.sk_nodes.specs.declared.proximity.ProximityKind.{ProximityKind}
 use Rattle.sk_nodes.specs.declared.proximity.Proximity.{Proximity}
 use Rattle.sk_nodes.specs.declared.leaf.ListOf.{ListOf}
 use Rattle.sk_nodes.specs.Leaves.{list_in}
-
--- The query of terms that stand so.
-abbrev pub proximity_query : ProximityKind → ℕ → List (List ℕ) → Query.Tree
-proximity_query ProximityKind.Near window ts = Query.near window ts
-proximity_query ProximityKind.Phrase window ts = Query.phrase window ts
 
 -- Whether these positions stand so.
 abbrev pub stand : ProximityKind → ℕ → List (List ℕ) → Bool
@@ -65,7 +59,3 @@ pub record IsSameTest (old new : Proximity) : Type 0 where
   pub numbers : new.numbers.items ≡ old.numbers.items
   pub marks : length new.marks.items ≡ length old.marks.items
   pub places : length new.places.items ≡ length old.places.items
-
--- Those of these terms that have a number.
-abbrev pub numbered : Indexed → List (List ℕ) → List (List ℕ)
-numbered i ts = filter (λ t. is_some (number_of t i.terms)) ts

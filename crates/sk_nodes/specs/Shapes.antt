@@ -1,5 +1,6 @@
 -- Nodes, as every definition takes them.
 use Rattle.std.specs.Prelude.{ℕ, ◌+◌, List, [], ◌∷◌, map}
+use Rattle.sk_base.specs.declared.find.Scheme.{Scheme}
 use Rattle.sk_query.specs.declared.form.Form.{Form}
 use Rattle.sk_nodes.specs.declared.top.Top.{Top}
 use Rattle.sk_nodes.specs.declared.leaf.Leaf.{Leaf}
@@ -9,7 +10,7 @@ use Rattle.sk_nodes.specs.declared.node.Node.{Node, fold-Node}
 use Rattle.sk_nodes.specs.declared.node.Node.TheOpen.{Node-F}
 
 mutual
-  -- A node: nothing, a leaf, the values in a range, two sides with their tops under a form, the sides of an xor, those of an or of many sides, or a test of what a node gives, with its top.
+  -- A node: nothing, a leaf, the values in a range, two sides with their tops under a form, the sides of an xor, those of an or of many sides, a test of what a node gives, with its top, or the sums of wdfs that a node gives, with its top, each weighed by the scheme and the factor.
   pub data Shape : Type 0 where
     ended : Shape
     leaf : Leaf → Shape
@@ -18,6 +19,7 @@ mutual
     xor_many : Sides → Shape
     or_many : Sides → Shape
     positional : Proximity → Top → Shape → Shape
+    synonym : Scheme → ℕ → Top → Shape → Shape
 
   -- Sides in order, each with its top.
   pub data Sides : Type 0 where
@@ -39,6 +41,7 @@ node_step (Node-F.Pair form ta a tb b) = pair form ta a.value tb b.value
 node_step (Node-F.XorMany tops nodes) = xor_many (sides_of tops.items nodes.items)
 node_step (Node-F.OrMany tops nodes) = or_many (sides_of tops.items nodes.items)
 node_step (Node-F.Positional p t s) = positional p t s.value
+node_step (Node-F.Synonym scheme factor t s) = synonym scheme factor t s.value
 
 -- The shape of a node.
 abbrev pub shape_of : Node → Shape
@@ -55,6 +58,7 @@ abbrev mutual
   size_of (xor_many ss) = 1 + sizes_in ss
   size_of (or_many ss) = 1 + sizes_in ss
   size_of (positional p t s) = 1 + size_of s
+  size_of (synonym scheme factor t s) = 1 + size_of s
   size_of _ = 1
 
   -- How many there are in all sides, each side itself counted.

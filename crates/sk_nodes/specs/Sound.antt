@@ -8,7 +8,7 @@ use Rattle.sk_nodes.specs.Leaves.{AtMost, IsLeafOn}
 use Rattle.sk_nodes.specs.RangeNode.{IsRangeOn}
 use Rattle.sk_nodes.specs.declared.proximity.Proximity.{Proximity}
 use Rattle.sk_nodes.specs.Proximity.{holds_in, IsInAll, CanTest}
-use Rattle.sk_nodes.specs.Shapes.{Shape, ended, leaf, range, pair, xor_many, or_many, positional, Sides, no_sides, side, size_of}
+use Rattle.sk_nodes.specs.Shapes.{Shape, ended, leaf, range, pair, xor_many, or_many, positional, synonym, Sides, no_sides, side, size_of}
 use Rattle.sk_nodes.specs.Left.{rest, from_on, unread_of, greatest_sum, greatest_held}
 
 -- A node's head, and how much it can weigh, are those of what it still gives.
@@ -24,7 +24,7 @@ pub record IsPair (i : Indexed) (ta : Top) (a : Shape) (tb : Top) (b : Shape) (A
   pub second : IsTop i tb b
   pub first_sound : A
   pub second_sound : B
-  pub fits : ta.greatest + tb.greatest < 2 ^ 63
+  pub fits : ta.greatest + tb.greatest < 2 ^ 127
 
 -- A side with its top, by what holds of it and of the others.
 pub record IsFirstSide (i : Indexed) (t : Top) (s : Shape) (A B : Type 0) : Type 0 where
@@ -35,7 +35,7 @@ pub record IsFirstSide (i : Indexed) (t : Top) (s : Shape) (A B : Type 0) : Type
 -- The sides of an xor or of an or of many sides, by what holds of them.
 pub record IsMany (ss : Sides) (A : Type 0) : Type 0 where
   pub sides : A
-  pub fits : greatest_sum ss < 2 ^ 63
+  pub fits : greatest_sum ss < 2 ^ 127
 
 -- A test of what a node gives, which has all the terms, with its top, by what holds of it. No document before `next` is read any more: where the node stands before that, the terms stand so.
 pub record IsPositional (i : Indexed) (p : Proximity) (t : Top) (s : Shape) (A : Type 0) : Type 0 where
@@ -47,6 +47,13 @@ pub record IsPositional (i : Indexed) (p : Proximity) (t : Top) (s : Shape) (A :
   pub small : p.next ≤ 2 ^ 32
   pub known : t.head < p.next → holds_in i p t.head ≡ true
 
+-- The sums of wdfs that a node gives, with its top: each is below 2^29, as a wdf is, and can be weighed under the factor.
+pub record IsSynonym (i : Indexed) (factor : ℕ) (t : Top) (s : Shape) (A : Type 0) : Type 0 where
+  pub top : IsTop i t s
+  pub sound : A
+  pub bounded : factor ≤ 65536
+  pub small : t.greatest < 2 ^ 29
+
 abbrev mutual
   -- All that is kept in a node is so.
   pub Sound : Indexed → Shape → Type 0
@@ -57,6 +64,7 @@ abbrev mutual
   Sound i (xor_many ss) = IsMany ss (AreSound i ss)
   Sound i (or_many ss) = IsMany ss (AreSound i ss)
   Sound i (positional p t s) = IsPositional i p t s (Sound i s)
+  Sound i (synonym scheme factor t s) = IsSynonym i factor t s (Sound i s)
 
   -- All that is kept in sides and beside them is so.
   pub AreSound : Indexed → Sides → Type 0

@@ -2,12 +2,14 @@
 ghost use Rattle.std.specs.Prelude.{◌≡◌, ◌≤◌, ◌<◌, ◌+◌, ◌^◌, ℕ, IfOk, length};
 ghost use Rattle.sk_query.specs.declared.form.Form.TheVariants as Form;
 ghost use Rattle.sk_model.specs.Combining.{where_so};
+ghost use Rattle.sk_model.specs.Weights.{weigh_by};
+ghost use Rattle.sk_index.specs.Indexed.{Indexed};
 ghost use Rattle.sk_decay.specs.Sides.{paired, greatest_under};
 ghost use Rattle.sk_nodes.specs.Accounts.{Spends};
-ghost use Rattle.sk_nodes.specs.Shapes.{pair, xor_many, or_many, no_sides, side, shape_of, sides_on};
+ghost use Rattle.sk_nodes.specs.Shapes.{Shape, pair, xor_many, or_many, synonym, no_sides, side, shape_of, sides_on};
 ghost use Rattle.sk_nodes.specs.Left.{rest, unread_of, unread_in, greatest_sum};
-ghost use Rattle.sk_nodes.specs.Sound.{IsPair, IsPositional, Sound, AreSound};
-ghost use Rattle.sk_nodes.specs.Opened.{Yields, Gathers};
+ghost use Rattle.sk_nodes.specs.Sound.{IsTop, IsPair, IsPositional, Sound, AreSound};
+ghost use Rattle.sk_nodes.specs.Begun.{Yields, Gathers};
 ghost use Rattle.sk_nodes.specs.Moved.{Accounts, SeekAccounts};
 ghost use Rattle.sk_nodes.specs.Many.{followed_by};
 ghost use Rattle.sk_nodes.specs.Proximity.{holds_in, entries_unread};
@@ -17,6 +19,7 @@ use crate::node::Node;
 use crate::order::put_in_order;
 use crate::proximity::Proximity;
 use crate::top::Top;
+use sk_base::Scheme;
 use sk_index::Index;
 use sk_query::Form;
 use sk_steps::Steps;
@@ -24,7 +27,7 @@ use std::alloc::{AllocError, Global};
 use std::sync::ledger::Ledger;
 
 /// A node of two sides, moved on to where they first meet, and its top.
-pub(crate) fn pair_of<L: Ledger>(
+pub fn pair_of<L: Ledger>(
     alloc: Global,
     index: &Index,
     form: Form,
@@ -53,11 +56,7 @@ pub(crate) fn pair_of<L: Ledger>(
 }
 
 /// One side alone.
-pub(crate) fn one_side(
-    alloc: Global,
-    top: Top,
-    node: Node,
-) -> Result<(Vec<Top>, Vec<Node>), AllocError>
+pub fn one_side(alloc: Global, top: Top, node: Node) -> Result<(Vec<Top>, Vec<Node>), AllocError>
     ensures sides { IfOk result (λ p. sides_on p.0.items p.1.items ≡ side top (shape_of node) no_sides) }
     ensures even { IfOk result (λ p. length p.0.items ≡ length p.1.items) }
 {
@@ -69,7 +68,7 @@ pub(crate) fn one_side(
 }
 
 /// Sides, and more behind them.
-pub(crate) fn with_more(
+pub fn with_more(
     mut tops: Vec<Top>,
     mut nodes: Vec<Node>,
     mut more_tops: Vec<Top>,
@@ -86,7 +85,7 @@ pub(crate) fn with_more(
 }
 
 /// A node of the sides of an xor, moved on to its first match, and its top.
-pub(crate) fn xor_many_of<L: Ledger>(
+pub fn xor_many_of<L: Ledger>(
     index: &Index,
     mut tops: Vec<Top>,
     mut nodes: Vec<Node>,
@@ -94,7 +93,7 @@ pub(crate) fn xor_many_of<L: Ledger>(
     steps: &mut Steps<L>,
 ) -> (Top, Node)
     requires sound { AreSound index.now (sides_on tops.items nodes.items) }
-    requires fits { greatest_sum (sides_on tops.items nodes.items) < 2 ^ 63 }
+    requires fits { greatest_sum (sides_on tops.items nodes.items) < 2 ^ 127 }
     requires room { spent.old + unread_in index.now (sides_on tops.items nodes.items) < 2 ^ 128 }
     ensures gathers { Gathers index.now Form.Xor (sides_on tops.items nodes.items) result.0 (shape_of result.1) }
     ensures spends { Spends (unread_in index.now (sides_on tops.items nodes.items)) (unread_of index.now (shape_of result.1)) spent.old spent.new steps.old steps.new }
@@ -114,7 +113,7 @@ fn begin_xor_many<L: Ledger>(
     steps: &mut Steps<L>,
 )
     requires sound { AreSound index.now (sides_on tops.old nodes.old) }
-    requires fits { greatest_sum (sides_on tops.old nodes.old) < 2 ^ 63 }
+    requires fits { greatest_sum (sides_on tops.old nodes.old) < 2 ^ 127 }
     requires room { spent.old + unread_in index.now (sides_on tops.old nodes.old) < 2 ^ 128 }
     ensures gathers { Gathers index.now Form.Xor (sides_on tops.old nodes.old) top.new (xor_many (sides_on tops.new nodes.new)) }
     ensures spends { Spends (unread_in index.now (sides_on tops.old nodes.old)) (unread_in index.now (sides_on tops.new nodes.new)) spent.old spent.new steps.old steps.new }
@@ -123,7 +122,7 @@ fn begin_xor_many<L: Ledger>(
 }
 
 /// A node of the sides of an or, moved on to its first match, and its top.
-pub(crate) fn or_many_of<L: Ledger>(
+pub fn or_many_of<L: Ledger>(
     index: &Index,
     mut tops: Vec<Top>,
     mut nodes: Vec<Node>,
@@ -131,7 +130,7 @@ pub(crate) fn or_many_of<L: Ledger>(
     steps: &mut Steps<L>,
 ) -> (Top, Node)
     requires sound { AreSound index.now (sides_on tops.items nodes.items) }
-    requires fits { greatest_sum (sides_on tops.items nodes.items) < 2 ^ 63 }
+    requires fits { greatest_sum (sides_on tops.items nodes.items) < 2 ^ 127 }
     requires room { spent.old + unread_in index.now (sides_on tops.items nodes.items) < 2 ^ 128 }
     ensures gathers { Gathers index.now Form.Or (sides_on tops.items nodes.items) result.0 (shape_of result.1) }
     ensures spends { Spends (unread_in index.now (sides_on tops.items nodes.items)) (unread_of index.now (shape_of result.1)) spent.old spent.new steps.old steps.new }
@@ -152,7 +151,7 @@ fn begin_or_many<L: Ledger>(
     steps: &mut Steps<L>,
 )
     requires sound { AreSound index.now (sides_on tops.old nodes.old) }
-    requires fits { greatest_sum (sides_on tops.old nodes.old) < 2 ^ 63 }
+    requires fits { greatest_sum (sides_on tops.old nodes.old) < 2 ^ 127 }
     requires room { spent.old + unread_in index.now (sides_on tops.old nodes.old) < 2 ^ 128 }
     ensures gathers { Gathers index.now Form.Or (sides_on tops.old nodes.old) top.new (or_many (sides_on tops.new nodes.new)) }
     ensures spends { Spends (unread_in index.now (sides_on tops.old nodes.old)) (unread_in index.now (sides_on tops.new nodes.new)) spent.old spent.new steps.old steps.new }
@@ -163,7 +162,7 @@ fn begin_or_many<L: Ledger>(
 }
 
 /// A test of what a node gives, moved on to the first that passes, and its top.
-pub(crate) fn positional_of<L: Ledger>(
+pub fn positional_of<L: Ledger>(
     alloc: Global,
     index: &Index,
     mut test: Proximity,
@@ -185,4 +184,25 @@ pub(crate) fn positional_of<L: Ledger>(
     );
     let node = Box::new(alloc, node)?;
     Ok((top, Node::Positional(test, below, node)))
+}
+
+/// The weights of a node's sums of wdfs, which stands at its first, and their top.
+pub fn synonym_over(
+    alloc: Global,
+    scheme: Scheme,
+    factor: u64,
+    below: Top,
+    node: Node,
+) -> Result<(Top, Node), AllocError>
+    requires factor { factor ≤ 65536 }
+    requires within { below.weight ≤ below.greatest }
+    requires small { below.greatest < 2 ^ 29 }
+    ensures shape { IfOk result (λ p. shape_of p.1 ≡ synonym scheme factor below (shape_of node)) }
+    ensures top { IfOk result (λ p. (i : Indexed) (s : Shape) → IsTop i below s → IsTop i p.0 (synonym scheme factor below s)) }
+    ensures bound { IfOk result (λ p. p.0.greatest ≤ weigh_by factor scheme below.greatest) }
+{
+    let mut top = Top::ended();
+    below.weigh(scheme, factor, &mut top);
+    let node = Box::new(alloc, node)?;
+    Ok((top, Node::Synonym(scheme, factor, below, node)))
 }

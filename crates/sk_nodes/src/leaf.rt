@@ -7,11 +7,9 @@ ghost use Rattle.sk_index.specs.Indexed.{Indexed};
 ghost use Rattle.sk_nodes.specs.Accounts.{Spends};
 ghost use Rattle.sk_nodes.specs.Leaves.{list_in, runs_of, weighed, leaf_rest, leaf_unread, leaf_greatest, IsThere, entries_of, head_of, AtMost, IsLeafOn, WeighBelow};
 ghost use Rattle.sk_nodes.specs.Sound.{IsTop, Lands};
-ghost use Rattle.sk_nodes.specs.Opened.{Yields};
+ghost use Rattle.sk_nodes.specs.Begun.{Yields, OpensLone, Begins};
 ghost use Rattle.sk_nodes.specs.Shapes.{leaf};
 ghost use Rattle.sk_nodes.specs.Led.{Walks};
-ghost use Rattle.sk_nodes.specs.OpenedLed.{OpensLone};
-ghost use Rattle.sk_nodes.specs.OpenedFading.{Begins};
 
 use crate::top::{END, Top};
 use sk_base::{MOST_WDF, Scheme, Weight};
@@ -24,14 +22,14 @@ use std::sync::ledger::Ledger;
 
 /// Which list: that of a term, by its number, or that of all documents.
 #[derive(Clone, Copy, Debug)]
-pub(crate) enum ListOf {
+pub enum ListOf {
     Term(usize),
     All,
 }
 
 /// The entries of a list from one on. The need and what wdf it comes to are those of the last seek.
 #[derive(Drop)]
-pub(crate) struct Leaf {
+pub struct Leaf {
     source: ListOf,
     scheme: Scheme,
     factor: u64,
@@ -86,7 +84,7 @@ impl Leaf {
     }
 
     /// Moves on to the first entry from the target on; it may pass over what weighs less than the need.
-    pub fn seek<L: Ledger>(
+    pub(crate) fn seek<L: Ledger>(
         &mut self,
         top: &mut Top,
         index: &Index,
@@ -116,7 +114,7 @@ impl Leaf {
 
     /// The same from its head, which is kept beside it and lies below the target; what it can weigh stays as it is kept.
     #[inline(always)]
-    pub fn advance<L: Ledger>(
+    pub(crate) fn advance<L: Ledger>(
         &mut self,
         top: &mut Top,
         index: &Index,
@@ -151,13 +149,13 @@ impl Leaf {
     /// How much its entries from the target on can weigh, up to the end of the chunk that the target falls into. It reads
     /// nothing.
     #[inline(always)]
-    pub fn block_max(&self, index: &Index, target: Head) -> Block
+    pub(crate) fn block_max(&self, index: &Index, target: Head) -> Block
         requires sound { IsLeafOn index.now self.now }
         requires target { target < 2 ^ 32 }
         ensures reached { target ≤ result.last }
         ensures small { result.last < 2 ^ 32 }
         ensures bound { (id : ℕ) → target ≤ id → id ≤ result.last → unwrap_or (leaf_rest index.now self.now id) 0 ≤ result.greatest }
-        ensures fits { result.greatest < 2 ^ 62 }
+        ensures fits { result.greatest < 2 ^ 126 }
     {
         let list = list_of(index, self.source);
         let block = self.cursor.block_max(list, target as u32);
@@ -236,7 +234,7 @@ fn greatest_of(list: &List, scheme: Scheme, factor: u64) -> Weight
 }
 
 /// How long the list is.
-pub(crate) fn list_length(index: &Index, source: ListOf) -> u32
+pub fn list_length(index: &Index, source: ListOf) -> u32
     requires { IsThere source index.now.terms }
     ensures value { result ≡ length (list_in index.now source) }
     ensures sorted { AreSorted (list_in index.now source) }

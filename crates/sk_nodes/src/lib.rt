@@ -1,4 +1,4 @@
-//! The tree of a query: nodes that walk through the lists together, and pass over what is not wanted.
+//! The nodes of a tree, which walk through the lists together, and pass over what is not wanted.
 #![tactic(auto)]
 
 mod begun;
@@ -6,18 +6,20 @@ mod leaf;
 mod many;
 mod moves;
 mod node;
-mod opening;
 mod or_many;
 mod order;
-mod parts;
 mod proximity;
 mod range_node;
-mod ranges;
 mod skip;
-mod synonym;
 mod top;
-mod tree;
-mod words;
 mod xor_many;
 
-pub use tree::Tree;
+pub use begun::{
+    one_side, or_many_of, pair_of, positional_of, synonym_over, with_more, xor_many_of,
+};
+pub use leaf::{Leaf, ListOf, list_length};
+pub use moves::reach;
+pub use node::Node;
+pub use proximity::{Proximity, ProximityKind};
+pub use range_node::RangeNode;
+pub use top::{END, Top};

@@ -13,7 +13,7 @@ pub(crate) const FEW: usize = 64;
 
 /// What a node of these sides can weigh: nothing at the end.
 pub(crate) fn sides_greatest(head: Head, tops: &[Top], nodes: &[Node]) -> Weight
-    requires { greatest_sum (sides_on tops.now nodes.now) < 2 ^ 63 }
+    requires { greatest_sum (sides_on tops.now nodes.now) < 2 ^ 127 }
     ensures there { head < 2 ^ 32 → result ≡ greatest_sum (sides_on tops.now nodes.now) }
     ensures ended { head ≡ 2 ^ 32 → result ≡ 0 }
     ensures bound { result ≤ greatest_sum (sides_on tops.now nodes.now) }
@@ -26,7 +26,7 @@ pub(crate) fn sides_greatest(head: Head, tops: &[Top], nodes: &[Node]) -> Weight
 
 /// What all sides can weigh together.
 pub(crate) fn sum_of(tops: &[Top], nodes: &[Node]) -> Weight
-    requires { greatest_sum (sides_on tops.now nodes.now) < 2 ^ 63 }
+    requires { greatest_sum (sides_on tops.now nodes.now) < 2 ^ 127 }
     ensures { result ≡ greatest_sum (sides_on tops.now nodes.now) }
 {
     let count = tops.len().min(nodes.len());
@@ -40,7 +40,7 @@ pub(crate) fn sum_of(tops: &[Top], nodes: &[Node]) -> Weight
 
 /// Of few sides, one by one.
 fn sum_of_few(tops: &[Top], nodes: &[Node]) -> Weight
-    requires { greatest_sum (sides_on tops.now nodes.now) < 2 ^ 63 }
+    requires { greatest_sum (sides_on tops.now nodes.now) < 2 ^ 127 }
     ensures { result ≡ greatest_sum (sides_on tops.now nodes.now) }
 {
     if let Some((top, tops)) = tops.split_first() {

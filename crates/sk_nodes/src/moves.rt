@@ -1,10 +1,11 @@
 //! How nodes move on.
 ghost use Rattle.std.specs.Prelude.{◌≡◌, ◌≤◌, ◌<◌, ◌+◌, ◌^◌, ℕ};
+ghost use Rattle.sk_model.specs.Weights.{weigh_by};
 ghost use Rattle.sk_decay.specs.Sides.{greatest_under};
 ghost use Rattle.sk_nodes.specs.Accounts.{Spends};
-ghost use Rattle.sk_nodes.specs.Shapes.{pair, xor_many, or_many, positional, shape_of, sides_on, sizes_in};
+ghost use Rattle.sk_nodes.specs.Shapes.{pair, xor_many, or_many, positional, synonym, shape_of, sides_on, sizes_in};
 ghost use Rattle.sk_nodes.specs.Left.{unread_of, unread_in, greatest_sum, greatest_held};
-ghost use Rattle.sk_nodes.specs.Sound.{IsTop, IsPair, IsMany, IsPositional, Sound, AreSound};
+ghost use Rattle.sk_nodes.specs.Sound.{IsTop, IsPair, IsMany, IsPositional, IsSynonym, Sound, AreSound};
 ghost use Rattle.sk_nodes.specs.Moved.{WasSought, Accounts, SeekAccounts, ReachAccounts};
 ghost use Rattle.sk_nodes.specs.Many.{AreSought, AreFrom};
 ghost use Rattle.sk_nodes.specs.OrMany.{AreMoved, HaveLed, AreWeighed, AreEnded};
@@ -17,17 +18,18 @@ use crate::proximity::Proximity;
 use crate::skip::skip;
 use crate::top::{END, Top};
 use crate::xor_many::xor_meeting;
-use sk_base::Weight;
+use sk_base::{Scheme, Weight};
 use sk_decay::{Head, Meeting, first_need, greatest_under, meeting_of, second_need, second_target};
 use sk_index::Index;
 use sk_query::Form;
 use sk_steps::Steps;
+use sk_weight::need_wdf;
 use std::sync::ledger::Ledger;
 
 /// Moves a node on that stands before the target. A leaf, as most nodes are, moves on with no call.
 #[cycle(seek)]
 #[inline(always)]
-pub(crate) fn reach<L: Ledger>(
+pub fn reach<L: Ledger>(
     top: &mut Top,
     node: &mut Node,
     index: &Index,
@@ -124,6 +126,9 @@ fn seek<L: Ledger>(
         ),
         Node::Positional(test, below, node) => seek_positional(
             top, test, below, node, index, target, need, spent, steps,
+        ),
+        Node::Synonym(scheme, factor, below, node) => seek_synonym(
+            top, *scheme, *factor, below, node, index, target, need, spent, steps,
         ),
     }
 }
@@ -242,7 +247,7 @@ fn seek_sides<L: Ledger>(
 
 /// What a node of two sides can weigh: nothing at the end.
 fn greatest_at(form: Form, head: Head, a: Weight, b: Weight) -> Weight
-    requires { a + b < 2 ^ 63 }
+    requires { a + b < 2 ^ 127 }
     ensures there { head < 2 ^ 32 → result ≡ greatest_under form a b }
     ensures ended { head ≡ 2 ^ 32 → result ≡ 0 }
     ensures bound { result ≤ greatest_under form a b }
@@ -440,7 +445,7 @@ fn weigh<L: Ledger>(
     requires id { id < 2 ^ 32 }
     requires room { spent.old + unread_in index.now (sides_on tops.old nodes.old) < 2 ^ 128 }
     requires most { greatest_sum (sides_on tops.old nodes.old) ≤ most }
-    requires fits { others + most < 2 ^ 63 }
+    requires fits { others + most < 2 ^ 127 }
     ensures moved { AreMoved index.now id spent.old spent.new (sides_on tops.old nodes.old) (sides_on tops.new nodes.new) }
     ensures weighed { AreWeighed index.now need id others result (sides_on tops.old nodes.old) (sides_on tops.new nodes.new) }
     ensures spends { Spends (unread_in index.now (sides_on tops.old nodes.old)) (unread_in index.now (sides_on tops.new nodes.new)) spent.old spent.new steps.old steps.new }
@@ -580,6 +585,39 @@ pub(crate) fn seek_positional<L: Ledger>(
             *below = Top::ended();
             *top = Top::ended();
             return;
+        }
+    }
+}
+
+/// Moves a node on to the first of its sums of wdfs from the target on, and weighs it. It is asked for the least wdf that
+/// weighs what is needed; where no wdf does, nothing is left.
+#[cycle(seek)]
+fn seek_synonym<L: Ledger>(
+    top: &mut Top,
+    scheme: Scheme,
+    factor: u64,
+    below: &mut Top,
+    node: &mut Node,
+    index: &Index,
+    target: Head,
+    need: Weight,
+    spent: &mut u128,
+    steps: &mut Steps<L>,
+)
+    requires synonym { IsSynonym index.now factor below.old (shape_of node.old) (Sound index.now (shape_of node.old)) }
+    requires target { target < 2 ^ 32 }
+    requires room { spent.old + unread_of index.now (shape_of node.old) < 2 ^ 128 }
+    ensures sought { WasSought index.now target need (weigh_by factor scheme below.old.greatest) spent.old spent.new steps.old steps.new (synonym scheme factor below.old (shape_of node.old)) (synonym scheme factor below.new (shape_of node.new)) top.new }
+    ensures accounts { Accounts index.now target need spent.old spent.new (synonym scheme factor below.old (shape_of node.old)) (synonym scheme factor below.new (shape_of node.new)) }
+{
+    match need_wdf(scheme, factor, need) {
+        Some(wdf) => {
+            reach(below, node, index, target, Weight::from(wdf), spent, steps);
+            below.weigh(scheme, factor, top);
+        }
+        None => {
+            give_up(below, node);
+            *top = Top::ended();
         }
     }
 }

@@ -11,16 +11,16 @@ use crate::leaf::Leaf;
 use crate::proximity::Proximity;
 use crate::range_node::RangeNode;
 use crate::top::{END, Top};
-use sk_base::Weight;
+use sk_base::{Scheme, Weight};
 use sk_decay::{Change, rule};
 use sk_query::Form;
 use std::mem;
 
-/// A node: a leaf, a range of values, two sides under a form, an xor or an or of many sides, or a node whose documents are
-/// tested for the positions of terms. The tops of sides are kept beside them, so that their heads are read without
-/// following a box.
+/// A node: a leaf, a range of values, two sides under a form, an xor or an or of many sides, a node whose documents are
+/// tested for the positions of terms, or one that gives sums of wdfs, which are weighed by a scheme and a factor. The tops
+/// of sides are kept beside them, so that their heads are read without following a box.
 #[derive(Drop)]
-pub(crate) enum Node {
+pub enum Node {
     Nothing,
     Leaf(Leaf),
     Range(RangeNode),
@@ -28,6 +28,7 @@ pub(crate) enum Node {
     XorMany(Vec<Top>, Vec<Node>),
     OrMany(Vec<Top>, Vec<Node>),
     Positional(Proximity, Top, Box<Node>),
+    Synonym(Scheme, u64, Top, Box<Node>),
 }
 
 /// Puts what is enough under the need in the node's place. The rule is asked only where it may say anything.
@@ -58,6 +59,7 @@ fn is_settled(node: &Node, need: Weight) -> bool
         Node::XorMany(_, _) => true,
         Node::OrMany(_, _) => true,
         Node::Positional(_, _, _) => true,
+        Node::Synonym(_, _, _, _) => true,
     }
 }
 
@@ -88,6 +90,7 @@ fn decay(node: &mut Node, need: Weight)
         Node::XorMany(_, _) => {}
         Node::OrMany(_, _) => {}
         Node::Positional(_, _, _) => {}
+        Node::Synonym(_, _, _, _) => {}
         Node::Pair(form, ta, a, tb, b) => {
             let change = rule(
                 *form,

@@ -22,7 +22,7 @@ pub(crate) struct First {
 
 /// Where sides begin together with others, of which the first id and the weight there are given.
 pub(crate) fn first_of(tops: &[Top], nodes: &[Node], head: Head, weight: Weight) -> First
-    requires { weight + weight_sum (sides_on tops.now nodes.now) < 2 ^ 63 }
+    requires { weight + weight_sum (sides_on tops.now nodes.now) < 2 ^ 127 }
     ensures first { (i : Indexed) (others : ℕ → Option ℕ) → AreSound i (sides_on tops.now nodes.now) → IsHead head weight others → IsHead result.head result.weight (λ id. either (others id) (sum_of_any (rests i (sides_on tops.now nodes.now) id))) }
     ensures reached { (from : ℕ) → from ≤ head → AreFrom from (sides_on tops.now nodes.now) → from ≤ result.head }
 {

@@ -15,7 +15,7 @@ use std::sync::ledger::Ledger;
 
 /// How terms have to stand.
 #[derive(Clone, Copy, Debug)]
-pub(crate) enum ProximityKind {
+pub enum ProximityKind {
     Near,
     Phrase,
 }
@@ -24,7 +24,7 @@ pub(crate) enum ProximityKind {
 /// is read any more. The marks are memory for a place of each term among its positions, the places for one among the terms of
 /// a document.
 #[derive(Drop)]
-pub(crate) struct Proximity {
+pub struct Proximity {
     pub kind: ProximityKind,
     pub window: u32,
     pub numbers: Vec<usize>,
@@ -36,7 +36,7 @@ pub(crate) struct Proximity {
 impl Proximity {
     /// Whether the document at a head weighs what is needed, and the terms, which it all has, stand so in it. In one that
     /// weighs less nothing is read.
-    pub fn passes<L: Ledger>(
+    pub(crate) fn passes<L: Ledger>(
         &mut self,
         index: &Index,
         below: &Top,
@@ -63,7 +63,7 @@ impl Proximity {
 
     /// Whether the terms stand so in the document, which has them all. It reads the positions of each term once, and
     /// those of a document before `next` not again.
-    pub fn holds<L: Ledger>(
+    pub(crate) fn holds<L: Ledger>(
         &mut self,
         index: &Index,
         head: Head,

@@ -8,7 +8,7 @@ ghost use Rattle.sk_nodes.specs.Accounts.{Spends};
 ghost use Rattle.sk_nodes.specs.Leaves.{weighed, head_of};
 ghost use Rattle.sk_nodes.specs.Shapes as Shapes;
 ghost use Rattle.sk_nodes.specs.Sound.{IsTop, Lands};
-ghost use Rattle.sk_nodes.specs.Opened.{Yields};
+ghost use Rattle.sk_nodes.specs.Begun.{Yields};
 ghost use Rattle.sk_nodes.specs.RangeNode.{unweighed, range_entries, range_unread, IsRangeOn};
 
 use crate::top::{END, Top};
@@ -21,7 +21,7 @@ use std::sync::ledger::Ledger;
 
 /// The list of a slot, and a place in it.
 #[derive(Drop)]
-pub(crate) struct RangeNode {
+pub struct RangeNode {
     slot: u32,
     cursor: RangeCursor,
 }
@@ -53,7 +53,7 @@ impl RangeNode {
     }
 
     /// Moves on to the first value in the range from the target on.
-    pub fn seek<L: Ledger>(
+    pub(crate) fn seek<L: Ledger>(
         &mut self,
         top: &mut Top,
         index: &Index,

@@ -23,7 +23,7 @@ pub(crate) struct Tally {
 
 /// Where an odd number of sides begins, with their weight, or from where on the sides have to be sought.
 pub(crate) fn xor_meeting(tops: &[Top], nodes: &[Node]) -> Meeting
-    requires { weight_sum (sides_on tops.now nodes.now) < 2 ^ 63 }
+    requires { weight_sum (sides_on tops.now nodes.now) < 2 ^ 127 }
     ensures { (i : Indexed) (from : ℕ) → from < 2 ^ 32 → AreSound i (sides_on tops.now nodes.now) → AreFrom from (sides_on tops.now nodes.now) → XorMeets i from (sides_on tops.now nodes.now) result }
 {
     let tally = tally_of(tops, nodes);
@@ -41,7 +41,7 @@ pub(crate) fn xor_meeting(tops: &[Top], nodes: &[Node]) -> Meeting
 }
 
 fn tally_of(tops: &[Top], nodes: &[Node]) -> Tally
-    requires { weight_sum (sides_on tops.now nodes.now) < 2 ^ 63 }
+    requires { weight_sum (sides_on tops.now nodes.now) < 2 ^ 127 }
     ensures tallied { (i : Indexed) → AreSound i (sides_on tops.now nodes.now) → IsTally (rests i (sides_on tops.now nodes.now)) result }
     ensures reached { (from : ℕ) → from < 2 ^ 32 → AreFrom from (sides_on tops.now nodes.now) → from ≤ result.head }
     ensures within { result.weight ≤ weight_sum (sides_on tops.now nodes.now) }
@@ -60,7 +60,7 @@ fn tally_of(tops: &[Top], nodes: &[Node]) -> Tally
 
 /// Of few sides, one by one.
 fn tally_of_few(tops: &[Top], nodes: &[Node]) -> Tally
-    requires { weight_sum (sides_on tops.now nodes.now) < 2 ^ 63 }
+    requires { weight_sum (sides_on tops.now nodes.now) < 2 ^ 127 }
     ensures tallied { (i : Indexed) → AreSound i (sides_on tops.now nodes.now) → IsTally (rests i (sides_on tops.now nodes.now)) result }
     ensures reached { (from : ℕ) → from < 2 ^ 32 → AreFrom from (sides_on tops.now nodes.now) → from ≤ result.head }
     ensures within { result.weight ≤ weight_sum (sides_on tops.now nodes.now) }
@@ -92,7 +92,7 @@ fn tally_of_one(top: &Top) -> Tally
 
 /// Of all, from what it is of some and of the others.
 fn joined(some: Tally, others: Tally) -> Tally
-    requires fits { some.weight + others.weight < 2 ^ 63 }
+    requires fits { some.weight + others.weight < 2 ^ 127 }
     ensures tallied { (f g : ℕ → List (Option ℕ)) → IsTally f some → IsTally g others → IsTally (λ id. f id ++ g id) result }
     ensures reached { (from : ℕ) → from ≤ some.head → from ≤ others.head → from ≤ result.head }
     ensures within { result.weight ≤ some.weight + others.weight }

@@ -210,10 +210,10 @@ module _ (query : Tree) (paging : Paging) (docs : Docs) (give : ℕ → Option �
             (fresh paging docs walk.last of.saw page.heap page.collapser of.pages (record { weight = 0; value = []; id = h }) at.higher)
 
     -- it may see the document there
-    pub may_see : (ceiling : ℕ) → ((id : ℕ) → unwrap_or (give id) 0 ≤ ceiling) → ceiling < 2 ^ 63 → MaySee page h w
+    pub may_see : (ceiling : ℕ) → ((id : ℕ) → unwrap_or (give id) 0 ≤ ceiling) → ceiling < 2 ^ 127 → MaySee page h w
     may_see ceiling most fits = record { few = seen_few; read = read_few; light = light; room = full_room; under = under_hits; known = known_few; apart = known_apart }
       where
-        light : w < 2 ^ 63
+        light : w < 2 ^ 127
         light =
             let own : w ≡ unwrap_or (give at.one.0) 0 = sym (ap (λ o. unwrap_or o 0) at.gives) in
             omega (arith, own, most at.one.0, fits)

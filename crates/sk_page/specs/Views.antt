@@ -46,7 +46,7 @@ pub record PageOf (page : Page) (query : Tree) (paging : Paging) (docs : Docs) (
 pub record MaySee (page : Page) (id weight : ℕ) : Type 0 where
   pub few : page.seen + 1 < 2 ^ 32
   pub read : page.read + 2 < 2 ^ 64
-  pub light : weight < 2 ^ 63
+  pub light : weight < 2 ^ 127
   pub room : page.heap.room ≡ page.heap.most
   pub under : All (λ h. h.rank.id < id) page.heap.hits
   pub known : IfSome page.collapser (λ c. c.seen + 1 < 2 ^ 32)

@@ -34,7 +34,7 @@ pub(crate) fn show(
 ) -> Result<(), AllocError>
     requires room { heap.old.room ≡ heap.old.most }
     requires under { All (λ h. h.rank.id < id) heap.old.hits }
-    requires light { weight < 2 ^ 63 }
+    requires light { weight < 2 ^ 127 }
     requires few { IfSome collapser.old (λ c. c.seen + 1 < 2 ^ 32) }
     requires apart { IfSome collapser.old (λ c. (k : List ℕ) → 0 < length k → All (λ r. r.id ≢ id) (group_of k c.groups).kept) }
     ensures offers { OnOk result (Offers heap.old heap.new collapser.old collapser.new (record { rank = record { weight = weight; value = value.now; id = id }; key = key.now })) }
@@ -72,7 +72,7 @@ fn offer(
 ) -> Result<(), AllocError>
     requires room { heap.old.room ≡ heap.old.most }
     requires differs { All (λ h. h.rank.id ≢ hit.rank.id) heap.old.hits }
-    requires light { hit.rank.weight < 2 ^ 63 }
+    requires light { hit.rank.weight < 2 ^ 127 }
     requires few { IfSome collapser.old (λ c. c.seen + 1 < 2 ^ 32) }
     requires apart { IfSome collapser.old (λ c. (k : List ℕ) → 0 < length k → All (λ r. r.id ≢ hit.rank.id) (group_of k c.groups).kept) }
     ensures offers { OnOk result (Offers heap.old heap.new collapser.old collapser.new hit) }
@@ -96,7 +96,7 @@ fn offer(
 fn put(heap: &mut ResultHeap, hit: Hit)
     requires room { heap.old.room ≡ heap.old.most }
     requires differs { All (λ h. h.rank.id ≢ hit.rank.id) heap.old.hits }
-    requires light { hit.rank.weight < 2 ^ 63 }
+    requires light { hit.rank.weight < 2 ^ 127 }
     ensures { heap.new ≡ offered hit heap.old }
 {
     let _few = heap.len();

@@ -41,7 +41,7 @@ pub struct Bounds {
     /// No document weighs more.
     pub greatest: Weight,
     /// No more documents match.
-    pub most: u64,
+    pub most: u128,
 }
 
 impl Page {
@@ -136,7 +136,7 @@ impl Page {
     /// What a tree is asked for, if nothing that it has left weighs more than this: the cutoff, until enough matches were
     /// seen, and then what the page needs.
     pub fn need(&self, ceiling: Weight) -> Weight
-        requires { ceiling < 2 ^ 63 }
+        requires { ceiling < 2 ^ 127 }
         ensures { result ≡ need_for self.now.options self.now.seen self.now.heap ceiling }
     {
         if u64::from(self.seen) < self.wanted() {
@@ -166,7 +166,7 @@ impl Page {
         let upper = if is_whole {
             lower
         } else {
-            (bounds.most - u64::from(self.seen - lower)) as u32
+            (bounds.most - u128::from(self.seen - lower)) as u32
         };
         let held = self.heap.drain_sorted();
         let page = &held[held.len().min(self.options.first as usize)..];

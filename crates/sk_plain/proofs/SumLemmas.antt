@@ -9,34 +9,34 @@ use Rattle.sk_model.proofs.CeilLaws.{AtMost}
 use Rattle.sk_plain.specs.declared.sums.Sums.{Sums}
 use Rattle.sk_plain.specs.Sums.{capped_both, capped_either, nothing_yet, with_score, with_scores, made_by}
 
--- ---- sums as far as 64 bits go
+-- ---- sums as far as 128 bits go
 
 abbrev capped : Option ℕ → Option ℕ
-capped a = option_map (min (2 ^ 64 - 1)) a
+capped a = option_map (min (2 ^ 128 - 1)) a
 
 both_step : (a s : Option ℕ) → capped_both (capped a) s ≡ capped (both a s)
 both_step None s = refl
 both_step (Some v) None = refl
-both_step (Some v) (Some w) = let e : min (2 ^ 64 - 1) (min (2 ^ 64 - 1) v + w) ≡ min (2 ^ 64 - 1) (v + w) = omega arith in ap Some e
+both_step (Some v) (Some w) = let e : min (2 ^ 128 - 1) (min (2 ^ 128 - 1) v + w) ≡ min (2 ^ 128 - 1) (v + w) = omega arith in ap Some e
 
 all_after : (a : Option ℕ) (t : Sums) (ss : List (Option ℕ)) → t.all ≡ capped a → (with_scores t ss).all ≡ capped (both a (sum_of_all ss))
 all_after a t [] h = h ∙ ap capped (sym (both-end a))
 all_after a t (s ∷ ss) h = all_after (both a s) (with_score t s) ss (ap (λ o. capped_both o s) h ∙ both_step a s) ∙ ap capped (both-apart a s (sum_of_all ss))
 
--- a score that 64 bits hold
+-- a score that 128 bits hold
 abbrev Small : Option ℕ → Type 0
-Small o = AtMost o (2 ^ 64 - 1)
+Small o = AtMost o (2 ^ 128 - 1)
 
 small_same : (a : Option ℕ) → Small a → capped a ≡ a
 small_same None h = refl
-small_same (Some v) h = let e : min (2 ^ 64 - 1) v ≡ v = omega (arith, h) in ap Some e
+small_same (Some v) h = let e : min (2 ^ 128 - 1) v ≡ v = omega (arith, h) in ap Some e
 
 either_step : (a s rest : Option ℕ) → Small (either a (either s rest)) → capped_either (capped a) s ≡ capped (either a s)
 either_step None None rest h = refl
 either_step None (Some w) None h = sym (small_same (Some w) h)
-either_step None (Some w) (Some u) h = let e : w ≡ min (2 ^ 64 - 1) w = omega (arith, h) in ap Some e
+either_step None (Some w) (Some u) h = let e : w ≡ min (2 ^ 128 - 1) w = omega (arith, h) in ap Some e
 either_step (Some v) None rest h = refl
-either_step (Some v) (Some w) rest h = let e : min (2 ^ 64 - 1) (min (2 ^ 64 - 1) v + w) ≡ min (2 ^ 64 - 1) (v + w) = omega arith in ap Some e
+either_step (Some v) (Some w) rest h = let e : min (2 ^ 128 - 1) (min (2 ^ 128 - 1) v + w) ≡ min (2 ^ 128 - 1) (v + w) = omega arith in ap Some e
 
 any_after : (a : Option ℕ) (t : Sums) (ss : List (Option ℕ)) → Small (either a (sum_of_any ss)) → t.any ≡ capped a → (with_scores t ss).any ≡ capped (either a (sum_of_any ss))
 any_after a t [] small h = h ∙ ap capped (sym (either-end a))
@@ -128,7 +128,7 @@ module _ (ss : List (Option ℕ)) (all : Small (sum_of_all ss)) (any : Small (su
 
 -- what the loop ends with
 pub end_sums : {X : Type 0} (f : List X → List (Option ℕ)) (form : Form) (t : Sums) (xs : List X) (i : ℕ) → f [] ≡ [] → length xs ≤ i → with_scores t (f (drop i xs)) ≡ with_scores nothing_yet (f xs)
-    → AtMost (combined Form.And (f xs)) (2 ^ 64 - 1) → AtMost (combined Form.Or (f xs)) (2 ^ 64 - 1) → made_by form t ≡ combined form (f xs)
+    → AtMost (combined Form.And (f xs)) (2 ^ 128 - 1) → AtMost (combined Form.Or (f xs)) (2 ^ 128 - 1) → made_by form t ≡ combined form (f xs)
 end_sums {X} f form t xs i none over so all any =
     let done : t ≡ with_scores nothing_yet (f xs) = sym (ap (λ (ys : List X). with_scores t (f ys)) (drop_all i xs over) ∙ ap (with_scores t) none) ∙ so in
     ap (made_by form) done ∙ made (f xs) all any form

@@ -4,17 +4,17 @@ use Rattle.sk_query.specs.declared.form.Form.{Form}
 use Rattle.sk_model.specs.Combining.{greater, where_so, is_odd}
 use Rattle.sk_plain.specs.declared.sums.Sums.{Sums}
 
--- Two scores that must both be there, added as far as 64 bits go.
+-- Two scores that must both be there, added as far as 128 bits go.
 abbrev pub capped_both : Option ℕ → Option ℕ → Option ℕ
 capped_both None b = None
 capped_both (Some v) None = None
-capped_both (Some v) (Some w) = Some (min (2 ^ 64 - 1) (v + w))
+capped_both (Some v) (Some w) = Some (min (2 ^ 128 - 1) (v + w))
 
--- Two scores, at least one of which must be there, added as far as 64 bits go.
+-- Two scores, at least one of which must be there, added as far as 128 bits go.
 abbrev pub capped_either : Option ℕ → Option ℕ → Option ℕ
 capped_either None b = b
 capped_either (Some v) None = Some v
-capped_either (Some v) (Some w) = Some (min (2 ^ 64 - 1) (v + w))
+capped_either (Some v) (Some w) = Some (min (2 ^ 128 - 1) (v + w))
 
 -- No score yet.
 abbrev pub nothing_yet : Sums

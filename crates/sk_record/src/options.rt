@@ -120,6 +120,8 @@ fn scheme_named(name: &str) -> Option<Scheme>
         "bool" => Some(Scheme::Bool),
         "coord" => Some(Scheme::Coord),
         "nnn" => Some(Scheme::Nnn),
+        "bnn" => Some(Scheme::Bnn),
+        "snn" => Some(Scheme::Snn),
         _ => None,
     }
 }
@@ -148,7 +150,9 @@ fn check_at(line: &Value) -> Option<u32>
 fn cutoff_at(line: &Value) -> Option<Weight>
     ensures { result ≡ cutoff_at (view line.now) }
 {
-    optional_number(line, "cutoff", default_options().cutoff)
+    let default = default_options().cutoff as u64;
+    let cutoff = optional_number(line, "cutoff", default)?;
+    Some(Weight::from(cutoff))
 }
 
 /// Whether of equal matches those with greater ids come first.

@@ -1,12 +1,24 @@
 -- The least of the numbers of steps, and the lesser of the two ways round of two lists.
-use Rattle.std.proofs.Common.{◌≡◌, ◌<◌, ◌≤◌, min, ℕ, List, [], ◌∷◌, length, get_or, Option, Some, sym, ap, ◌∙◌, arith}
+use Rattle.std.proofs.Common.{◌≡◌, ◌<◌, ◌≤◌, ◌^◌, min, ℕ, true, List, [], ◌∷◌, length, get_or, All, Option, Some, sym, ap, ◌∙◌, arith}
 use Rattle.sk_base.specs.declared.find.Paging.{Paging}
+use Rattle.sk_base.specs.declared.find.Scheme.{Scheme}
+use Rattle.sk_base.specs.Loads.{IsLight}
 use Rattle.sk_base.specs.Numbers.{Docs}
 use Rattle.sk_query.specs.Trees.{Tree, term}
+use Rattle.sk_query.specs.Fits.{is_sound, leaves_of}
+use Rattle.sk_model.specs.Bounds.{ceil}
 use Rattle.sk_model.specs.Allowance.{allowance}
 use Rattle.sk_model.specs.Matches.{found_by}
 use Rattle.sk_model.specs.Settled.{decay_point}
 use Rattle.sk_model.specs.Sharp.{stop_number, rare_number, decay_readings, decay_of, decay_number, at_most, sharp}
+use Rattle.sk_model.proofs.WeightLaws.{ceil_small}
+
+-- one more than the greatest weight fits
+pub one_more_fits : (q : Tree) (scheme : Scheme) (held docs : Docs) (most : ℕ) → most ≡ ceil q scheme 1 held → held ≡ docs
+    → is_sound 1 q ≡ true → leaves_of q ≤ 1024 → All IsLight docs → most < 2 ^ 127
+one_more_fits q scheme held docs most is same sound few light =
+    let small : ceil q scheme 1 docs ≤ 2 ^ 84 = ceil_small scheme docs light q 1 sound (omega arith) few in
+    omega (arith, is ∙ ap (ceil q scheme 1) same, small)
 
 -- a list of two
 pub two_there : (lists : List (List ℕ)) (a b : List ℕ) → 2 ≤ length lists → length lists < 3 → a ≡ get_or lists 0 a → b ≡ get_or lists 1 b → lists ≡ a ∷ b ∷ []

@@ -57,7 +57,8 @@ pub fn decay_point(
 /// The weight of a term's greatest wdf, and 0 where no document has it.
 fn term_ceil(scheme: Scheme, term: &[u8], docs: &BTreeMap<DocId, Doc>) -> Weight
     requires { All IsLight docs.now.entries }
-    ensures { result ≡ term_ceil scheme 1 term.now docs.now.entries }
+    ensures value { result ≡ term_ceil scheme 1 term.now docs.now.entries }
+    ensures bound { result < 2 ^ 96 }
 {
     if length_of(term, docs) > 0 {
         weigh_by(1, scheme, u64::from(greatest_of(term, docs)))
@@ -69,6 +70,7 @@ fn term_ceil(scheme: Scheme, term: &[u8], docs: &BTreeMap<DocId, Doc>) -> Weight
 /// The least id up to which there are as many matches as a find wants to see, and as many as its page needs that no
 /// later match of this weight comes before.
 fn settled(paging: &Paging, ranks: &[Rank], weight: Weight) -> DocId
+    requires { weight < 2 ^ 127 }
     ensures { result ≡ settled paging.now ranks.now weight }
 {
     let wanted = wanted(paging);
@@ -88,19 +90,20 @@ fn wanted(paging: &Paging) -> u64
 }
 
 /// The least weight whose matches come before any later one of this weight.
-fn settling_weight(paging: &Paging, weight: Weight) -> u128
+fn settling_weight(paging: &Paging, weight: Weight) -> Weight
+    requires { weight < 2 ^ 127 }
     ensures { result ≡ settling_weight paging.now weight }
 {
     if paging.order.falling {
-        u128::from(weight) + 1
+        weight + 1
     } else {
-        u128::from(weight)
+        weight
     }
 }
 
 /// The id of the match by which so many are seen, so many of them at least so heavy, and the last id where there are
 /// not so many.
-fn settled_from(wanted: u64, needed: u64, weight: u128, ranks: &[Rank]) -> DocId
+fn settled_from(wanted: u64, needed: u64, weight: Weight, ranks: &[Rank]) -> DocId
     ensures { result ≡ settled_from wanted needed weight ranks.now }
 {
     let mut wanted = wanted;
@@ -116,10 +119,10 @@ fn settled_from(wanted: u64, needed: u64, weight: u128, ranks: &[Rank]) -> DocId
 }
 
 /// One less, where the match is at least so heavy.
-fn less_heavy(weight: u128, needed: u64, rank: &Rank) -> u64
+fn less_heavy(weight: Weight, needed: u64, rank: &Rank) -> u64
     ensures { result ≡ less_heavy weight needed rank.now }
 {
-    if u128::from(rank.weight) >= weight {
+    if rank.weight >= weight {
         needed.saturating_sub(1)
     } else {
         needed

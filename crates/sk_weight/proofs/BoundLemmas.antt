@@ -40,6 +40,6 @@ placed docs q words is =
       | inr e ↦ ap (λ q. static_count (query_view q) docs) e.1 ∙ ap (λ t. static_count t docs) (view-Phrase e.0 words)
     ]
 
--- a sum as far as 64 bits go is the whole sum, where that is no greater than a weight
-pub whole_sum : (t sum whole : ℕ) → t ≡ min (2 ^ 64 - 1) sum → whole ≡ sum → whole ≤ 2 ^ 55 → t ≡ whole
+-- a sum as far as 128 bits go is the whole sum, where that is no greater than a weight
+pub whole_sum : (t sum whole : ℕ) → t ≡ min (2 ^ 128 - 1) sum → whole ≡ sum → whole ≤ 2 ^ 84 → t ≡ whole
 whole_sum t sum whole e same fits = omega (arith, e, same, fits)

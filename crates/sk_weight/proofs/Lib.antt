@@ -1,2 +1,3 @@
+mod WeightLemmas
 mod TogetherLemmas
 mod BoundLemmas

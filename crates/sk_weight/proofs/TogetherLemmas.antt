@@ -28,11 +28,11 @@ greatest_after t (b ∷ bs) = greatest_after (with_bound t b) bs ∙ greater t.g
     greater : (a b c : ℕ) → max (max a b) c ≡ max a (max b c)
     greater a b c = omega arith
 
-sum_after : (t : Together) (bs : List ℕ) → t.sum ≤ 2 ^ 64 - 1 → (with_bounds t bs).sum ≡ min (2 ^ 64 - 1) (t.sum + sum_in bs)
+sum_after : (t : Together) (bs : List ℕ) → t.sum ≤ 2 ^ 128 - 1 → (with_bounds t bs).sum ≡ min (2 ^ 128 - 1) (t.sum + sum_in bs)
 sum_after t [] h = omega (arith, h)
 sum_after t (b ∷ bs) h = sum_after (with_bound t b) bs (omega arith) ∙ added t.sum b (sum_in bs)
   where
-    added : (a b c : ℕ) → min (2 ^ 64 - 1) (min (2 ^ 64 - 1) (a + b) + c) ≡ min (2 ^ 64 - 1) (a + (b + c))
+    added : (a b c : ℕ) → min (2 ^ 128 - 1) (min (2 ^ 128 - 1) (a + b) + c) ≡ min (2 ^ 128 - 1) (a + (b + c))
     added a b c = omega arith
 
 first_of_all : (bs : List ℕ) → unwrap_or (with_bounds nothing_yet bs).first 0 ≡ first_in bs
@@ -54,7 +54,7 @@ all_together bs = record {
   first = first_of_all bs;
   least = least_of_all bs;
   greatest = greatest_after nothing_yet bs ∙ nothing_less (greatest_in bs);
-  sum = sum_after nothing_yet bs (omega arith) ∙ ap (min (2 ^ 64 - 1)) (nothing_more (sum_in bs));
+  sum = sum_after nothing_yet bs (omega arith) ∙ ap (min (2 ^ 128 - 1)) (nothing_more (sum_in bs));
 }
 
 -- what a loop over a list ends with
@@ -70,15 +70,15 @@ more_together f t next b xs i x whole inside is own grown so =
     let cut : drop i xs ≡ x ∷ drop (i + 1) xs = rw (add-one) (drop-cons xs i x inside ∙ ap (λ w. w ∷ drop (suc i) xs) (sym is)) in
     ap (λ u. with_bounds u (map f (drop (i + 1) xs))) (grown ∙ ap (with_bound t) own) ∙ ap (λ ys. with_bounds t (map f ys)) (sym cut) ∙ so
 
-is_long : (n : ℕ) → nat_lt 0 (min (2 ^ 64 - 1) n) ≡ nat_lt 0 n
+is_long : (n : ℕ) → nat_lt 0 (min (2 ^ 128 - 1) n) ≡ nat_lt 0 n
 is_long n = grind (arith, nat_tests)
 
--- as far as 64 bits go is far enough for words as one, and for what is no more than the documents
-pub joint_same : (scheme : Scheme) (factor long greatest l g : ℕ) → long ≡ min (2 ^ 64 - 1) l → greatest ≡ min (2 ^ 64 - 1) g → joint_ceil scheme factor long greatest ≡ joint_ceil scheme factor l g
+-- as far as 128 bits go is far enough for words as one, and for what is no more than the documents
+pub joint_same : (scheme : Scheme) (factor long greatest l g : ℕ) → long ≡ min (2 ^ 128 - 1) l → greatest ≡ min (2 ^ 128 - 1) g → joint_ceil scheme factor long greatest ≡ joint_ceil scheme factor l g
 joint_same scheme factor long greatest l g e f =
     let most : min (2 ^ 29 - 1) greatest ≡ min (2 ^ 29 - 1) g = omega (arith, f) in
     (λ i. joint_ceil scheme factor (e i) greatest)
     ∙ (λ i. if is_long l i then weigh_by factor scheme (most i) else 0)
 
-pub capped_same : (n sum total live : ℕ) → n ≡ min sum live → sum ≡ min (2 ^ 64 - 1) total → live < 2 ^ 32 → n ≡ min live total
+pub capped_same : (n sum total live : ℕ) → n ≡ min sum live → sum ≡ min (2 ^ 128 - 1) total → live < 2 ^ 32 → n ≡ min live total
 capped_same n sum total live e f few = omega (arith, e, f, few)

@@ -15,16 +15,16 @@ least_with (Some least) b = min least b
 
 -- One bound more.
 abbrev pub with_bound : Together → ℕ → Together
-with_bound t b = record { first = option_or t.first (Some b); least = Some (least_with t.least b); greatest = max t.greatest b; sum = min (2 ^ 64 - 1) (t.sum + b) }
+with_bound t b = record { first = option_or t.first (Some b); least = Some (least_with t.least b); greatest = max t.greatest b; sum = min (2 ^ 128 - 1) (t.sum + b) }
 
 -- All of these more.
 abbrev pub with_bounds : Together → List ℕ → Together
 with_bounds t [] = t
 with_bounds t (b ∷ bounds) = with_bounds (with_bound t b) bounds
 
--- It is made of these bounds: the first, the least and the greatest of them, and their sum as far as 64 bits go.
+-- It is made of these bounds: the first, the least and the greatest of them, and their sum as far as 128 bits go.
 pub record IsTogether (t : Together) (bounds : List ℕ) : Type 0 where
   pub first : unwrap_or t.first 0 ≡ first_in bounds
   pub least : unwrap_or t.least 0 ≡ least_in bounds
   pub greatest : t.greatest ≡ greatest_in bounds
-  pub sum : t.sum ≡ min (2 ^ 64 - 1) (sum_in bounds)
+  pub sum : t.sum ≡ min (2 ^ 128 - 1) (sum_in bounds)

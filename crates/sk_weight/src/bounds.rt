@@ -26,8 +26,13 @@ pub fn ceil<S: Stats>(stats: &S, query: &Query, scheme: Scheme, factor: u64) -> 
         Query::Term(word) => word_ceil(stats, scheme, factor, word),
         Query::Wildcard(prefix) => {
             let prefix = prefix.as_str().as_bytes();
-            let long = u64::from(stats.wild_length(prefix));
-            joint_ceil(scheme, factor, long, u64::from(stats.wild_greatest(prefix)))
+            let long = u128::from(stats.wild_length(prefix));
+            joint_ceil(
+                scheme,
+                factor,
+                long,
+                u128::from(stats.wild_greatest(prefix)),
+            )
         }
         Query::And(parts) | Query::Or(parts) | Query::Xor(parts) | Query::AndMaybe(parts) => {
             ceils(stats, parts, scheme, factor).sum
@@ -66,15 +71,15 @@ fn ceils<S: Stats>(stats: &S, parts: &[Query], scheme: Scheme, factor: u64) -> T
 
 /// No more documents match the query.
 #[cycle(static_count)]
-pub fn static_count<S: Stats>(stats: &S, query: &Query) -> u64
+pub fn static_count<S: Stats>(stats: &S, query: &Query) -> u128
     ensures { result ≡ static_count (query_view query.now) (S.documents stats.now) }
 {
-    let live = u64::from(stats.live());
+    let live = u128::from(stats.live());
     match query {
         Query::Nothing => 0,
         Query::All => live,
-        Query::Term(word) => u64::from(stats.length(word.as_str().as_bytes())),
-        Query::Wildcard(prefix) => u64::from(stats.wild_length(prefix.as_str().as_bytes())),
+        Query::Term(word) => u128::from(stats.length(word.as_str().as_bytes())),
+        Query::Wildcard(prefix) => u128::from(stats.wild_length(prefix.as_str().as_bytes())),
         Query::And(parts) | Query::Filter(parts) => statics(stats, parts).least.unwrap_or(0),
         Query::Or(parts) | Query::Xor(parts) | Query::Max(parts) => {
             statics(stats, parts).sum.min(live)
@@ -91,7 +96,7 @@ pub fn static_count<S: Stats>(stats: &S, query: &Query) -> u64
             if is_crossed(lo, hi) {
                 0
             } else {
-                u64::from(stats.slot_length(*slot))
+                u128::from(stats.slot_length(*slot))
             }
         }
     }

@@ -10,4 +10,4 @@ mod words;
 
 pub use bounds::{ceil, static_count};
 pub use range::{is_crossed, is_within};
-pub use weight::{need_wdf, weigh, weigh_by};
+pub use weight::{need_wdf, weigh_by};

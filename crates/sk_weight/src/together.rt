@@ -5,11 +5,11 @@ ghost use Rattle.sk_weight.specs.Together.{nothing_yet, least_with, with_bound};
 /// What is made of bounds, one after the other.
 #[derive(Clone, Copy, Debug)]
 pub struct Together {
-    pub first: Option<u64>,
-    pub least: Option<u64>,
-    pub greatest: u64,
-    /// Their sum, as far as 64 bits go.
-    pub sum: u64,
+    pub first: Option<u128>,
+    pub least: Option<u128>,
+    pub greatest: u128,
+    /// Their sum, as far as 128 bits go.
+    pub sum: u128,
 }
 
 impl Together {
@@ -24,7 +24,7 @@ impl Together {
         }
     }
 
-    pub fn add(&mut self, bound: u64)
+    pub fn add(&mut self, bound: u128)
         ensures { self.new ≡ with_bound self.old bound }
     {
         *self = Together {
@@ -36,7 +36,7 @@ impl Together {
     }
 }
 
-fn least_with(least: Option<u64>, bound: u64) -> u64
+fn least_with(least: Option<u128>, bound: u128) -> u128
     ensures { result ≡ least_with least bound }
 {
     match least {

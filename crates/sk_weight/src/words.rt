@@ -23,12 +23,12 @@ pub fn word_ceil<S: Stats>(stats: &S, scheme: Scheme, factor: u64, word: &Text) 
 }
 
 /// That of several words as one, by how long their lists are together and what their greatest wdfs make together.
-pub fn joint_ceil(scheme: Scheme, factor: u64, long: u64, greatest: u64) -> Weight
+pub fn joint_ceil(scheme: Scheme, factor: u64, long: u128, greatest: u128) -> Weight
     requires { factor ≤ 65536 }
     ensures { result ≡ joint_ceil scheme factor long greatest }
 {
     if long > 0 {
-        weigh_by(factor, scheme, greatest.min(u64::from(MOST_WDF)))
+        weigh_by(factor, scheme, greatest.min(u128::from(MOST_WDF)) as u64)
     } else {
         0
     }
@@ -52,7 +52,7 @@ pub fn word_lengths<S: Stats>(stats: &S, words: &[Text]) -> Together
 {
     let mut lengths = Together::new();
     'words: for word in words {
-        lengths.add(u64::from(stats.length(word.as_str().as_bytes())));
+        lengths.add(u128::from(stats.length(word.as_str().as_bytes())));
     }
     lengths
 }
@@ -63,7 +63,7 @@ pub fn word_greatests<S: Stats>(stats: &S, words: &[Text]) -> Together
 {
     let mut greatests = Together::new();
     'words: for word in words {
-        greatests.add(u64::from(stats.greatest(word.as_str().as_bytes())));
+        greatests.add(u128::from(stats.greatest(word.as_str().as_bytes())));
     }
     greatests
 }

@@ -1,13 +1,13 @@
 //! What no clause says: that each call succeeds with memory.
 ghost use Rattle.std.specs.Prelude.{◌≡◌, IfOk};
 
-use sk_base::{Bytes, Order, OrderBy, Rank};
+use sk_base::{Bytes, Order, OrderBy, Rank, Weight};
 use sk_collapse::{Collapser, Verdict};
 use std::alloc::Global;
 use std::test::Fail;
 
 /// A match without a value.
-fn rank(alloc: Global, weight: u64, id: u32) -> Rank
+fn rank(alloc: Global, weight: Weight, id: u32) -> Rank
     ensures { (result.weight ≡ weight) × (result.id ≡ id) }
 {
     Rank {

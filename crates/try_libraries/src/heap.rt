@@ -1,7 +1,7 @@
 //! What no clause says: that each call succeeds with memory.
 ghost use Rattle.std.specs.Prelude.{◌≡◌, ◌<◌, ◌^◌};
 
-use sk_base::{Bytes, Order, OrderBy, Rank};
+use sk_base::{Bytes, Order, OrderBy, Rank, Weight};
 use sk_heap::{Hit, ResultHeap};
 use std::alloc::Global;
 use std::test::Fail;
@@ -11,8 +11,8 @@ const ORDER: Order = Order {
     falling: false,
 };
 
-fn hit(alloc: Global, weight: u64, id: u32) -> Hit
-    requires { weight < 2 ^ 63 }
+fn hit(alloc: Global, weight: Weight, id: u32) -> Hit
+    requires { weight < 2 ^ 127 }
     ensures { (result.rank.weight ≡ weight) × (result.rank.id ≡ id) }
 {
     Hit {

@@ -71,13 +71,13 @@ fn is_at_most(number: &str, most: &str) -> bool {
     number_in(most).is_some_and(|most| number <= most)
 }
 
-/// Puts a line. `<<N*B>>` in it stands for a byte N times, B being its number in two hexadecimal digits.
+/// Puts a line. `<<N*B>>` in it stands for bytes N times, B being their numbers, each in two hexadecimal digits.
 pub fn put_expanded(to: &mut Vec<u8>, line: &[u8]) -> Result<(), AllocError> {
     match repeated(line) {
-        Some((front, count, byte, back)) => {
+        Some((front, count, digits, back)) => {
             to.extend_from_slice(front)?;
             for _ in 0..count {
-                to.push(byte)?;
+                put_bytes(to, digits)?;
             }
             to.extend_from_slice(back)?;
         }
@@ -86,13 +86,27 @@ pub fn put_expanded(to: &mut Vec<u8>, line: &[u8]) -> Result<(), AllocError> {
     Ok(())
 }
 
-/// What stands before a repeated byte, how often which, and what stands behind it.
-fn repeated(line: &[u8]) -> Option<(&[u8], usize, u8, &[u8])> {
+/// What stands before repeated bytes, how often which, and what stands behind them.
+fn repeated(line: &[u8]) -> Option<(&[u8], usize, &[u8], &[u8])> {
     let line = str::from_utf8(line).ok()?;
     let (front, rest) = line.split_once("<<")?;
     let (inner, back) = rest.split_once(">>")?;
-    let (count, byte) = inner.split_once("*")?;
+    let (count, digits) = inner.split_once("*")?;
     let count = count.parse::<usize>().ok()?;
-    let byte = u8::from_str_radix(byte, 16).ok()?;
-    Some((front.as_bytes(), count, byte, back.as_bytes()))
+    Some((front.as_bytes(), count, digits.as_bytes(), back.as_bytes()))
+}
+
+/// Puts the bytes of these digits, two for each.
+fn put_bytes(to: &mut Vec<u8>, digits: &[u8]) -> Result<(), AllocError> {
+    for two in digits.chunks(2) {
+        if let Some(byte) = byte_of(two) {
+            to.push(byte)?;
+        }
+    }
+    Ok(())
+}
+
+fn byte_of(digits: &[u8]) -> Option<u8> {
+    let digits = str::from_utf8(digits).ok()?;
+    u8::from_str_radix(digits, 16).ok()
 }

@@ -1,11 +1,11 @@
 //! What a tree leaves, and what it may leave.
 ghost use Rattle.std.specs.Prelude.{◌≤◌};
-ghost use Rattle.sk_nodes.specs.Built.{IsTree};
+ghost use Rattle.sk_tree.specs.Built.{IsTree};
 
 use sk_base::{DocId, Weight};
 use sk_index::Index;
-use sk_nodes::Tree;
 use sk_steps::Steps;
+use sk_tree::Tree;
 use std::alloc::{AllocError, Global};
 use std::sync::ledger::Ledger;
 

@@ -6,7 +6,7 @@
 ghost use Rattle.std.specs.Prelude.{◌≡◌, ◌≤◌, true};
 ghost use Rattle.sk_query.specs.Trees.{query_view};
 ghost use Rattle.sk_query.specs.Fits.{fits_tree};
-ghost use Rattle.sk_nodes.specs.Built.{IsTree};
+ghost use Rattle.sk_tree.specs.Built.{IsTree};
 
 mod documents;
 mod left;
@@ -19,10 +19,10 @@ use serde_json::Value;
 use sk_base::{DocId, Scheme, Weight};
 use sk_index::Index;
 use sk_io::{Line, Lines, StdSource};
-use sk_nodes::Tree;
 use sk_query::Query;
 use sk_query_json::from_json;
 use sk_steps::Steps;
+use sk_tree::Tree;
 use std::alloc::{AllocError, Global};
 use std::marker::Brand;
 use std::process::ExitCode;

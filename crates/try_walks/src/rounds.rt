@@ -4,11 +4,11 @@ ghost use Rattle.sk_query.specs.Trees.{query_view};
 ghost use Rattle.sk_query.specs.Fits.{fits_tree};
 
 use crate::documents::{add, empty_index};
-use sk_base::{Scheme, Text};
+use sk_base::{Scheme, Text, Weight};
 use sk_index::Index;
-use sk_nodes::Tree;
 use sk_query::Query;
 use sk_steps::Steps;
+use sk_tree::Tree;
 use std::alloc::{AllocError, Global};
 use std::marker::Brand;
 use std::rt::Env;
@@ -65,11 +65,11 @@ fn walk<L: Ledger>(
     index: &Index,
     query: &Query,
     steps: &mut Steps<L>,
-) -> Result<u64, AllocError>
+) -> Result<Weight, AllocError>
     requires fits { fits_tree (query_view query.now) ≡ true }
 {
     let mut tree = Tree::open(alloc, index, query, Scheme::Nnn, steps)?;
-    let mut sum = 0u64;
+    let mut sum: Weight = 0;
     'walk: for _ in 0..u32::MAX {
         let Some(id) = tree.head() else {
             return Ok(sum);
@@ -89,7 +89,7 @@ fn sum_of<R: Env, L: Ledger>(
     blank: Blank,
     alloc: Global,
     rounds: Rounds,
-) -> Result<u64, AllocError>
+) -> Result<Weight, AllocError>
     requires name { blank.name ≡ L.name }
     requires parts { blank.parts ≡ L.parts }
     requires one { blank.parts ≡ 1 }
@@ -100,7 +100,7 @@ fn sum_of<R: Env, L: Ledger>(
     if !query.fits() {
         return Err(AllocError);
     }
-    let mut sum = 0u64;
+    let mut sum: Weight = 0;
     'rounds: for _ in 0..rounds.walks {
         sum = sum.wrapping_add(walk(alloc, &index, &query, &mut steps)?);
     }
@@ -112,7 +112,7 @@ pub(crate) fn sum_of_rounds<R: Env>(
     rt: &R,
     alloc: Global,
     rounds: Rounds,
-) -> Result<u64, AllocError> {
+) -> Result<Weight, AllocError> {
     let sum = sum_of::<_, Brand>(rt, Blank::new(1), alloc, rounds)?;
     Ok(sum)
 }

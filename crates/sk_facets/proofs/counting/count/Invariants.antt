@@ -1,6 +1,6 @@
 use Rattle.std.proofs.Common.{◌≡◌, ◌+◌, length}
 use Rattle.sk_query.specs.Trees.{query_view}
-use Rattle.sk_nodes.specs.Built.{left}
+use Rattle.sk_tree.specs.Built.{left}
 use Rattle.sk_facets.specs.Counts.{IsCounting}
 use Rattle.sk_facets.proofs.counting.count.Given as goal
 

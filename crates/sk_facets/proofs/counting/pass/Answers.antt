@@ -1,5 +1,5 @@
 use Rattle.std.proofs.Common.{refl, ◌∙◌}
-use Rattle.sk_nodes.specs.Built.{left}
+use Rattle.sk_tree.specs.Built.{left}
 use Rattle.sk_facets.proofs.CountLemmas.{left_sorted, from_first, none_behind}
 use Rattle.sk_facets.proofs.counting.pass.Goals as goal
 

@@ -4,7 +4,7 @@ use Rattle.sk_model.proofs.CoverLaws.{covers_exactly}
 use Rattle.sk_decay.specs.Sides.{paired, greatest_under}
 use Rattle.sk_nodes.specs.Shapes.{Shape, shape_of}
 use Rattle.sk_nodes.specs.Left.{rest, from_on}
-use Rattle.sk_nodes.specs.Opened.{Yields}
+use Rattle.sk_nodes.specs.Begun.{Yields}
 use Rattle.sk_nodes.proofs.LeafLaws.{from_on-at}
 use Rattle.sk_nodes.proofs.NodeLaws.{pair_shape}
 use Rattle.sk_nodes.proofs.MoveLaws.{seek_along}

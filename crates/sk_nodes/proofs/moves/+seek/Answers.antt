@@ -4,12 +4,12 @@ use Rattle.std.proofs.lemmas.List.{places}
 use Rattle.sk_model.specs.Covers.{Covers}
 use Rattle.sk_nodes.specs.declared.top.Top.{Top}
 use Rattle.sk_nodes.specs.declared.node.Node.{Node}
-use Rattle.sk_nodes.specs.Shapes.{Shape, Sides, side, ended, range, pair, xor_many, or_many, positional, shape_of, size_of, sides_on, sizes_in}
+use Rattle.sk_nodes.specs.Shapes.{Shape, Sides, side, ended, range, pair, xor_many, or_many, positional, synonym, shape_of, size_of, sides_on, sizes_in}
 use Rattle.sk_nodes.specs.Left.{rest, from_on, greatest_sum, unread_of, unread_in}
 use Rattle.sk_nodes.specs.Sound.{IsTop, Sound, AreSound, IsPositional}
 use Rattle.sk_nodes.specs.Many.{AreFrom, AreSought, followed_by}
 use Rattle.sk_nodes.proofs.LeafLaws.{AtMost-covers}
-use Rattle.sk_nodes.proofs.NodeLaws.{sound_fits, greatest_within, covers_more, capped_top, shape_of-Nothing, shape_of-Leaf, shape_of-Pair, leaf_shape, shape_of-Positional, positional_shape, parts_shape, sought_along, greatest_under-mono, weight_le, target_ended, head_reached, pair_top, pair_top_ended, sides_covers, sides_covers_ended, sides_begun, sides_more, pair_covers, xor_many_shape, xor_many_written, or_many_shape, or_many_written}
+use Rattle.sk_nodes.proofs.NodeLaws.{sound_fits, ended_top, greatest_within, covers_more, capped_top, shape_of-Nothing, shape_of-Leaf, shape_of-Pair, leaf_shape, shape_of-Positional, positional_shape, shape_of-Synonym, synonym_shape, parts_shape, sought_along, greatest_under-mono, weight_le, target_ended, head_reached, pair_top, pair_top_ended, sides_covers, sides_covers_ended, sides_begun, sides_more, pair_covers, xor_many_shape, xor_many_written, or_many_shape, or_many_written}
 use Rattle.sk_nodes.proofs.ManyLaws.{weights_fit, xor_begun, sides_cons, xor_covers, xor_more, xor_top, sides_split, sides_append, both_sound, sound_behind, from_behind, sought_behind, greatest_behind, unread_behind, sizes_behind, some_sizes}
 use Rattle.sk_nodes.specs.Proximity.{entries_unread}
 use Rattle.sk_nodes.proofs.ProximityLaws.{test_begun, moved_all, moved_covers, moved_ended, ended_test, passed_top, passed_sound, passed_covers, none_top, failed_ended_covers, failed_ended_sound, failed_more}
@@ -20,6 +20,8 @@ use Rattle.sk_nodes.proofs.FadingLaws.{fades_begun, fades_half, fades_both, fade
 use Rattle.sk_nodes.proofs.SkipLaws.{sides_skipped, accounts_skipped, fades_skipped}
 use Rattle.sk_nodes.specs.OrMany.{AreKept, AreMoved, AreWeighed}
 use Rattle.sk_nodes.proofs.RangeLaws.{shape_of-Range, range_shape}
+use Rattle.sk_nodes.proofs.ListLaws.{weigh_more}
+use Rattle.sk_nodes.proofs.SumLaws.{sums_ended, sums_light, sums_gone, sums_covers, sums_accounts}
 use Rattle.sk_nodes.proofs.OrManyLaws.{none_head, moved_first, or_found, or_accounts, or_kept, size_some, or_top, or_covers, kept_behind, led_none, weighed_light, weighed_more, or_begun, or_led, or_weighed, or_on, or_matches, or_gone, or_gone_kept, ended_unread, ended_lands}
 use Rattle.sk_nodes.proofs.moves.+seek.Goals as goal
 
@@ -100,6 +102,12 @@ seek-returns-in-Positional-clause-sought g t c =
     (positional_shape c.args.node.now c.in-Positional.test c.in-Positional.below c.in-Positional.node _ _ _ c.in-Positional.is c.in-Positional.test-is c.in-Positional.below-is (c.deref_mut-in-Positional.ensures.value ∙ ap (λ (x : Box Node Global). x.value) c.in-Positional.node-is))
     (shape_of-Positional _ _ _) c.seek_positional.ensures
 
+pub seek-returns-in-Synonym-clause-sought : goal.seek-returns-in-Synonym-clause-sought
+seek-returns-in-Synonym-clause-sought g t c =
+    sought_along c.args.index.now c.args.target c.args.need _ _ _ _ _ _ _ _ _
+    (synonym_shape c.args.node.now c.in-Synonym.scheme c.in-Synonym.factor c.in-Synonym.below c.in-Synonym.node _ _ _ _ c.in-Synonym.is c.in-Synonym.scheme-is c.in-Synonym.factor-is c.in-Synonym.below-is (c.deref_mut-in-Synonym.ensures.value ∙ ap (λ (x : Box Node Global). x.value) c.in-Synonym.node-is))
+    (shape_of-Synonym _ _ _ _) c.seek_synonym.ensures.sought
+
 pub seek-returns-in-Pair-clause-accounts : goal.seek-returns-in-Pair-clause-accounts
 seek-returns-in-Pair-clause-accounts g t c =
     seek_along c.args.index.now c.args.target c.args.need c.args.spent.now c.seek_sides.new.spent _ _ _ _ _
@@ -123,6 +131,12 @@ seek-returns-in-Positional-clause-accounts g t c =
     seek_along c.args.index.now c.args.target c.args.need c.args.spent.now c.seek_positional.new.spent _ _ _ _ _
     (positional_shape c.args.node.now c.in-Positional.test c.in-Positional.below c.in-Positional.node _ _ _ c.in-Positional.is c.in-Positional.test-is c.in-Positional.below-is (c.deref_mut-in-Positional.ensures.value ∙ ap (λ (x : Box Node Global). x.value) c.in-Positional.node-is))
     (shape_of-Positional _ _ _) (seek_other c.args.index.now c.args.target c.args.need c.args.spent.now c.seek_positional.new.spent (positional _ _ _) (positional _ _ _) _ (λ h. h) (λ h. h) (λ h. h) (λ h. h) (λ h. h) (λ greatest first h. h))
+
+pub seek-returns-in-Synonym-clause-accounts : goal.seek-returns-in-Synonym-clause-accounts
+seek-returns-in-Synonym-clause-accounts g t c =
+    seek_along c.args.index.now c.args.target c.args.need c.args.spent.now c.seek_synonym.new.spent _ _ _ _ _
+    (synonym_shape c.args.node.now c.in-Synonym.scheme c.in-Synonym.factor c.in-Synonym.below c.in-Synonym.node _ _ _ _ c.in-Synonym.is c.in-Synonym.scheme-is c.in-Synonym.factor-is c.in-Synonym.below-is (c.deref_mut-in-Synonym.ensures.value ∙ ap (λ (x : Box Node Global). x.value) c.in-Synonym.node-is))
+    (shape_of-Synonym _ _ _ _) (seek_some c.args.index.now c.args.target c.args.need c.args.spent.now c.seek_synonym.new.spent (synonym _ _ _ _) (synonym _ _ _ _) _ (λ h. h) (λ h. h) (λ greatest first h. h) c.seek_synonym.ensures.accounts)
 
 -- ---- two sides
 
@@ -425,6 +439,64 @@ reach_all-returns-clause-spends g t c = record {
   counted = omega arith;
   later = omega arith;
 }
+
+-- ---- sums of wdfs
+
+pub seek_synonym-weigh-requires-clause-within : goal.seek_synonym-weigh-requires-clause-within
+seek_synonym-weigh-requires-clause-within g t c = weight_le c.args.index.now c.reach.new.top (shape_of c.reach.new.node) c.reach.ensures.sought.lands.top
+
+pub seek_synonym-returns-in-Some-clause-sought : goal.seek_synonym-returns-in-Some-clause-sought
+seek_synonym-returns-in-Some-clause-sought g t c =
+    let i = c.args.index.now in
+    let sought = c.reach.ensures.sought in
+    let covers =
+    sums_covers c.args.scheme c.args.factor c.args.need c.in-Some.wdf c.in-Some.ensures.least i c.args.target c.args.below.now c.reach.new.top (shape_of c.args.node.now) (shape_of c.reach.new.node) c.requires.synonym
+    (subst (λ n. Covers (from_on c.args.target (rest i (shape_of c.args.node.now))) (rest i (shape_of c.reach.new.node)) n) c.from.ensures sought.lands.covers) in
+    let top = c.weigh.ensures.top i (shape_of c.reach.new.node) sought.lands.top in
+    record {
+      lands = record {
+        top = top;
+        sound = record { top = sought.lands.top; sound = sought.lands.sound; bounded = c.requires.synonym.bounded; small = omega (arith, sought.falls, c.requires.synonym.small) };
+        covers = covers;
+        reached = head_reached c.args.target c.args.need _ _ _ _ covers top.head c.requires.target;
+      };
+      falls = let less = weigh_more c.args.factor c.args.scheme c.reach.new.top.greatest c.args.below.now.greatest sought.falls in omega (arith, c.weigh.ensures.bound, less);
+      smaller = omega (arith, sought.smaller);
+      spends = sought.spends;
+    }
+
+pub seek_synonym-returns-in-Some-clause-accounts : goal.seek_synonym-returns-in-Some-clause-accounts
+seek_synonym-returns-in-Some-clause-accounts g t c =
+    let i = c.args.index.now in
+    sums_accounts c.args.scheme c.args.factor c.args.need c.in-Some.wdf c.in-Some.ensures.least c.in-Some.ensures.wdf c.in-Some.ensures.enough i c.args.target c.args.spent.now c.reach.new.spent c.args.below.now c.reach.new.top (shape_of c.args.node.now) (shape_of c.reach.new.node) c.requires.synonym
+    (subst (λ n. Accounts i c.args.target n c.args.spent.now c.reach.new.spent (shape_of c.args.node.now) (shape_of c.reach.new.node)) c.from.ensures c.reach.ensures.accounts.all)
+
+pub seek_synonym-returns-in-None-clause-sought : goal.seek_synonym-returns-in-None-clause-sought
+seek_synonym-returns-in-None-clause-sought g t c =
+    let i = c.args.index.now in
+    let gone = ap shape_of c.give_up.ensures.node ∙ shape_of-Nothing in
+    record {
+      lands = record {
+        top =
+            subst (λ (u : Top). IsTop i u (synonym c.args.scheme c.args.factor c.give_up.new.top (shape_of c.give_up.new.node))) (sym c.ended.ensures)
+            (sums_ended i c.args.scheme c.args.factor c.give_up.new.top (shape_of c.give_up.new.node) (subst (λ (s : Shape). IsTop i c.give_up.new.top s) (sym gone) (subst (λ (u : Top). IsTop i u ended) (sym c.give_up.ensures.top) (ended_top i))) (omega (arith, ap (λ (u : Top). u.head) c.give_up.ensures.top)));
+        sound = record {
+          top = subst (λ (s : Shape). IsTop i c.give_up.new.top s) (sym gone) (subst (λ (u : Top). IsTop i u ended) (sym c.give_up.ensures.top) (ended_top i));
+          sound = subst (λ (s : Shape). Sound i s) (sym gone) tt;
+          bounded = c.requires.synonym.bounded;
+          small = omega (arith, ap (λ (u : Top). u.greatest) c.give_up.ensures.top);
+        };
+        covers = sums_light i c.args.scheme c.args.factor c.args.need c.in-None.ensures.least c.args.target c.args.below.now c.give_up.new.top (shape_of c.args.node.now) (shape_of c.give_up.new.node) c.requires.synonym gone;
+        reached = omega (arith, ap (λ (u : Top). u.head) c.ended.ensures, c.requires.target);
+      };
+      falls = omega (arith, ap (λ (u : Top). u.greatest) c.ended.ensures);
+      smaller = omega (arith, ap size_of gone, size_some (shape_of c.args.node.now));
+      spends = record { paid = omega (arith, ap (unread_of i) gone); counted = omega arith; later = omega arith };
+    }
+
+pub seek_synonym-returns-in-None-clause-accounts : goal.seek_synonym-returns-in-None-clause-accounts
+seek_synonym-returns-in-None-clause-accounts g t c =
+    sums_gone c.args.index.now c.args.target c.args.need c.args.spent.now c.args.scheme c.args.factor c.args.below.now c.give_up.new.top (shape_of c.args.node.now) (shape_of c.give_up.new.node) (ap shape_of c.give_up.ensures.node ∙ shape_of-Nothing)
 
 -- ---- a test
 

@@ -84,6 +84,9 @@ decreases-seek_xor_many-all g l = 2 ^ 32 - l.from
 abbrev pub decreases-seek_positional : goal.decreases-seek_positional
 decreases-seek_positional g l = 5 * size_of (shape_of l.node.now) + 4
 
+abbrev pub decreases-seek_synonym : goal.decreases-seek_synonym
+decreases-seek_synonym g l = 5 * size_of (shape_of l.node.now) + 4
+
 abbrev pub invariant-seek_positional-tests : goal.invariant-seek_positional-tests
 invariant-seek_positional-tests g l = record {
   far : TestSoFar l.index l.target l.need l.from l.fn.test l.fn.below (shape_of l.fn.node) l.test l.below (shape_of l.node);

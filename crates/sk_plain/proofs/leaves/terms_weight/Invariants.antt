@@ -6,4 +6,4 @@ use Rattle.sk_plain.proofs.leaves.terms_weight.Given as goal
 abbrev pub invariant-words : goal.invariant-words
 invariant-words l =
     (l.sum + terms_weight l.scheme l.factor (drop l.word-index l.words) l.terms ≡ terms_weight l.scheme l.factor l.words l.terms)
-    × (l.sum + length (drop l.word-index l.words) * 2 ^ 45 ≤ length l.words * 2 ^ 45)
+    × (l.sum + length (drop l.word-index l.words) * 2 ^ 74 ≤ length l.words * 2 ^ 74)

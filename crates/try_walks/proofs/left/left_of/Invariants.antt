@@ -1,5 +1,5 @@
 use Rattle.std.proofs.Common.{◌≤◌}
-use Rattle.sk_nodes.specs.Built.{IsTree}
+use Rattle.sk_tree.specs.Built.{IsTree}
 use Rattle.try_walks.proofs.left.left_of.Given as goal
 
 abbrev pub invariant-walk : goal.invariant-walk

@@ -1,12 +1,10 @@
-use Rattle.std.proofs.Common.{◌≡◌, ◌≤◌, ℕ, true, false, subst, sym, refl}
+use Rattle.std.proofs.Common.{◌≡◌, ◌≤◌, ℕ, true, false, subst, sym, refl, ap, ◌∙◌, arith}
 use Rattle.sk_lists.specs.Lists.{Runs}
 use Rattle.sk_lists.specs.Seeks.{PassesPostings}
 use Rattle.sk_lists.specs.Cursor.{left, IsOn}
 use Rattle.sk_nodes.specs.declared.leaf.Leaf.{Leaf}
-use Rattle.sk_nodes.specs.Leaves.{runs_of}
-use Rattle.sk_nodes.specs.Leaves.{leaf_rest}
+use Rattle.sk_nodes.specs.Leaves.{runs_of, leaf_rest}
 use Rattle.sk_nodes.proofs.LeafLaws.{sought_covers, head_of-reached, leaf_moved, head_is_below, AtMost-covers}
-use Rattle.std.proofs.Common.{ap, ◌∙◌, arith}
 use Rattle.sk_chunks.specs.Postings.{Postings, is_below}
 use Rattle.sk_nodes.proofs.WalkLaws.{head_below, goes_on, fewer_to, fewer_behind, one_passed}
 use Rattle.sk_nodes.proofs.leaf.Leaf.advance.Goals as goal

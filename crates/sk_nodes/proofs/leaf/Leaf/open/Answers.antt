@@ -7,8 +7,7 @@ use Rattle.sk_lists.specs.Cursor.{left, unread, IsOn}
 use Rattle.sk_nodes.specs.declared.leaf.Leaf.{Leaf}
 use Rattle.sk_nodes.specs.Leaves.{list_in, weighed, leaf_greatest}
 use Rattle.sk_nodes.proofs.ListLaws.{leaf_opened}
-use Rattle.sk_nodes.proofs.LedLaws.{begun_lone}
-use Rattle.sk_nodes.proofs.OpenedFadingLaws.{leaf_begins}
+use Rattle.sk_nodes.proofs.BegunLaws.{begun_lone, leaf_begins}
 use Rattle.sk_nodes.proofs.leaf.Leaf.open.Goals as goal
 
 pub returns-clause-yields : goal.returns-clause-yields

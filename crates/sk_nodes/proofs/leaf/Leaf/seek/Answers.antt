@@ -1,14 +1,12 @@
-use Rattle.std.proofs.Common.{◌≤◌, subst, sym, refl}
+use Rattle.std.proofs.Common.{◌≤◌, subst, sym, refl, ap, ◌∙◌, arith}
 use Rattle.sk_lists.specs.Lists.{Runs}
 use Rattle.sk_lists.specs.Seeks.{PassesPostings}
 use Rattle.sk_lists.specs.Cursor.{left, IsOn}
 use Rattle.sk_nodes.specs.declared.leaf.Leaf.{Leaf}
-use Rattle.sk_nodes.specs.Leaves.{runs_of}
+use Rattle.sk_nodes.specs.Leaves.{runs_of, head_of}
 use Rattle.sk_nodes.proofs.LeafLaws.{sought_covers, head_of-reached, leaf_moved}
-use Rattle.std.proofs.Common.{ap, ◌∙◌, arith}
 use Rattle.sk_chunks.specs.Postings.{is_below}
 use Rattle.sk_lists.specs.declared.cursor.Cursor.{Cursor}
-use Rattle.sk_nodes.specs.Leaves.{head_of}
 use Rattle.sk_nodes.proofs.WalkLaws.{head_below, goes_on, fewer_to, fewer_behind, one_passed}
 use Rattle.sk_nodes.proofs.leaf.Leaf.seek.Goals as goal
 

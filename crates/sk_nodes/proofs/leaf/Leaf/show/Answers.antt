@@ -1,8 +1,7 @@
 -- What is written is what the entry at the cursor says.
 use Rattle.std.proofs.Common.{refl, ap, ◌∙◌}
 use Rattle.sk_model.specs.Weights.{weigh_by}
-use Rattle.sk_nodes.specs.Leaves.{runs_of}
-use Rattle.sk_nodes.specs.Leaves.{entries_of}
+use Rattle.sk_nodes.specs.Leaves.{runs_of, entries_of}
 use Rattle.sk_nodes.proofs.LeafLaws.{leaf_shown, head_of-Some}
 use Rattle.sk_nodes.proofs.leaf.Leaf.show.Goals as goal
 

@@ -1,0 +1,16 @@
+pub mod TreeLaws
+pub mod CountLaws
+pub mod OpenLaws
+pub mod SynonymLaws
+pub mod ProximityOpenLaws
+pub mod WordLaws
+pub mod NestLaws
+pub mod PartsLaws
+pub mod FormLaws
+pub mod OrManyOpenLaws
+pub mod LedLaws
+pub mod OpenedFadingLaws
+pub mod OpenedQueryLaws
+pub mod RangeOpenLaws
+pub mod SideLaws
+pub mod TermLaws

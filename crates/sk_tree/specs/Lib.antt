@@ -1,0 +1,12 @@
+pub mod Built
+pub mod Opened
+pub mod Parts
+pub mod OpenedLed
+pub mod Stops
+pub mod Rare
+pub mod OpenedFading
+pub mod Decays
+pub mod Kept
+pub mod OpenedAccounts
+pub mod Nests
+pub mod Readings

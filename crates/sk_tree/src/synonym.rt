@@ -1,0 +1,205 @@
+//! How the node of terms that count as one is opened: those of a synonym, and those that begin with a prefix.
+ghost use Rattle.std.specs.Prelude.{◌≡◌, ◌≤◌, ◌<◌, ◌+◌, ◌-◌, ◌^◌, ℕ, true, map, ◌++◌, min, IfOk, length, Option};
+ghost use Rattle.sk_base.specs.declared.find.Scheme.{Scheme};
+ghost use Rattle.sk_base.specs.Numbers.{terms_with};
+ghost use Rattle.sk_dict.specs.Terms.{term_at};
+ghost use Rattle.sk_query.specs.declared.form.Form.TheVariants as Form;
+ghost use Rattle.sk_query.specs.Trees as QueryTree;
+ghost use Rattle.sk_query.specs.Trees.{query_view};
+ghost use Rattle.sk_query.specs.Fits.{are_different};
+ghost use Rattle.sk_model.specs.Weights.{weigh_by};
+ghost use Rattle.sk_model.specs.Bounds.{ceil, lengths_of};
+ghost use Rattle.sk_model.specs.Allowance.{leaf_readings};
+ghost use Rattle.sk_index.specs.Indexed.{Indexed};
+ghost use Rattle.sk_tree.specs.Readings.{Pays, CountsReadings};
+ghost use Rattle.sk_nodes.specs.Shapes.{shape_of};
+ghost use Rattle.sk_nodes.specs.Left.{unread_of};
+ghost use Rattle.sk_tree.specs.Nests.{OpensAsOne, OpensNest, OpensFlat};
+ghost use Rattle.sk_nodes.specs.Proximity.{AreThere};
+ghost use Rattle.sk_tree.specs.Parts.{NumberHalves};
+ghost use Rattle.sk_tree.specs.Opened.{CanOpen, IsPart, score_of, synonym_of, wdfs_of, Opens};
+
+use crate::opening::open_numbered;
+use crate::words::numbers_of;
+use sk_base::{MOST_WDF, Scheme, Text, Weight};
+use sk_index::Index;
+use sk_nodes::{Node, Top, pair_of, synonym_over};
+use sk_query::{Form, Query};
+use sk_steps::Steps;
+use sk_weight::ceil;
+use std::alloc::{AllocError, Global};
+use std::sync::ledger::Ledger;
+
+/// The node of a synonym, which weighs no more than a synonym can.
+pub(crate) fn open_synonym<L: Ledger>(
+    alloc: Global,
+    index: &Index,
+    query: &Query,
+    words: &[Text],
+    scheme: Scheme,
+    factor: u64,
+    most: &mut u128,
+    spent: &mut u128,
+    steps: &mut Steps<L>,
+) -> Result<(Top, Node), AllocError>
+    requires is { query_view query.now ≡ QueryTree.synonym words.now }
+    requires can { CanOpen index.now factor spent.old most.old }
+    requires part { IsPart factor (query_view query.now) }
+    ensures opens { IfOk result (λ p. Opens index.now p.0 (shape_of p.1) (score_of (query_view query.now) scheme factor) (ceil (query_view query.now) scheme factor index.now.live.documents)) }
+    ensures pays { IfOk result (λ p. Pays spent.old spent.new most.old most.new (unread_of index.now (shape_of p.1)) (lengths_of words.now index.now.live.documents)) }
+    ensures counts { CountsReadings spent.old spent.new steps.old steps.new most.new }
+    ensures flat { IfOk result (λ p. OpensFlat index.now (shape_of p.1) words.now spent.old spent.new) }
+{
+    let numbers = numbers_of(alloc, index, words)?;
+    let (top, node) = open_joint(
+        alloc,
+        index,
+        numbers.as_slice(),
+        scheme,
+        factor,
+        most,
+        spent,
+        steps,
+    )?;
+    let bound = ceil(index, query, scheme, factor);
+    Ok((capped(top, bound), node))
+}
+
+/// The node of all terms that begin with a prefix, which weighs no more than a wildcard can.
+pub(crate) fn open_wildcard<L: Ledger>(
+    alloc: Global,
+    index: &Index,
+    query: &Query,
+    prefix: &Text,
+    scheme: Scheme,
+    factor: u64,
+    most: &mut u128,
+    spent: &mut u128,
+    steps: &mut Steps<L>,
+) -> Result<(Top, Node), AllocError>
+    requires is { query_view query.now ≡ QueryTree.wildcard prefix.now }
+    requires can { CanOpen index.now factor spent.old most.old }
+    requires part { IsPart factor (query_view query.now) }
+    ensures opens { IfOk result (λ p. Opens index.now p.0 (shape_of p.1) (score_of (query_view query.now) scheme factor) (ceil (query_view query.now) scheme factor index.now.live.documents)) }
+    ensures pays { IfOk result (λ p. Pays spent.old spent.new most.old most.new (unread_of index.now (shape_of p.1)) (leaf_readings (QueryTree.wildcard prefix.now) index.now.live.documents)) }
+    ensures counts { CountsReadings spent.old spent.new steps.old steps.new most.new }
+    ensures flat { IfOk result (λ p. OpensFlat index.now (shape_of p.1) (terms_with prefix.now index.now.live.documents) spent.old spent.new) }
+{
+    let numbers = index.with_prefix(prefix.as_str().as_bytes())?;
+    let (top, node) = open_joint(
+        alloc,
+        index,
+        numbers.as_slice(),
+        scheme,
+        factor,
+        most,
+        spent,
+        steps,
+    )?;
+    let bound = ceil(index, query, scheme, factor);
+    Ok((capped(top, bound), node))
+}
+
+/// The node of terms that count as one, by their numbers: the leaf of one alone; of more their sums of wdfs, weighed.
+fn open_joint<L: Ledger>(
+    alloc: Global,
+    index: &Index,
+    numbers: &[usize],
+    scheme: Scheme,
+    factor: u64,
+    most: &mut u128,
+    spent: &mut u128,
+    steps: &mut Steps<L>,
+) -> Result<(Top, Node), AllocError>
+    requires there { AreThere index.now numbers.now }
+    requires apart { are_different (map (term_at index.now.terms) numbers.now) ≡ true }
+    requires can { CanOpen index.now factor spent.old most.old }
+    ensures opens { IfOk result (λ p. Opens index.now p.0 (shape_of p.1) (score_of (synonym_of index.now numbers.now) scheme factor) (weigh_by factor scheme (2 ^ 29 - 1))) }
+    ensures pays { IfOk result (λ p. Pays spent.old spent.new most.old most.new (unread_of index.now (shape_of p.1)) (lengths_of (map (term_at index.now.terms) numbers.now) index.now.live.documents)) }
+    ensures counts { CountsReadings spent.old spent.new steps.old steps.new most.new }
+    ensures flat { IfOk result (λ p. OpensAsOne index.now (shape_of p.1) (map (term_at index.now.terms) numbers.now) spent.old spent.new) }
+{
+    if numbers.len() == 1 {
+        return open_one(index, numbers, scheme, factor, most, spent, steps);
+    }
+    let (below, node) = open_sums(alloc, index, numbers, most, spent, steps)?;
+    let (top, node) = synonym_over(alloc, scheme, factor, below, node)?;
+    Ok((top, node))
+}
+
+/// The node that gives the sums of wdfs of terms, by their numbers: of two halves, so that a document is looked for in few of
+/// them.
+#[cycle(open_sums)]
+fn open_sums<L: Ledger>(
+    alloc: Global,
+    index: &Index,
+    numbers: &[usize],
+    most: &mut u128,
+    spent: &mut u128,
+    steps: &mut Steps<L>,
+) -> Result<(Top, Node), AllocError>
+    requires there { AreThere index.now numbers.now }
+    requires apart { are_different (map (term_at index.now.terms) numbers.now) ≡ true }
+    requires can { CanOpen index.now 1 spent.old most.old }
+    ensures opens { IfOk result (λ p. Opens index.now p.0 (shape_of p.1) (wdfs_of index.now numbers.now) (2 ^ 29 - 1)) }
+    ensures pays { IfOk result (λ p. Pays spent.old spent.new most.old most.new (unread_of index.now (shape_of p.1)) (lengths_of (map (term_at index.now.terms) numbers.now) index.now.live.documents)) }
+    ensures counts { CountsReadings spent.old spent.new steps.old steps.new most.new }
+    ensures nest { IfOk result (λ p. OpensNest index.now Form.Or (shape_of p.1) (map (term_at index.now.terms) numbers.now) spent.old spent.new) }
+{
+    if numbers.is_empty() {
+        return Ok((Top::ended(), Node::Nothing));
+    }
+    if numbers.len() == 1 {
+        return open_one(index, numbers, Scheme::Nnn, 1, most, spent, steps);
+    }
+    let (front, back) = number_halves(numbers);
+    let (ta, a) = open_sums(alloc, index, front, most, spent, steps)?;
+    let (tb, b) = open_sums(alloc, index, back, most, spent, steps)?;
+    let (top, node) = pair_of(alloc, index, Form::Or, ta, a, tb, b, spent, steps)?;
+    Ok((capped(top, Weight::from(MOST_WDF)), node))
+}
+
+/// The leaf of the one term.
+fn open_one<L: Ledger>(
+    index: &Index,
+    numbers: &[usize],
+    scheme: Scheme,
+    factor: u64,
+    most: &mut u128,
+    spent: &mut u128,
+    steps: &mut Steps<L>,
+) -> Result<(Top, Node), AllocError>
+    requires one { length numbers.now ≡ 1 }
+    requires there { AreThere index.now numbers.now }
+    requires can { CanOpen index.now factor spent.old most.old }
+    ensures opens { IfOk result (λ p. Opens index.now p.0 (shape_of p.1) (score_of (synonym_of index.now numbers.now) scheme factor) (weigh_by factor scheme (2 ^ 29 - 1))) }
+    ensures pays { IfOk result (λ p. Pays spent.old spent.new most.old most.new (unread_of index.now (shape_of p.1)) (lengths_of (map (term_at index.now.terms) numbers.now) index.now.live.documents)) }
+    ensures counts { CountsReadings spent.old spent.new steps.old steps.new most.new }
+    ensures nest { IfOk result (λ p. OpensNest index.now Form.Or (shape_of p.1) (map (term_at index.now.terms) numbers.now) spent.old spent.new) }
+{
+    let number = numbers[0];
+    let (top, node) = open_numbered(index, number, scheme, factor, most, spent, steps)?;
+    Ok((top, node))
+}
+
+/// The two halves.
+fn number_halves(numbers: &[usize]) -> (&[usize], &[usize])
+    requires { 2 ≤ length numbers.now }
+    ensures { (i : Indexed) → AreThere i numbers.now → are_different (map (term_at i.terms) numbers.now) ≡ true → NumberHalves i numbers.now result.0.now result.1.now }
+{
+    let count = numbers.len();
+    numbers.split_at(count / 2)
+}
+
+/// A top that can weigh no more than this.
+fn capped(top: Top, bound: Weight) -> Top
+    ensures head { result.head ≡ top.head }
+    ensures weight { result.weight ≡ top.weight }
+    ensures greatest { result.greatest ≡ min top.greatest bound }
+{
+    Top {
+        head: top.head,
+        weight: top.weight,
+        greatest: top.greatest.min(bound),
+    }
+}
