@@ -18,6 +18,7 @@ HERE = os.path.dirname(os.path.realpath(__file__))
 SCHEMA = {
     "schema": [
         {"name": "body", "kind": "text"},
+        {"name": "lang", "kind": "filter", "prefix": "L"},
         {"name": "site", "kind": "word", "slot": 0},
         {"name": "year", "kind": "number", "slot": 1},
     ]
@@ -37,6 +38,9 @@ def leaf(picks):
             {"term": b},
             {"all": []},
             {"wildcard": "a"},
+            {"term": picks.choice(["Len", "Lfr"])},
+            {"wildcard": "L"},
+            {"synonym": ["Len", a]},
             {"range": [1, picks.choice([None, 3]), picks.choice([None, 7])]},
             {"synonym": sorted({a, b, c})},
             {"near": [picks.randint(1, 5), a, b]},
@@ -50,7 +54,7 @@ def tree(picks, depth):
     if depth == 0 or picks.random() < 0.3:
         return leaf(picks)
     if picks.random() < 0.1:
-        return {"scale": [picks.randint(0, 3), tree(picks, depth - 1)]}
+        return {"scale": [picks.choice([0, 1, 2, 3, 40]), tree(picks, depth - 1)]}
     form = picks.choice(["and", "or", "or", "xor", "max", "and_not", "and_maybe", "filter"])
     return {form: [tree(picks, depth - 1) for _ in range(picks.randint(2, 3))]}
 
@@ -87,11 +91,11 @@ def options(picks, fields):
     """Random options of a find, by these fields that have slots."""
     find = {}
     for name, chance, value in [
-        ("scheme", 0.5, lambda: picks.choice(["bool", "coord", "nnn"])),
+        ("scheme", 0.5, lambda: picks.choice(["bool", "coord", "nnn", "bnn", "snn"])),
         ("size", 0.7, lambda: picks.randint(0, 6)),
         ("first", 0.3, lambda: picks.randint(0, 4)),
         ("check", 0.3, lambda: picks.randint(0, 20)),
-        ("cutoff", 0.3, lambda: picks.randint(0, 4)),
+        ("cutoff", 0.3, lambda: picks.choice([0, 1, 2, 3, 4, 9, 25])),
         ("ids", 0.4, lambda: picks.choice(["rising", "falling"])),
     ]:
         if picks.random() < chance:
@@ -126,6 +130,8 @@ def commands(picks, texts=STEMMED):
     for number in range(picks.randint(5, 60) if picks.random() < 0.8 else picks.randint(200, 600)):
         words = picks.choices("abcde", [5, 3, 2, 1, 1], k=picks.randint(0, 8))
         record = {"body": " ".join([*words, *picks.choices(FORMS, k=picks.randint(0, 3))])}
+        if picks.random() < 0.8:
+            record["lang"] = picks.choice(["en", "fr", ["en", "fr"]])
         if picks.random() < 0.8:
             record["site"] = picks.choice(["x", "y", "z", ""])
         if picks.random() < 0.8:

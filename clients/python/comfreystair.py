@@ -617,7 +617,8 @@ class Index:
         """A page of the documents that match a query text, or a query tree.
 
         op: "or" or "and", between the words of a text.
-        scheme: "nnn" (how often the words occur), "coord" (1 each) or "bool" (0).
+        scheme: "nnn" (how often the words occur), "snn" (the square of that), "bnn" (1, and 0 for a filter's text),
+            "coord" (1 each) or "bool" (0).
         first, size: the page's first rank, from 0, and its length, 10 where it is not said.
         check: where no more than so many match, they are counted exactly; EVERY counts exactly always.
         order, by, reverse: "value", "value_relevance" or "relevance_value", and the number or word field whose values

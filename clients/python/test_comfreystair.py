@@ -110,6 +110,9 @@ class Sessions(unittest.TestCase):
         self.assertEqual([tuple(hit)[3:] for hit in index.find("red", collapse="site")], [(1, "1990"), (0, "2000")])
         self.assertEqual(len(index.find("red", collapse="site", max=2)), 3)
         self.assertEqual([hit.weight for hit in index.find("red", scheme="coord")], [1, 1, 1])
+        self.assertEqual([hit.weight for hit in index.find("red", scheme="bnn")], [1, 1, 1])
+        self.assertEqual([hit.weight for hit in index.find("red", scheme="snn")], [4, 4, 4])
+        self.assertEqual(index.find({"scale": [65536, {"term": "red"}]}, scheme="snn").max, 262_144)
         self.assertEqual(len(index.find("red", cutoff=3)), 0)
         self.assertEqual(len(index.find("red owl", op="and")), 0)
         self.assertEqual(index.find({"term": "red"}), index.find("red"))
@@ -234,7 +237,7 @@ class Sessions(unittest.TestCase):
             return line, now(lambda: index.facets(asked, by, op="or", size=size)), ""
         options = {}
         for name, value in (
-            ("scheme", picks.choice(["bool", "coord", "nnn", "tf"])),
+            ("scheme", picks.choice(["bool", "coord", "nnn", "bnn", "snn", "tf"])),
             ("first", picks.choice([0, 1, 3, 100_000])),
             ("size", picks.choice([0, 1, 10, 100])),
             ("check", picks.choice([0, 5, EVERY, -1])),
