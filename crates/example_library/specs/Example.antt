@@ -13,10 +13,10 @@ use Rattle.sk_query.specs.Trees.{Tree}
 use Rattle.sk_query_json.specs.Writing.{json_of}
 use Rattle.sk_grammar.specs.declared.fault.FaultKind.{FaultKind}
 use Rattle.sk_grammar.specs.Meaning.{query_meant}
-use Rattle.sk_model.specs.Edits.{Live, nothing_live, edited}
 use Rattle.sk_parser.specs.declared.asked.AskError.{AskError}
 use Rattle.sk_parser.specs.Asked.{text_asked}
 use Rattle.sk_run.specs.Asking.{TellsOfQuestion}
+use Rattle.sk_run.specs.Conducts.{Held, nothing_held, edited_held}
 use Rattle.sk_engine.specs.Sessions.{MayFind}
 
 -- The schema: one text, whose words are terms without a prefix, and count once; words are not stemmed.
@@ -27,19 +27,19 @@ bodies = record { fields = record { name = codes "body"; kind = FieldKind.Text [
 abbrev pub addition : List ℕ → List ℕ → Edit
 addition payload body = Edit.Add (record { values = record { field = 0; value = FieldValue.Text body } ∷ []; payload = payload })
 
--- The first of three documents, live; the first two; all three.
-abbrev pub one : Live
-one = edited bodies nothing_live (addition (codes "one") (codes "the red fox sleeps"))
+-- The first of three documents, live, in one part; the first two; all three.
+abbrev pub one : Held
+one = edited_held bodies (nothing_held 1) (addition (codes "one") (codes "the red fox sleeps"))
 
-abbrev pub two : Live
-two = edited bodies one (addition (codes "two") (codes "a fox and a red fox"))
+abbrev pub two : Held
+two = edited_held bodies one (addition (codes "two") (codes "a fox and a red fox"))
 
-abbrev pub three : Live
-three = edited bodies two (addition (codes "three") (codes "a brown hen"))
+abbrev pub three : Held
+three = edited_held bodies two (addition (codes "three") (codes "a brown hen"))
 
 -- What a find of a text is answered over live documents under a schema: a report of the first ten that the find may have, or the first fault of the text.
-abbrev pub Answers : Schema → Live → List ℕ → Result Report AskError → Type 0
-Answers schema live text answer = TellsOfQuestion (MayFind live default_paging) (text_asked schema Join.Or text) answer
+abbrev pub Answers : Schema → Held → List ℕ → Result Report AskError → Type 0
+Answers schema held text answer = TellsOfQuestion (MayFind held default_paging) (text_asked schema Join.Or text) answer
 
 -- The JSON of the query that a text means under a schema, or else its first fault, with the byte where that stands.
 abbrev pub json_meant : Schema → List ℕ → Result (List ℕ) (FaultKind × ℕ)

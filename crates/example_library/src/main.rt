@@ -4,7 +4,7 @@
 
 ghost use Rattle.std.specs.Prelude.{◌≡◌, ◌≤◌, ℕ, length, string_bytes, Ok, Err, IfOk};
 ghost use Rattle.sk_grammar.specs.declared.fault.FaultKind.{FaultKind};
-ghost use Rattle.sk_model.specs.Edits.{Live, edited};
+ghost use Rattle.sk_run.specs.Conducts.{Held, edited_held};
 ghost use Rattle.sk_parser.specs.declared.parsing.ParseError.TheVariants as ParseError;
 ghost use Rattle.sk_engine.specs.Sessions.{SessionHolds, schema_of};
 ghost use Rattle.example_library.specs.Example.{bodies, addition, three, Answers, json_meant};
@@ -56,7 +56,7 @@ fn addition(alloc: Global, payload: &str, body: &str) -> Result<Edit, AllocError
 fn after(session: Session, edit: Edit) -> Result<Session>
     requires { schema_of session ≡ bodies }
     ensures schema { IfOk result (λ more. schema_of more ≡ bodies) }
-    ensures live { IfOk result (λ more. (live : Live) → SessionHolds session live → SessionHolds more (edited bodies live edit)) }
+    ensures holds { IfOk result (λ more. (held : Held) → SessionHolds session held → SessionHolds more (edited_held bodies held edit)) }
 {
     ensure!(edit.fits(session.schema()), "no edit of this schema");
     let (session, _reply) = session.apply(edit)?;
@@ -67,7 +67,7 @@ fn after(session: Session, edit: Edit) -> Result<Session>
 fn add(alloc: Global, session: Session, payload: &str, body: &str) -> Result<Session>
     requires { schema_of session ≡ bodies }
     ensures schema { IfOk result (λ more. schema_of more ≡ bodies) }
-    ensures live { IfOk result (λ more. (live : Live) → SessionHolds session live → SessionHolds more (edited bodies live (addition payload.now body.now))) }
+    ensures holds { IfOk result (λ more. (held : Held) → SessionHolds session held → SessionHolds more (edited_held bodies held (addition payload.now body.now))) }
 {
     let edit = addition(alloc, payload, body)?;
     after(session, edit)
@@ -76,9 +76,9 @@ fn add(alloc: Global, session: Session, payload: &str, body: &str) -> Result<Ses
 /// A session with three documents.
 fn three_documents(alloc: Global) -> Result<Session>
     ensures schema { IfOk result (λ session. schema_of session ≡ bodies) }
-    ensures live { IfOk result (λ session. SessionHolds session three) }
+    ensures holds { IfOk result (λ session. SessionHolds session three) }
 {
-    let session = Session::new(alloc, schema(alloc)?)?;
+    let session = Session::new(alloc, schema(alloc)?, 1)?;
     let session = add(alloc, session, "one", "the red fox sleeps")?;
     let session = add(alloc, session, "two", "a fox and a red fox")?;
     add(alloc, session, "three", "a brown hen")
@@ -95,7 +95,7 @@ fn find<R: Env, L: Ledger>(
     requires parts { blank.parts ≡ L.parts }
     requires one { blank.parts ≡ 1 }
     requires short { length text ≤ 1048576 }
-    ensures { (live : Live) → SessionHolds session.now live → Answers (schema_of session.now) live text result }
+    ensures { (held : Held) → SessionHolds session.now held → Answers (schema_of session.now) held text result }
 {
     let mut steps = Steps::<L>::open(rt, blank);
     let find: Find<Value> = Find {

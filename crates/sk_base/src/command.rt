@@ -14,7 +14,8 @@ pub enum Question<T> {
 /// A command line that was understood, with query trees of the type `T`.
 #[derive(Debug, Drop)]
 pub enum Command<T> {
-    Schema(Schema),
+    /// A schema, and in how many parts the documents under it stand.
+    Schema(Schema, u32),
     Edit(Edit),
     Ask(Question<T>),
 }

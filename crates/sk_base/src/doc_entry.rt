@@ -1,5 +1,8 @@
 //! A term and a value of a document.
-use crate::{Bytes, Positions, Term};
+ghost use Rattle.std.specs.Prelude.{◌≡◌, IfOk};
+
+use crate::{Bytes, Positions, Term, Text};
+use std::alloc::{AllocError, Global};
 
 /// A term of a document.
 #[derive(Debug, Drop)]
@@ -17,4 +20,32 @@ pub struct SlotValue {
     pub slot: u32,
     /// At least one byte.
     pub value: Bytes,
+}
+
+impl DocTerm {
+    /// The same term once more.
+    pub fn copy(&self, alloc: Global) -> Result<DocTerm, AllocError>
+        ensures { IfOk result (λ copy. copy ≡ self.now) }
+    {
+        let term = Text::new(alloc, self.term.as_str())?;
+        let positions = self.positions.copy(alloc)?;
+        Ok(DocTerm {
+            term,
+            wdf: self.wdf,
+            positions,
+        })
+    }
+}
+
+impl SlotValue {
+    /// The same value once more.
+    pub fn copy(&self, alloc: Global) -> Result<SlotValue, AllocError>
+        ensures { IfOk result (λ copy. copy ≡ self.now) }
+    {
+        let value = Bytes::new(alloc, self.value.as_slice())?;
+        Ok(SlotValue {
+            slot: self.slot,
+            value,
+        })
+    }
 }

@@ -1,5 +1,5 @@
 //! The terms and the values of a document.
-ghost use Rattle.std.specs.Prelude.{◌≡◌, ◌<◌, [], ◌∷◌, ◌++◌, length, All, OnOk, OnErr};
+ghost use Rattle.std.specs.Prelude.{◌≡◌, ◌<◌, [], ◌∷◌, ◌++◌, length, All, IfOk, OnOk, OnErr};
 ghost use Rattle.sk_base.specs.Order.{Precedes};
 ghost use Rattle.sk_base.specs.Documents.{AreTerms, AreValues};
 
@@ -71,6 +71,18 @@ impl DocTerms {
         Ok(())
     }
 
+    /// The same terms once more.
+    pub fn copy(&self, alloc: Global) -> Result<DocTerms, AllocError>
+        ensures { IfOk result (λ copy. copy ≡ self.now) }
+    {
+        let mut items = Vec::new(alloc);
+        'terms: for term in self.items.as_slice() {
+            let copy = term.copy(alloc)?;
+            items.push(copy)?;
+        }
+        Ok(DocTerms { items })
+    }
+
     pub fn as_slice(&self) -> &[DocTerm]
         ensures value { result.now ≡ self.now }
         ensures rising { AreTerms self.now }
@@ -106,6 +118,18 @@ impl SlotValues {
     {
         self.items.push(item)?;
         Ok(())
+    }
+
+    /// The same values once more.
+    pub fn copy(&self, alloc: Global) -> Result<SlotValues, AllocError>
+        ensures { IfOk result (λ copy. copy ≡ self.now) }
+    {
+        let mut items = Vec::new(alloc);
+        'values: for value in self.items.as_slice() {
+            let copy = value.copy(alloc)?;
+            items.push(copy)?;
+        }
+        Ok(SlotValues { items })
     }
 
     pub fn as_slice(&self) -> &[SlotValue]

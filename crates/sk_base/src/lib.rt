@@ -31,7 +31,7 @@ pub use find::{
     Ask, Collapse, Find, Join, Options, Paging, Scheme, default_options, default_paging,
 };
 pub use items::Items;
-pub use limits::{MOST_FIELDS, MOST_HITS, MOST_LEAVES, MOST_TERM, MOST_TEXT, MOST_WDF};
+pub use limits::{MOST_FIELDS, MOST_HITS, MOST_LEAVES, MOST_PARTS, MOST_TERM, MOST_TEXT, MOST_WDF};
 pub use operands::Operands;
 pub use positions::Positions;
 pub use rank::{Order, OrderBy, Rank, SortKey, total_order};

@@ -17,3 +17,6 @@ pub const MOST_TERM: usize = 64;
 
 /// How many leaves a query has at most.
 pub const MOST_LEAVES: usize = 1_024;
+
+/// In how many parts the documents under a schema stand at most.
+pub const MOST_PARTS: u32 = 16;

@@ -1,5 +1,5 @@
 //! The places of a term in a document.
-ghost use Rattle.std.specs.Prelude.{◌≡◌, ◌<◌, [], ◌∷◌, ◌++◌, All, OnOk, OnErr};
+ghost use Rattle.std.specs.Prelude.{◌≡◌, ◌<◌, [], ◌∷◌, ◌++◌, All, IfOk, OnOk, OnErr};
 ghost use Rattle.sk_base.specs.Order.{ArePositions};
 
 use std::alloc::{AllocError, Global};
@@ -40,6 +40,14 @@ impl Positions {
     {
         self.items.push(item)?;
         Ok(())
+    }
+
+    /// The same places once more.
+    pub fn copy(&self, alloc: Global) -> Result<Positions, AllocError>
+        ensures { IfOk result (λ copy. copy ≡ self.now) }
+    {
+        let items = self.items.as_slice().to_vec(alloc)?;
+        Ok(Positions { items })
     }
 
     pub fn as_slice(&self) -> &[u32]

@@ -1,11 +1,12 @@
 //! The fields of a document.
-ghost use Rattle.std.specs.Prelude.{◌≡◌, ◌≤◌, length, not, Some, None, if◌then◌else◌};
+ghost use Rattle.std.specs.Prelude.{◌≡◌, ◌≤◌, length, not, Some, None, IfOk, if◌then◌else◌};
 ghost use Rattle.std.specs.List.{list_all};
 ghost use Rattle.std.specs.Char.{is_ascii_uppercase};
 ghost use Rattle.sk_base.specs.Names.{is_name, is_name_byte, is_prefix};
 ghost use Rattle.sk_base.specs.Fields.{IsSchema, is_field, are_fields, are_apart, clash, place_of};
 
 use crate::{Items, Term, Text};
+use std::alloc::{AllocError, Global};
 use std::marker::Model;
 
 /// A field of a schema.
@@ -76,6 +77,21 @@ impl Schema {
         self.stem
     }
 
+    /// The same schema once more.
+    pub fn copy(&self, alloc: Global) -> Result<Schema, AllocError>
+        ensures { IfOk result (λ copy. copy ≡ self.now) }
+    {
+        let mut fields = Vec::new(alloc);
+        'fields: for field in self.fields.as_slice() {
+            let copy = field.copy(alloc)?;
+            fields.push(copy)?;
+        }
+        Ok(Schema {
+            fields: Items::from_vec(fields),
+            stem: self.stem,
+        })
+    }
+
     /// The place of the field with this name, from 0.
     pub fn find(&self, name: &str) -> Option<usize>
         ensures { result ≡ place_of name.now self.now.fields }
@@ -88,6 +104,14 @@ impl Schema {
 }
 
 impl Field {
+    fn copy(&self, alloc: Global) -> Result<Field, AllocError>
+        ensures { IfOk result (λ copy. copy ≡ self.now) }
+    {
+        let name = Text::new(alloc, self.name.as_str())?;
+        let kind = self.kind.copy(alloc)?;
+        Ok(Field { name, kind })
+    }
+
     fn is_sound(&self) -> bool
         ensures { result ≡ is_field self.now }
     {
@@ -126,6 +150,23 @@ impl FieldKind {
             FieldKind::Filter(_) => None,
             FieldKind::Number(slot) => Some(*slot),
             FieldKind::Word(slot) => Some(*slot),
+        }
+    }
+
+    fn copy(&self, alloc: Global) -> Result<FieldKind, AllocError>
+        ensures { IfOk result (λ copy. copy ≡ self.now) }
+    {
+        match self {
+            FieldKind::Text(prefix, step) => {
+                let prefix = Text::new(alloc, prefix.as_str())?;
+                Ok(FieldKind::Text(prefix, *step))
+            }
+            FieldKind::Filter(prefix) => {
+                let prefix = Text::new(alloc, prefix.as_str())?;
+                Ok(FieldKind::Filter(prefix))
+            }
+            FieldKind::Number(slot) => Ok(FieldKind::Number(*slot)),
+            FieldKind::Word(slot) => Ok(FieldKind::Word(*slot)),
         }
     }
 

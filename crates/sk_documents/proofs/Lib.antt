@@ -1,3 +1,6 @@
 pub mod SoundLaws
 mod RemovingLemmas
 mod EditLemmas
+pub mod TurnLaws
+mod GatherLaws
+pub mod AllTurnsLaws

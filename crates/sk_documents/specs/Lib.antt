@@ -1,2 +1,4 @@
 pub mod Documented
+pub mod Gathered
 pub mod Removing
+pub mod Turned

@@ -18,6 +18,7 @@ impl<K: Keeper> Documents<K> {
         ensures live { IfOk result (λ p. p.0.live ≡ edited self.schema self.live edit) }
         ensures reply { IfOk result (λ p. p.1 ≡ reply_to self.live edit) }
         ensures schema { IfOk result (λ p. p.0.schema ≡ self.schema) }
+        ensures parts { IfOk result (λ p. K.parts p.0.keeper ≡ K.parts self.keeper) }
     {
         match edit {
             Edit::Add(given) => self.add(given),
@@ -33,6 +34,7 @@ impl<K: Keeper> Documents<K> {
         ensures live { IfOk result (λ p. p.0.live ≡ edited self.schema self.live (Edit.Add given)) }
         ensures reply { IfOk result (λ p. p.1 ≡ reply_to self.live (Edit.Add given)) }
         ensures schema { IfOk result (λ p. p.0.schema ≡ self.schema) }
+        ensures parts { IfOk result (λ p. K.parts p.0.keeper ≡ K.parts self.keeper) }
     {
         let doc = sk_docs::build(self.alloc, &self.schema, given)?;
         self.put_next(doc)
@@ -44,6 +46,7 @@ impl<K: Keeper> Documents<K> {
         ensures live { IfOk result (λ p. p.0.live ≡ edited self.schema self.live (Edit.Replace id given)) }
         ensures reply { IfOk result (λ p. p.1 ≡ reply_to self.live (Edit.Replace id given)) }
         ensures schema { IfOk result (λ p. p.0.schema ≡ self.schema) }
+        ensures parts { IfOk result (λ p. K.parts p.0.keeper ≡ K.parts self.keeper) }
     {
         let doc = sk_docs::build(self.alloc, &self.schema, given)?;
         let documents = self.put(id, doc)?;
@@ -55,6 +58,7 @@ impl<K: Keeper> Documents<K> {
         ensures live { IfOk result (λ p. p.0.live ≡ edited self.schema self.live (Edit.ReplaceBy term.now given)) }
         ensures reply { IfOk result (λ p. p.1 ≡ reply_to self.live (Edit.ReplaceBy term.now given)) }
         ensures schema { IfOk result (λ p. p.0.schema ≡ self.schema) }
+        ensures parts { IfOk result (λ p. K.parts p.0.keeper ≡ K.parts self.keeper) }
     {
         let doc = sk_docs::build(self.alloc, &self.schema, given)?;
         self.put_first(term, doc)
@@ -64,6 +68,7 @@ impl<K: Keeper> Documents<K> {
         ensures live { result.0.live ≡ edited self.schema self.live (Edit.Delete id) }
         ensures reply { result.1 ≡ reply_to self.live (Edit.Delete id) }
         ensures schema { result.0.schema ≡ self.schema }
+        ensures parts { K.parts result.0.keeper ≡ K.parts self.keeper }
     {
         let mut documents = self;
         if documents.remove(id) {
@@ -77,6 +82,7 @@ impl<K: Keeper> Documents<K> {
         ensures live { IfOk result (λ p. p.0.live ≡ edited self.schema self.live (Edit.DeleteBy term.now)) }
         ensures reply { IfOk result (λ p. p.1 ≡ reply_to self.live (Edit.DeleteBy term.now)) }
         ensures schema { IfOk result (λ p. p.0.schema ≡ self.schema) }
+        ensures parts { IfOk result (λ p. K.parts p.0.keeper ≡ K.parts self.keeper) }
     {
         let mut documents = self;
         let ids = documents.remove_all(term)?;
@@ -89,6 +95,7 @@ impl<K: Keeper> Documents<K> {
         ensures live { IfOk result (λ p. p.0.live ≡ with_next self.live doc) }
         ensures reply { IfOk result (λ p. p.1 ≡ next_reply self.live) }
         ensures schema { IfOk result (λ p. p.0.schema ≡ self.schema) }
+        ensures parts { IfOk result (λ p. K.parts p.0.keeper ≡ K.parts self.keeper) }
     {
         if self.highest == DocId::MAX {
             return Ok((self, Reply::NoIdLeft));
@@ -104,6 +111,7 @@ impl<K: Keeper> Documents<K> {
         ensures live { IfOk result (λ p. p.0.live ≡ with_first self.live doc term.now (first_with term.now self.live.documents)) }
         ensures reply { IfOk result (λ p. p.1 ≡ first_reply self.live (first_with term.now self.live.documents)) }
         ensures schema { IfOk result (λ p. p.0.schema ≡ self.schema) }
+        ensures parts { IfOk result (λ p. K.parts p.0.keeper ≡ K.parts self.keeper) }
     {
         let mut documents = self;
         let ids = documents.remove_all(term)?;
@@ -121,19 +129,21 @@ impl<K: Keeper> Documents<K> {
         requires light { (id : ℕ) → IsLight (id, doc) }
         ensures live { IfOk result (λ documents. documents.live ≡ with_document self.live id doc) }
         ensures schema { IfOk result (λ documents. documents.schema ≡ self.schema) }
+        ensures parts { IfOk result (λ documents. K.parts documents.keeper ≡ K.parts self.keeper) }
     {
         let mut documents = self;
         documents.remove(id);
         documents.insert(id, doc)
     }
 
-    /// The document under an id that no document has.
-    fn insert(self, id: DocId, doc: Doc) -> Result<Documents<K>, AllocError>
+    /// The document under an id that no document has. Where memory runs out all are given up.
+    pub fn insert(self, id: DocId, doc: Doc) -> Result<Documents<K>, AllocError>
         requires id { 1 ≤ id }
         requires free { document_at id self.live.documents ≡ None }
         requires light { (id : ℕ) → IsLight (id, doc) }
         ensures live { IfOk result (λ documents. documents.live ≡ with_document self.live id doc) }
         ensures schema { IfOk result (λ documents. documents.schema ≡ self.schema) }
+        ensures parts { IfOk result (λ documents. K.parts documents.keeper ≡ K.parts self.keeper) }
     {
         let Documents {
             alloc,
@@ -152,14 +162,23 @@ impl<K: Keeper> Documents<K> {
     }
 
     /// Removes the document with the id, and answers whether there was one. Want of memory stops nothing.
-    fn remove(&mut self, id: DocId) -> bool
+    pub fn remove(&mut self, id: DocId) -> bool
         ensures live { self.new.live ≡ record { documents = without_id id self.old.live.documents; highest = self.old.live.highest } }
         ensures there { result ≡ is_some (document_at id self.old.live.documents) }
         ensures free { document_at id self.new.live.documents ≡ None }
         ensures put_again { (document : Document) → put_document id document self.new.live.documents ≡ put_document id document self.old.live.documents }
         ensures schema { self.new.schema ≡ self.old.schema }
+        ensures parts { K.parts self.new.keeper ≡ K.parts self.old.keeper }
     {
         self.keeper.remove(id)
+    }
+
+    /// The ids of the documents that have the term, by rising id.
+    pub fn ids_with(&mut self, term: &[u8]) -> Result<Vec<DocId>, AllocError>
+        ensures ids { IfOk result (λ ids. ids.items ≡ ids_with term.now self.old.live.documents) }
+        ensures same { self.new ≡ self.old }
+    {
+        self.keeper.ids_with(term)
     }
 
     /// Removes the documents that have the term, the last first, so that little of a list of the keeper's moves, and
@@ -170,6 +189,7 @@ impl<K: Keeper> Documents<K> {
         ensures first { IfOk result (λ ids. (id : ℕ) → first_with term.now self.old.live.documents ≡ Some id → (1 ≤ id) × (id ≤ self.old.live.highest)) }
         ensures few { IfOk result (λ ids. length ids.items < 2 ^ 32) }
         ensures schema { self.new.schema ≡ self.old.schema }
+        ensures parts { K.parts self.new.keeper ≡ K.parts self.old.keeper }
     {
         let ids = self.keeper.ids_with(term)?;
         self.remove_each(ids.as_slice());
@@ -180,6 +200,7 @@ impl<K: Keeper> Documents<K> {
     fn remove_each(&mut self, ids: &[DocId])
         ensures live { self.new.live ≡ record { documents = without_ids ids.now self.old.live.documents; highest = self.old.live.highest } }
         ensures schema { self.new.schema ≡ self.old.schema }
+        ensures parts { K.parts self.new.keeper ≡ K.parts self.old.keeper }
     {
         let mut i = ids.len();
         'ids: while i > 0 {

@@ -3,7 +3,10 @@
 
 mod documents;
 mod edits;
+mod gather;
 mod keeper;
+mod turns;
 
 pub use documents::Documents;
 pub use keeper::Keeper;
+pub use turns::Turns;

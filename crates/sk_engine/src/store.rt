@@ -10,23 +10,27 @@ use std::mem;
 use std::sync::ledger::Ledger;
 
 impl Store for Session {
-    ghost use Rattle.sk_model.specs.Edits.{Live};
+    ghost use Rattle.sk_run.specs.Conducts.{Held};
     ghost use Rattle.sk_engine.specs.Sessions.{SessionHolds, schema_of, session_conduct};
 
     ghost under = { schema_of };
 
-    ghost State = { Live };
+    ghost State = { Held };
 
     ghost holds = { SessionHolds };
 
     ghost conduct = { session_conduct };
 
-    fn new(alloc: Global, schema: Schema) -> Result<Session, AllocError> {
-        Session::new(alloc, schema)
+    fn new(alloc: Global, schema: Schema, parts: u32) -> Result<Session, AllocError> {
+        Session::new(alloc, schema, parts)
     }
 
     fn schema(&self) -> &Schema {
         Session::schema(self)
+    }
+
+    fn is_in_parts(&self) -> bool {
+        Session::is_in_parts(self)
     }
 
     fn apply(self, edit: Edit) -> Result<(Session, Reply), AllocError> {

@@ -24,8 +24,8 @@ use crate::packed_terms::PackedTerms;
 use crate::places::{Places, positions_in};
 use crate::slot_lists::SlotLists;
 use crate::term_lists::TermLists;
-use sk_base::{DocId, Edit, Field, FieldKind, Reply, Schema};
-use sk_documents::Documents;
+use sk_base::{Doc, DocId, Edit, Field, FieldKind, Reply, Schema};
+use sk_documents::{Documents, Keeper};
 use sk_lists::List;
 use sk_steps::Steps;
 use sk_values::SlotList;
@@ -228,6 +228,28 @@ impl Index {
     {
         steps.tick();
         self.documents.keeper().payload(id)
+    }
+}
+
+impl Keeper for Index {
+    ghost documents = { λ i. i.live.documents };
+
+    fn count(&self) -> usize {
+        self.all().length() as usize
+    }
+
+    fn put(self, id: DocId, doc: Doc) -> Result<Index, AllocError> {
+        let Index { documents } = self;
+        let documents = documents.insert(id, doc)?;
+        Ok(Index { documents })
+    }
+
+    fn remove(&mut self, id: DocId) -> bool {
+        self.documents.remove(id)
+    }
+
+    fn ids_with(&mut self, term: &[u8]) -> Result<Vec<DocId>, AllocError> {
+        self.documents.ids_with(term)
     }
 }
 

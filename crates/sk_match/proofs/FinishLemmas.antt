@@ -1,15 +1,19 @@
 -- A search at its end.
-use Rattle.std.proofs.Common.{◌≡◌, ◌≤◌, ◌||◌, ℕ, Bool, true, false, min, length, None, is_none, unwrap_or, refl, sym, ap, ◌∙◌, subst, arith}
+use Rattle.std.proofs.Common.{◌≡◌, ◌≤◌, ◌<◌, ◌^◌, ◌||◌, ℕ, Bool, true, false, min, length, None, is_none, unwrap_or, refl, sym, ap, ◌∙◌, subst, arith}
 use Rattle.sk_base.specs.declared.find.Paging.{Paging}
 use Rattle.sk_base.specs.declared.report.Report.{Report}
 use Rattle.sk_base.specs.Numbers.{Docs}
 use Rattle.sk_sorted.specs.Entries.{first_id}
+use Rattle.sk_sorted.proofs.EntryLaws.{length_fits}
 use Rattle.sk_query.specs.Trees as Query
 use Rattle.sk_model.specs.Allowance.{leaf_readings}
+use Rattle.sk_model.specs.Bounds.{ceil, static_count}
 use Rattle.sk_model.specs.Counts.{wanted}
 use Rattle.sk_model.specs.Matches.{found_by}
 use Rattle.sk_model.specs.Settled.{stop_point}
 use Rattle.sk_model.specs.Sharp.{ups, rare_readings}
+use Rattle.sk_model.proofs.CountLaws.{found_within}
+use Rattle.sk_model.proofs.StaticLaws.{static_live}
 use Rattle.sk_report.specs.Reports.{ReportsFor}
 use Rattle.sk_index.specs.Indexed.{Indexed}
 use Rattle.sk_tree.specs.Stops.{PaysToStop}
@@ -45,6 +49,18 @@ module _ (i : Indexed) (s : Search) (paging : Paging) (query : Query.Tree) (stan
   abbrev docs : Docs
   docs = i.live.documents
 
+  abbrev greatest : ℕ
+  greatest = ceil query paging.options.scheme 1 docs
+
+  found : length (found_by query paging docs) ≤ static_count query docs
+  found = found_within query paging 1 docs stands.sound
+
+  small : static_count query docs < 2 ^ 32
+  small =
+      let live = static_live docs query in
+      let few = length_fits docs stands.built.tree.documents in
+      omega (arith, live, few)
+
   pub lists_spent : (spent : ℕ) → IsSpentBy i s query spent → IsSpent query paging docs spent
   lists_spent spent by = record {
     lists = by.within;
@@ -59,15 +75,15 @@ module _ (i : Indexed) (s : Search) (paging : Paging) (query : Query.Tree) (stan
 
     -- as many were seen as are wanted, or all
     pub seen_enough : min (wanted paging) (length (found_by query paging docs)) ≤ s.page.seen
-    seen_enough = Ends.seen_enough query paging docs (gives i s.tree) s.need s.page stands.page ceiling most done_there
+    seen_enough = Ends.seen_enough query paging docs greatest (gives i s.tree) s.need s.page stands.page ceiling most done_there
 
     module _ (whole : Bool) (tells : whole ≡ is_whole s.page.options s.need (is_none (first_id (left i s.tree))) ceiling) where
       pub may_report : MayReport s.page s.bounds.most whole
       may_report =
           subst (λ b. MayReport s.page b.most whole) (sym stands.bounds)
-          (Ends.may_report query paging docs (gives i s.tree) s.need s.page stands.page ceiling most done_there (omega (arith, is, stands.built.ceiling)) stands.low stands.sound stands.built.tree.documents whole (sym tells))
+          (Ends.may_report query paging docs greatest (gives i s.tree) s.need s.page stands.page ceiling most done_there (omega (arith, is, stands.built.ceiling)) stands.low (static_count query docs) found small whole (sym tells))
 
       pub finished : (spent : ℕ) → IsSpentBy i s query spent → (report : Report) → Reports docs s.page s.bounds whole spent report → ReportsFor query paging docs report
       finished spent by report reports =
-          Ends.reported query paging docs (gives i s.tree) s.need s.page stands.page ceiling most done_there (omega (arith, is, stands.built.ceiling)) stands.low stands.sound whole (sym tells) spent (lists_spent spent by) report
+          Ends.reported query paging docs greatest (gives i s.tree) s.need s.page stands.page ceiling most done_there (omega (arith, is, stands.built.ceiling)) stands.low (static_count query docs) found whole (sym tells) spent (lists_spent spent by) report
           (subst (λ b. Reports docs s.page b whole spent report) stands.bounds reports)

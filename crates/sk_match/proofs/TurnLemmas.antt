@@ -1,5 +1,5 @@
 -- A search that is opened, and that moves past a document.
-use Rattle.std.proofs.Common.{◌≡◌, ◌≤◌, ◌<◌, ◌+◌, ◌⊎◌, ℕ, suc, Bool, true, false, cond, ◌&&◌, ◌||◌, nat_le, nat_lt, max, List, [], ◌∷◌, length, drop, filter, Option, None, Some, option_map, is_some, unwrap_or, refl, sym, ap, ◌∙◌, subst, arith, inl, inr, true≢false}
+use Rattle.std.proofs.Common.{◌≡◌, ◌≤◌, ◌<◌, ◌+◌, ◌⊎◌, ℕ, suc, Bool, true, false, cond, ◌&&◌, ◌||◌, nat_le, nat_lt, max, List, [], ◌∷◌, length, filter, Option, None, Some, option_map, is_some, unwrap_or, refl, sym, ap, ◌∙◌, subst, arith, inl, inr, true≢false}
 use Rattle.std.specs.List.{AllByRecursion, cons_option}
 use Rattle.std.proofs.lemmas.Bool.{and_parts, le-leb, lt-leb, ltb-false, ltb-true}
 use Rattle.sk_base.specs.declared.find.Paging.{Paging}
@@ -8,7 +8,6 @@ use Rattle.sk_base.specs.declared.rank.Rank.{Rank}
 use Rattle.sk_base.specs.declared.find.Collapse.{Collapse}
 use Rattle.sk_base.specs.Numbers.{Docs}
 use Rattle.sk_sorted.specs.Entries.{RiseAbove, AreSorted, first_id}
-use Rattle.sk_sorted.proofs.EntryLaws.{RiseAbove-lower}
 use Rattle.sk_query.specs.declared.form.Form.{Form}
 use Rattle.sk_query.specs.Trees as Query
 use Rattle.sk_query.specs.Fits.{is_sound, leaves_of, depth_of, fits_tree}
@@ -22,7 +21,7 @@ use Rattle.sk_model.specs.Sharp.{is_plain, flat_lists, ups, rare_lists, rare_rea
 use Rattle.sk_model.specs.Matches.{key_of, found_by}
 use Rattle.sk_index.specs.Indexed.{Indexed}
 use Rattle.sk_tree.specs.Built as Nodes
-use Rattle.sk_tree.specs.Built.{weighed_ids, gives, left, scored, Built}
+use Rattle.sk_tree.specs.Built.{gives, left, scored, Built}
 use Rattle.sk_nodes.specs.Flat.{IsAtLeast}
 use Rattle.sk_tree.specs.Stops.{PaysToStop, MayMove}
 use Rattle.sk_tree.specs.Rare.{Rare}
@@ -36,6 +35,7 @@ use Rattle.sk_page.specs.Views.{OpensPage, PageOf, MaySee, Sees}
 use Rattle.sk_page.specs.declared.page.Page.{Page}
 use Rattle.sk_page.proofs.WalkLaws as Walks
 use Rattle.sk_page.proofs.WalkLaws.{weighed, scores}
+use Rattle.sk_page.proofs.FewerLaws.{none_either, same_given, fewer_left}
 use Rattle.sk_page.proofs.SeeLaws.{page_opened, may_see, at_last, Looked, passed_by, looked_at, gone_on, wanted_before, asked_behind, head_early}
 use Rattle.sk_page.specs.Paces.{reached_by}
 use Rattle.sk_page.proofs.PaceLaws.{no_cutoff, reached_on}
@@ -43,34 +43,6 @@ use Rattle.sk_match.specs.Searches.{IsOn, Stands, TreePasses, PassesUnseen, Asks
 use Rattle.sk_match.specs.declared.open_search.Search.{Search}
 
 -- ---- a search that was opened
-
--- documents that weigh something stand in the order of all
-rises : (f : ℕ × Document → Option ℕ) (low : ℕ) (docs : Docs) → RiseAbove low docs → RiseAbove low (weighed_ids f docs)
-rises f low [] up = tt
-rises f low (one ∷ docs) up = step (f one) low one.0 (weighed_ids f docs) up.0 (rises f one.0 docs up.1)
-  where
-    step : (o : Option ℕ) (low id : ℕ) (ps : List (ℕ × ℕ)) → low < id → RiseAbove id ps → RiseAbove low (cons_option (option_map (λ w. (id, w)) o) ps)
-    step None low id ps ltb-true up = RiseAbove-lower low id ps (omega (arith, ltb-true)) up
-    step (Some w) low id ps ltb-true up = (ltb-true, up)
-
-not_first : (id w : ℕ) (ps qs : List (ℕ × ℕ)) → RiseAbove id ps → ps ≡ (id, w) ∷ qs → ⊥
-not_first id w [] qs up e = let long : 0 ≡ suc (length qs) = ap length e in absurd (omega (arith, long))
-not_first id w (p ∷ ps) qs up e = let same : p.0 ≡ id = ap (λ (rs : List (ℕ × ℕ)). unwrap_or (first_id rs) 0) e in absurd (omega (arith, up.0, same))
-
--- what weighs the same in order weighs the same one by one
-same_given : (f g : ℕ × Document → Option ℕ) (low : ℕ) (docs : Docs) → RiseAbove low docs → weighed_ids f docs ≡ weighed_ids g docs → AllByRecursion (λ (one : ℕ × Document). f one ≡ g one) docs
-same_given f g low [] up e = tt
-same_given f g low (one ∷ docs) up e = step (f one) (g one) refl refl e (rises f one.0 docs up.1) (rises g one.0 docs up.1) (same_given f g one.0 docs up.1)
-  where
-    step : (o p : Option ℕ) → f one ≡ o → g one ≡ p
-        → cons_option (option_map (λ w. (one.0, w)) o) (weighed_ids f docs) ≡ cons_option (option_map (λ w. (one.0, w)) p) (weighed_ids g docs)
-        → RiseAbove one.0 (weighed_ids f docs) → RiseAbove one.0 (weighed_ids g docs)
-        → (weighed_ids f docs ≡ weighed_ids g docs → AllByRecursion (λ (d : ℕ × Document). f d ≡ g d) docs)
-        → (f one ≡ g one) × AllByRecursion (λ (d : ℕ × Document). f d ≡ g d) docs
-    step None None a b e up down rest = (a ∙ sym b, rest e)
-    step None (Some w) a b e up down rest = absurd (not_first one.0 w (weighed_ids f docs) (weighed_ids g docs) up e)
-    step (Some v) None a b e up down rest = absurd (not_first one.0 v (weighed_ids g docs) (weighed_ids f docs) down (sym e))
-    step (Some v) (Some w) a b e up down rest = (a ∙ ap Some (ap (λ (rs : List (ℕ × ℕ)). Nodes.first_weight rs) e) ∙ sym b, rest (ap (drop 1) e))
 
 pub opened : (i : Indexed) (s : Search) (paging : Paging) (query : Query.Tree) → fits_tree query ≡ true
     → Built s.tree i query paging.options.scheme
@@ -84,14 +56,14 @@ pub opened : (i : Indexed) (s : Search) (paging : Paging) (query : Query.Tree) �
 opened i s paging query fits built all none need opens bounds stops rare decays =
     let docs = i.live.documents in
     let rise : RiseAbove 0 docs = built.tree.documents.rise in
-    let page : PageOf s.page query paging docs (gives i s.tree) 0 = page_opened query paging docs (gives i s.tree) rise (same_given (λ one. gives i s.tree one.0) (scores query paging) 0 docs rise all) s.page opens in
+    let page : PageOf s.page query paging docs (ceil query paging.options.scheme 1 docs) (gives i s.tree) 0 = page_opened query paging docs (ceil query paging.options.scheme 1 docs) (gives i s.tree) rise (same_given (λ one. gives i s.tree one.0) (scores query paging) 0 docs rise all) s.page opens in
     record {
       built = built;
       sound = (and_parts (is_sound 1 query) (nat_le (leaves_of query) 1024) (and_parts (is_sound 1 query && nat_le (leaves_of query) 1024) (nat_le (depth_of query) 1000) fits).0).0;
       bounds = bounds;
       need = need ∙ sym none;
       low = λ _. omega (arith, need);
-      page = subst (λ n. PageOf s.page query paging docs (gives i s.tree) n) (sym need) page;
+      page = subst (λ n. PageOf s.page query paging docs (ceil query paging.options.scheme 1 docs) (gives i s.tree) n) (sym need) page;
       accounts = record {
         stops = λ _ lists e. stops lists e (stop_point query paging docs);
         rare = rare;
@@ -126,22 +98,25 @@ module _ (i : Indexed) (old : Search) (paging : Paging) (query : Query.Tree) (st
   abbrev stop : ℕ
   stop = stop_point query paging docs
 
+  abbrev greatest : ℕ
+  greatest = ceil query paging.options.scheme 1 docs
+
   pub weight_there : w ≡ Walks.first_weight (weighed give docs)
   weight_there = weight ∙ first_same (left i old.tree)
 
   -- it may see the document there
   pub fits_head : (ceiling : ℕ) → ceiling ≡ old.tree.top.greatest → ((id : ℕ) → unwrap_or (give id) 0 ≤ ceiling) → MaySee old.page h w
-  fits_head ceiling is most = may_see query paging docs give old.need old.page stands.page sorted h w (sym head) weight_there ceiling most (let small = stands.built.tree.fits in omega (arith, is, small))
+  fits_head ceiling is most = may_see query paging docs greatest give old.need old.page stands.page sorted h w (sym head) weight_there ceiling most (let small = stands.built.tree.fits in omega (arith, is, small))
 
   -- a search that goes on is at no document behind the stop point
   pub early_head : is_settled old.page.options old.page.seen old.page.heap old.tree.top.greatest ≡ false → is_plain paging ≡ true → h ≤ stop
-  early_head goes plain = head_early query paging docs give old.need old.page stands.page sorted h w (sym head) weight_there old.tree.top.greatest stands.built.ceiling goes plain
+  early_head goes plain = head_early query paging docs greatest give old.need old.page stands.page sorted h w (sym head) weight_there old.tree.top.greatest stands.built.ceiling goes plain
 
   at_end : h ≤ last_id
-  at_end = at_last query paging docs give old.need old.page stands.page sorted h w (sym head) weight_there
+  at_end = at_last query paging docs greatest give old.need old.page stands.page sorted h w (sym head) weight_there
 
   abbrev LookedOn : Page → List Rank → Type 0
-  LookedOn mid saw2 = Looked query paging docs give old.need old.page stands.page sorted h w (sym head) weight_there mid saw2
+  LookedOn mid saw2 = Looked query paging docs greatest give old.need old.page stands.page sorted h w (sym head) weight_there mid saw2
 
   -- ---- past the head
 
@@ -153,11 +128,18 @@ module _ (i : Indexed) (old : Search) (paging : Paging) (query : Query.Tree) (st
         by_asked (inl last) = inl (last.0, last.1)
         by_asked (inr e) = inr e
 
+    asked_so : (new.need ≡ old.need) ⊎ (new.need ≡ max old.need (need_for mid.options mid.seen mid.heap old.tree.top.greatest))
+    asked_so = weaker asked
+      where
+        weaker : ((new.need ≡ old.need) × (h ≡ last_id)) ⊎ (new.need ≡ max old.need (need_for mid.options mid.seen mid.heap old.tree.top.greatest)) → (new.need ≡ old.need) ⊎ (new.need ≡ max old.need (need_for mid.options mid.seen mid.heap old.tree.top.greatest))
+        weaker (inl e) = inl e.0
+        weaker (inr e) = inr e
+
     wanted_at : is_plain paging ≡ true → h < stop → stop < last_id → (v : ℕ) × (give stop ≡ Some v) × (new.need ≤ v)
-    wanted_at = wanted_before query paging docs give old.need old.page stands.page sorted h w (sym head) weight_there mid saw2 looked old.tree.top.greatest new.need (gives i new.tree) asked passes.over
+    wanted_at = wanted_before query paging docs greatest give old.need old.page stands.page sorted h w (sym head) weight_there mid saw2 looked old.tree.top.greatest new.need (gives i new.tree) asked_so passes.over
 
     behind : is_plain paging ≡ true → (least : ℕ) → settled paging (found_by query paging docs) least ≤ h → h < last_id → (least < new.need) ⊎ (old.tree.top.greatest < new.need)
-    behind = asked_behind query paging docs give old.need old.page stands.page sorted h w (sym head) weight_there mid saw2 looked old.tree.top.greatest new.need (gives i new.tree) asked passes.over
+    behind = asked_behind query paging docs greatest give old.need old.page stands.page sorted h w (sym head) weight_there mid saw2 looked old.tree.top.greatest new.need (gives i new.tree) asked_so passes.over asked
 
     at_least : (o : Option ℕ) (v n : ℕ) → o ≡ Some v → n ≤ v → IsAtLeast n o
     at_least o v n e l = subst (IsAtLeast n) (sym e) l
@@ -205,7 +187,7 @@ module _ (i : Indexed) (old : Search) (paging : Paging) (query : Query.Tree) (st
     pace_on lists flat none point far = by_asked asked
       where
         reach : (reached_by old.page.seen (found_by query paging docs) ≤ point) × (paging.options.cutoff ≤ w → h ≤ point)
-        reach = reached_on query paging docs give old.need old.page stands.page sorted h w (sym head) weight_there mid saw2 looked old.tree.top.greatest new.need (gives i new.tree) asked passes.over (omega (arith, none)) point far
+        reach = reached_on query paging docs greatest give old.need old.page stands.page sorted h w (sym head) weight_there mid saw2 looked old.tree.top.greatest new.need (gives i new.tree) asked_so passes.over (omega (arith, none)) point far
 
         by_asked : ((new.need ≡ old.need) × (h ≡ last_id)) ⊎ (new.need ≡ max old.need (need_for mid.options mid.seen mid.heap old.tree.top.greatest)) → PaysToStop i new.tree point (ups lists point docs)
         by_asked (inl last) = let same = last.0 in passes.stops point (ups lists point docs) (stands.accounts.pace lists flat (omega (arith, same, none)) point reach.0) (inl last.1)
@@ -222,8 +204,8 @@ module _ (i : Indexed) (old : Search) (paging : Paging) (query : Query.Tree) (st
       bounds = passes.bounds ∙ stands.bounds;
       need = passes.need;
       low = λ low. let cut : old.page.options.cutoff ≡ paging.options.cutoff = ap (λ (o : Options). o.cutoff) stands.page.options in absurd (omega (arith, low, high, cut, stands.built.ceiling));
-      page = subst (λ p. PageOf p query paging docs (gives i new.tree) new.need) (sym passes.page)
-          (gone_on query paging docs give old.need old.page stands.page sorted h w (sym head) weight_there mid saw2 looked old.tree.top.greatest new.need (gives i new.tree) asked passes.over);
+      page = subst (λ p. PageOf p query paging docs greatest (gives i new.tree) new.need) (sym passes.page)
+          (gone_on query paging docs greatest give old.need old.page stands.page sorted h w (sym head) weight_there mid saw2 looked old.tree.top.greatest new.need (gives i new.tree) asked_so passes.over);
       accounts = record {
         stops = λ plain lists flat. passes.stops stop (ups lists stop docs) (stands.accounts.stops plain lists flat) (may_go plain);
         rare = λ lists m is. passes.rare (rare_readings lists m docs) (stands.accounts.rare lists m is);
@@ -244,51 +226,14 @@ module _ (i : Indexed) (old : Search) (paging : Paging) (query : Query.Tree) (st
 
     pub turned_seen : (mid : Page) → old.page.options.cutoff ≤ w → Sees docs h w old.page mid → PassesUnseen i h (record old { page = mid }) new → Stands new i paging query
     turned_seen mid enough sees passes =
-        let looked = looked_at query paging docs give old.need old.page stands.page sorted h w (sym head) weight_there mid (omega (arith, enough, cut_same)) sees in
+        let looked = looked_at query paging docs greatest give old.need old.page stands.page sorted h w (sym head) weight_there mid (omega (arith, enough, cut_same)) sees in
         moved high mid looked.0 looked.1 new passes
 
     pub turned_light : w < old.page.options.cutoff → PassesUnseen i h old new → Stands new i paging query
     turned_light light passes =
-        moved high old.page stands.page.saw (passed_by query paging docs give old.need old.page stands.page sorted h w (sym head) weight_there (omega (arith, light, cut_same))) new passes
+        moved high old.page stands.page.saw (passed_by query paging docs greatest give old.need old.page stands.page sorted h w (sym head) weight_there (omega (arith, light, cut_same))) new passes
 
 -- ---- fewer are left
-
-abbrev the_none : Option ℕ
-the_none = None
-
-fewer_step : (give give2 : ℕ → Option ℕ) (need h : ℕ) (docs : Docs) → AllByRecursion (λ (d : ℕ × Document). CoversAt (cond (nat_le (h + 1) d.0) (give d.0) None) (give2 d.0) need) docs → length (weighed give2 docs) ≤ length (weighed give docs)
-fewer_step give give2 need h [] over = omega arith
-fewer_step give give2 need h (d ∷ docs) over = step (nat_le (h + 1) d.0) (give d.0) (give2 d.0) over.0 (fewer_step give give2 need h docs over.1)
-  where
-    step : (b : Bool) (o p : Option ℕ) → CoversAt (cond b o None) p need → length (weighed give2 docs) ≤ length (weighed give docs)
-        → length (cons_option (option_map (λ w. (d.0, w)) p) (weighed give2 docs)) ≤ length (cons_option (option_map (λ w. (d.0, w)) o) (weighed give docs))
-    step b None None c le = le
-    step b (Some v) None c le = omega (arith, le)
-    step true None (Some w) c le = absurd c
-    step false None (Some w) c le = absurd c
-    step b (Some v) (Some w) c le = omega (arith, le)
-
-none_either : (b : Bool) → cond b (the_none) the_none ≡ the_none
-none_either true = refl
-none_either false = refl
-
-pub fewer_left : (give give2 : ℕ → Option ℕ) (need h : ℕ) (docs : Docs) → first_id (weighed give docs) ≡ Some h → AllByRecursion (λ (d : ℕ × Document). CoversAt (cond (nat_le (h + 1) d.0) (give d.0) None) (give2 d.0) need) docs
-    → length (weighed give2 docs) < length (weighed give docs)
-fewer_left give give2 need h [] e over = absurd (true≢false (sym (ap is_some e)))
-fewer_left give give2 need h (d ∷ docs) e over = step (give d.0) (give2 d.0) e over.0 (fewer_step give give2 need h docs over.1) (λ f. fewer_left give give2 need h docs f over.1)
-  where
-    not_later : (b : ℕ) → b ≡ h → nat_le (h + 1) b ≡ false
-    not_later b same = lt-leb (h + 1) b (omega (arith, same))
-
-    step : (o p : Option ℕ) → first_id (cons_option (option_map (λ w. (d.0, w)) o) (weighed give docs)) ≡ Some h → CoversAt (cond (nat_le (h + 1) d.0) o None) p need → length (weighed give2 docs) ≤ length (weighed give docs)
-        → (first_id (weighed give docs) ≡ Some h → length (weighed give2 docs) < length (weighed give docs))
-        → length (cons_option (option_map (λ w. (d.0, w)) p) (weighed give2 docs)) < length (cons_option (option_map (λ w. (d.0, w)) o) (weighed give docs))
-    step None None f c le rest = rest f
-    step None (Some w) f c le rest = absurd (subst (λ (o : Option ℕ). CoversAt o (Some w) need) (none_either (nat_le (h + 1) d.0)) c)
-    step (Some v) None f c le rest = omega (arith, le)
-    step (Some v) (Some w) f c le rest =
-        let same : d.0 ≡ h = ap (λ o. unwrap_or o 0) f in
-        absurd (subst (λ b. CoversAt (cond b (Some v) None) (Some w) need) (not_later d.0 same) c)
 
 -- fewer up to an id
 module _ (id : ℕ) where

@@ -67,7 +67,7 @@ pub record Stands (search : Search) (index : Indexed) (paging : Paging) (query :
   pub bounds : search.bounds ≡ record { greatest = ceil query paging.options.scheme 1 index.live.documents; most = static_count query index.live.documents }
   pub need : search.need ≡ search.tree.need
   pub low : ceil query paging.options.scheme 1 index.live.documents < paging.options.cutoff → search.need ≤ paging.options.cutoff
-  pub page : PageOf search.page query paging index.live.documents (gives index search.tree) search.need
+  pub page : PageOf search.page query paging index.live.documents (ceil query paging.options.scheme 1 index.live.documents) (gives index search.tree) search.need
   pub accounts : TreeAccounts index paging query search.page.seen search.need search.tree
 
 -- ---- a step of a search

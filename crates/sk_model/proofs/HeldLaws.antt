@@ -79,7 +79,7 @@ among g t (u ∷ us) some passes = among_step g t u us (bytes_eq u t) refl passe
 
 -- ---- the terms of a document
 
-absent : (t : List ℕ) (terms : List DocTerm) → All (λ (s : DocTerm). Precedes t s.term) terms → has_term t terms ≡ false
+pub absent : (t : List ℕ) (terms : List DocTerm) → All (λ (s : DocTerm). Precedes t s.term) terms → has_term t terms ≡ false
 absent t terms all = list_any_none (λ one. bytes_eq one.term t) terms (All-weaker (λ (s : DocTerm). Precedes t s.term) (λ (s : DocTerm). bytes_eq s.term t ≡ false) (λ s. less_differs t s.term) terms all)
 
 -- a term that is not there has no wdf, and no positions

@@ -9,6 +9,9 @@ pub mod HeldLaws
 pub mod CeilLaws
 pub mod StaticLaws
 pub mod WeightLaws
+pub mod JoinedLaws
+pub mod ReadingLaws
+pub mod PassLaws
 pub mod CountLaws
 pub mod NearLaws
 pub mod SettledLaws

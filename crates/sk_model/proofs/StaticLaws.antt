@@ -322,7 +322,7 @@ match_step None value id n ranks e = omega (arith, e)
 match_step (Some w) value id n ranks e = omega (arith, e)
 
 -- there is a match for each document that has a score
-matches_counted : (query : Tree) (scheme : Scheme) (order : Order) (docs : Docs) → length (matches query scheme order docs) ≡ count_by (λ (one : ℕ × Doc). is_some (score query scheme 1 one.1)) docs
+pub matches_counted : (query : Tree) (scheme : Scheme) (order : Order) (docs : Docs) → length (matches query scheme order docs) ≡ count_by (λ (one : ℕ × Doc). is_some (score query scheme 1 one.1)) docs
 matches_counted query scheme order [] = refl
 matches_counted query scheme order (one ∷ docs) =
     match_step (score query scheme 1 one.1) _ one.0 _ (matches query scheme order docs) (matches_counted query scheme order docs)

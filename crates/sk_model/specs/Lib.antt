@@ -14,6 +14,7 @@ pub mod Counts
 pub mod Allowance
 pub mod Settled
 pub mod Sharp
+pub mod Joined
 pub mod Reports
 pub mod Facets
 pub mod Counting

@@ -15,7 +15,7 @@ use Rattle.sk_nodes.specs.Flat.{MayGo}
 use Rattle.sk_nodes.specs.Accounts.{Keeps}
 use Rattle.sk_nodes.specs.Moved.{Kind, flat_to, plain_to, with_lead, lone_behind, nest_behind, account_of, Accounts}
 use Rattle.sk_nodes.proofs.LeafLaws.{from_on-at, from_on-below, from_cases, covers_none}
-use Rattle.sk_nodes.proofs.NodeLaws.{IsHead-none}
+use Rattle.sk_nodes.proofs.NodeLaws.{IsHead-none, ended_top}
 use Rattle.sk_nodes.proofs.ListLaws.{weigh_more}
 use Rattle.sk_nodes.proofs.AccountLaws.{keeps_other}
 use Rattle.sk_nodes.proofs.StopLaws.{flat-mono}
@@ -66,6 +66,17 @@ module _ (i : Indexed) (scheme : Scheme) (factor need : ℕ) (none : (w : ℕ) �
   pub sums_light : (target : ℕ) (t u : Top) (s r : Shape) → IsSynonym i factor t s (Sound i s) → r ≡ ended → Covers (from_on target (rest i (synonym scheme factor t s))) (rest i (synonym scheme factor u r)) need
   sums_light target t u s r sound is = subst (λ (r : Shape). Covers (from_on target (rest i (synonym scheme factor t s))) (rest i (synonym scheme factor u r)) need) (sym is)
       (λ id. from_cases target (rest i (synonym scheme factor t s)) id None need (λ le. light_at (rest i s id) (omega (arith, sound.top.bound id, sound.small))) (λ lt. refl))
+
+-- where nothing is left below, nothing is left of it
+pub sums_none : (i : Indexed) (scheme : Scheme) (factor : ℕ) (below top : Top) (r : Shape) → factor ≤ 65536 → r ≡ ended → below ≡ record { head = 2 ^ 32; weight = 0; greatest = 0 } → top ≡ record { head = 2 ^ 32; weight = 0; greatest = 0 }
+    → IsTop i top (synonym scheme factor below r) × IsSynonym i factor below r (Sound i r)
+sums_none i scheme factor below top r fits gone is end = (
+  subst (λ (u : Top). IsTop i u (synonym scheme factor below r)) (sym end) (sums_ended i scheme factor below r at_end (omega (arith, ap (λ (u : Top). u.head) is))),
+  record { top = at_end; sound = subst (λ (s : Shape). Sound i s) (sym gone) tt; bounded = fits; small = omega (arith, ap (λ (u : Top). u.greatest) is) },
+)
+  where
+    at_end : IsTop i below r
+    at_end = subst (λ (s : Shape). IsTop i below s) (sym gone) (subst (λ (u : Top). IsTop i u ended) (sym is) (ended_top i))
 
 -- one of which nothing is left
 pub sums_gone : (i : Indexed) (target need spent : ℕ) (scheme : Scheme) (factor : ℕ) (t u : Top) (s r : Shape) → r ≡ ended → Accounts i target need spent spent (synonym scheme factor t s) (synonym scheme factor u r)

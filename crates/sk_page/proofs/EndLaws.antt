@@ -1,5 +1,5 @@
 -- The page of a search at its end, and its report.
-use Rattle.std.proofs.Common.{◌≡◌, ◌≤◌, ◌<◌, ◌-◌, ◌⊎◌, ℕ, zero, suc, Bool, true, false, cond, ◌&&◌, ◌||◌, ◌==◌, nat_le, nat_lt, min, List, [], ◌∷◌, length, take, drop, map, Option, None, Some, is_none, unwrap_or, refl, sym, ap, ◌∙◌, subst, arith, inl, inr, true≢false}
+use Rattle.std.proofs.Common.{◌≡◌, ◌≤◌, ◌<◌, ◌^◌, ◌-◌, ◌⊎◌, ℕ, zero, suc, Bool, true, false, cond, ◌&&◌, ◌||◌, ◌==◌, nat_le, nat_lt, min, List, [], ◌∷◌, length, take, drop, map, Option, None, Some, is_none, unwrap_or, refl, sym, ap, ◌∙◌, subst, arith, inl, inr, true≢false}
 use Rattle.std.specs.List.{AllByRecursion, AllZip}
 use Rattle.std.proofs.lemmas.List.{length-take}
 use Rattle.std.proofs.lemmas.Bool.{and_parts, leb-false, leb-true, ltb-false, ltb-true}
@@ -13,20 +13,17 @@ use Rattle.sk_base.specs.declared.report.Ranked.{Ranked}
 use Rattle.sk_base.specs.declared.report.Report.{Report}
 use Rattle.sk_base.specs.Before.{is_before}
 use Rattle.sk_base.specs.Numbers.{Docs}
-use Rattle.sk_sorted.specs.Entries.{AreSorted, first_id}
-use Rattle.sk_sorted.proofs.EntryLaws.{length_fits}
+use Rattle.sk_sorted.specs.Entries.{first_id}
 use Rattle.sk_query.specs.Trees.{Tree}
-use Rattle.sk_query.specs.Fits.{is_sound}
-use Rattle.sk_model.specs.Bounds.{ceil, static_count}
 use Rattle.sk_model.specs.Counts.{wanted, kept_by, dropped_by}
 use Rattle.sk_model.specs.Matches.{found_by, key_of}
 use Rattle.sk_model.specs.Page as Page
 use Rattle.sk_model.specs.Page.{best_first, kept, count_key, dropped}
-use Rattle.sk_report.specs.Reports.{ReportsFor}
-use Rattle.sk_model.proofs.CountLaws.{found_within}
+use Rattle.sk_model.specs.Joined.{joined_most}
+use Rattle.sk_model.specs.Sharp.{sharp}
+use Rattle.sk_report.specs.Reports.{ReportsWithin}
 use Rattle.sk_model.proofs.KeptLaws.{kept_few}
 use Rattle.sk_model.proofs.PlacedLaws.{length-ordered}
-use Rattle.sk_model.proofs.StaticLaws.{static_live}
 use Rattle.sk_heap.specs.declared.hit.Hit.{Hit}
 use Rattle.sk_heap.specs.Held.{ranks_of}
 use Rattle.sk_collapse.specs.Collapsed.{Collapsed, kept_in}
@@ -35,13 +32,13 @@ use Rattle.sk_page.specs.Walks.{held_by, IsFull, IsBehindPage, HasEnded}
 use Rattle.sk_page.specs.Pages.{CollapsesBy, Pages}
 use Rattle.sk_page.specs.Needs.{is_settled, is_whole}
 use Rattle.sk_page.specs.Hits.{dropped_of, ranked_of, kept_count}
-use Rattle.sk_page.specs.Tells.{TellsHit, IsUpper, IsSpent}
+use Rattle.sk_page.specs.Tells.{TellsHit, IsUpper, IsSpent, IsSpentOver, TellsReport}
 use Rattle.sk_page.specs.Views.{PageOf, kept_by_page, upper_count, MayReport, Reports}
 use Rattle.sk_page.specs.declared.page.Page as Views
 use Rattle.sk_page.proofs.WalkLaws.{weighed, ended_at_end, all_at_end, ended_below, all_below, ended_settled}
 use Rattle.sk_page.proofs.PageLaws.{held_is, hits_sorted}
 use Rattle.sk_page.proofs.NeedLaws.{settled_is}
-use Rattle.sk_page.proofs.TellsLaws.{in_order, dropped_alike, beside, counts_told, told}
+use Rattle.sk_page.proofs.TellsLaws.{in_order, dropped_alike, beside, counts_told, told, steps_sharp, steps_joined}
 
 no_first : (ps : List (ℕ × ℕ)) → is_none (first_id ps) ≡ true → ps ≡ []
 no_first [] e = refl
@@ -77,7 +74,7 @@ module _ (order : Order) (saw newest : List Rank) (same : best_first order saw �
       ∙ (λ j. dropped (h.0 j) (Some o) key k newest)
       ∙ sym (dropped_alike order (Some o) key k saw newest (key_same key k))
 
-module _ (query : Tree) (paging : Paging) (docs : Docs) (give : ℕ → Option ℕ) (need : ℕ) (page : Views.Page) (of : PageOf page query paging docs give need) where
+module _ (query : Tree) (paging : Paging) (docs : Docs) (greatest : ℕ) (give : ℕ → Option ℕ) (need : ℕ) (page : Views.Page) (of : PageOf page query paging docs greatest give need) where
   abbrev saw : List Rank
   saw = of.saw
 
@@ -86,9 +83,6 @@ module _ (query : Tree) (paging : Paging) (docs : Docs) (give : ℕ → Option �
 
   abbrev pages : Pages paging docs of.walk.last saw page.heap page.collapser
   pages = of.pages
-
-  abbrev greatest : ℕ
-  greatest = ceil query paging.options.scheme 1 docs
 
   kept_is : kept_by_page page ≡ length (kept_by paging docs saw)
   kept_is = kept_told paging.order saw pages.newest pages.same paging.collapse key page.collapser page.seen pages.collapse of.seen
@@ -168,7 +162,7 @@ module _ (query : Tree) (paging : Paging) (docs : Docs) (give : ℕ → Option �
 
     -- ---- its numbers
 
-    module _ (within : ceiling ≤ greatest) (low : greatest < paging.options.cutoff → need ≤ paging.options.cutoff) (sound : is_sound 1 query ≡ true) where
+    module _ (within : ceiling ≤ greatest) (low : greatest < paging.options.cutoff → need ≤ paging.options.cutoff) (static : ℕ) (found : length (found_by query paging docs) ≤ static) where
       high_need : paging.options.cutoff < need → (wanted paging ≤ length saw) × (paging.options.cutoff ≤ greatest)
       high_need high = (many (nat_le (wanted paging) (length saw)) refl, enough (nat_le paging.options.cutoff greatest) refl)
         where
@@ -197,48 +191,61 @@ module _ (query : Tree) (paging : Paging) (docs : Docs) (give : ℕ → Option �
           step true false true f g h so = absurd (true≢false so)
           step true false false f g h so = settled_end g (ltb-false ceiling page.options.cutoff h) how
 
-      upper_told : (whole : Bool) → is_whole page.options need ended ceiling ≡ whole → IsUpper query paging docs saw (upper_count page (static_count query docs) whole)
+      upper_told : (whole : Bool) → is_whole page.options need ended ceiling ≡ whole → IsUpper query paging docs greatest static saw (upper_count page static whole)
       upper_told true e = inl (whole_is e, kept_is)
       upper_told false e =
           let p = partly e in
-          inr (p.0, p.1, λ j. static_count query docs - (of.seen j - kept_is j))
+          inr (p.0, p.1, λ j. static - (of.seen j - kept_is j))
 
-      lower_upper : (upper : ℕ) → IsUpper query paging docs saw upper → kept_by_page page ≤ upper
+      lower_upper : (upper : ℕ) → IsUpper query paging docs greatest static saw upper → kept_by_page page ≤ upper
       lower_upper upper u =
-          let counts = counts_told query paging docs saw end 1 (kept_by_page page) upper sound kept_is u in
+          let counts = counts_told query paging docs saw end greatest static (kept_by_page page) upper found kept_is u in
           let least = counts.at_least in
           let high = counts.at_most in
           omega (arith, least, high)
 
       -- it may be reported
-      pub may_report : AreSorted docs → (whole : Bool) → is_whole page.options need ended ceiling ≡ whole → MayReport page (static_count query docs) whole
-      may_report sorted whole e = record {
+      pub may_report : static < 2 ^ 32 → (whole : Bool) → is_whole page.options need ended ceiling ≡ whole → MayReport page static whole
+      may_report small whole e = record {
         kept = kept_seen;
         dropped =
             let long = (beside query paging docs saw end).long in
-            let found = found_within query paging 1 docs sound in
             omega (arith, long, found, of.seen);
-        small =
-            let live = static_live docs query in
-            let few = length_fits docs sorted in
-            omega (arith, live, few);
-        rising = lower_upper (upper_count page (static_count query docs) whole) (upper_told whole e);
+        small = small;
+        rising = lower_upper (upper_count page static whole) (upper_told whole e);
       }
 
-      -- and the report is one that the find may have
+      -- what it tells
+      tells : (whole : Bool) → is_whole page.options need ended ceiling ≡ whole → (spent : ℕ) → (report : Report) → Reports docs page (record { greatest = greatest; most = static }) whole spent report
+          → (t : TellsReport query paging docs greatest static saw report) × (t.spent ≡ spent)
+      tells whole e spent report r =
+          let upper : IsUpper query paging docs greatest static saw report.upper = subst (IsUpper query paging docs greatest static saw) (sym r.upper) (upper_told whole e) in
+          let order = lower_upper report.upper upper in (
+            record {
+              hits = page_told report.hits r.hits;
+              lower = r.lower ∙ kept_is;
+              upper = upper;
+              estimate = omega (arith, r.estimate, order, r.lower);
+              greatest = r.greatest;
+              least_steps = omega (arith, r.steps);
+              spent = spent;
+              most_steps = omega (arith, r.steps, of.read);
+            },
+            refl,
+          )
+
+      -- and the report is one that the find may have, over one index
       pub reported : (whole : Bool) → is_whole page.options need ended ceiling ≡ whole → (spent : ℕ) → IsSpent query paging docs spent → (report : Report)
-          → Reports docs page (record { greatest = greatest; most = static_count query docs }) whole spent report → ReportsFor query paging docs report
+          → Reports docs page (record { greatest = greatest; most = static }) whole spent report → ReportsWithin query paging docs greatest static (sharp query paging docs) report
       reported whole e spent lists report r =
-          let upper : IsUpper query paging docs saw report.upper = subst (IsUpper query paging docs saw) (sym r.upper) (upper_told whole e) in
-          let order = lower_upper report.upper upper in
-          told query paging docs saw end 1 report sound (record {
-            hits = page_told report.hits r.hits;
-            lower = r.lower ∙ kept_is;
-            upper = upper;
-            estimate = omega (arith, r.estimate, order, r.lower);
-            greatest = r.greatest;
-            least_steps = omega (arith, r.steps);
-            spent = spent;
-            within = lists;
-            most_steps = omega (arith, r.steps, of.read);
-          })
+          let t = tells whole e spent report r in
+          told query paging docs saw end greatest static (sharp query paging docs) report found t.0
+          (steps_sharp query paging docs saw end greatest static report t.0 (subst (IsSpent query paging docs) (sym t.1) lists))
+
+      -- and over several parts
+      pub reported_over : (n : ℕ) (whole : Bool) → is_whole page.options need ended ceiling ≡ whole → (spent : ℕ) → IsSpentOver n query paging docs spent → (report : Report)
+          → Reports docs page (record { greatest = greatest; most = static }) whole spent report → ReportsWithin query paging docs greatest static (joined_most n query paging docs) report
+      reported_over n whole e spent lists report r =
+          let t = tells whole e spent report r in
+          told query paging docs saw end greatest static (joined_most n query paging docs) report found t.0
+          (steps_joined query paging docs saw end n greatest static report t.0 (subst (IsSpentOver n query paging docs) (sym t.1) lists))

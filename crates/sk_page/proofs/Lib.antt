@@ -1,6 +1,7 @@
 pub mod ShownLaws
 pub mod FrontLaws
 pub mod WalkLaws
+pub mod FewerLaws
 pub mod TellsLaws
 pub mod PageLaws
 pub mod NeedLaws

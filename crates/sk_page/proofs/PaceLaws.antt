@@ -12,7 +12,6 @@ use Rattle.sk_query.specs.Trees.{Tree}
 use Rattle.sk_model.specs.Covers.{CoversAt}
 use Rattle.sk_model.specs.Counts.{wanted_by}
 use Rattle.sk_model.specs.Documents.{Document}
-use Rattle.sk_model.specs.Edits.{last_id}
 use Rattle.sk_model.specs.Matches.{found_by}
 use Rattle.sk_heap.specs.Held.{Held, need_of}
 use Rattle.sk_page.specs.Needs.{need_at, need_for}
@@ -47,18 +46,18 @@ module _ (query : Tree) (paging : Paging) (docs : Docs) where
       ∙ take-append-le seen saw (found_by query paging walk.rest) (omega (arith, is))
       ∙ take_all seen saw (omega (arith, is))
 
-  module _ (give : ℕ → Option ℕ) (need : ℕ) (page : Page) (of : PageOf page query paging docs give need) where
+  module _ (greatest : ℕ) (give : ℕ → Option ℕ) (need : ℕ) (page : Page) (of : PageOf page query paging docs greatest give need) where
     module _ (sorted : AreSorted docs) (h w : ℕ) (head : first_id (weighed give docs) ≡ Some h) (weight : w ≡ first_weight (weighed give docs))
-        (mid : Page) (saw2 : List Rank) (looked : See.Looked query paging docs give need page of sorted h w head weight mid saw2) (ceiling need2 : ℕ) (give2 : ℕ → Option ℕ)
-        (asked : ((need2 ≡ need) × (h ≡ last_id)) ⊎ (need2 ≡ max need (need_for mid.options mid.seen mid.heap ceiling)))
+        (mid : Page) (saw2 : List Rank) (looked : See.Looked query paging docs greatest give need page of sorted h w head weight mid saw2) (ceiling need2 : ℕ) (give2 : ℕ → Option ℕ)
+        (asked : (need2 ≡ need) ⊎ (need2 ≡ max need (need_for mid.options mid.seen mid.heap ceiling)))
         (over : AllByRecursion (λ (one : ℕ × Document). CoversAt (cond (nat_le (h + 1) one.0) (give one.0) None) (give2 one.0) need2) docs) where
       -- a search that passed over nothing has come as far as the one before, and to the head where that weighs the cutoff
       pub reached_on : need2 ≤ paging.options.cutoff → (point : ℕ) → reached_by mid.seen (found_by query paging docs) ≤ point → (reached_by page.seen (found_by query paging docs) ≤ point) × (paging.options.cutoff ≤ w → h ≤ point)
       reached_on low point far =
-          let at = See.at query paging docs give need page of sorted h w head weight in
+          let at = See.at query paging docs greatest give need page of sorted h w head weight in
           let id_is : at.one.0 ≡ h = at.id in
-          let rises = See.rises_by query paging docs give need page of sorted h w head weight mid saw2 looked ceiling need2 give2 asked over (See.asked2 query paging docs give need page of sorted h w head weight mid saw2 looked ceiling need2 give2 asked over) in
-          let walk2 = (See.walked_on query paging docs give need page of sorted h w head weight mid saw2 looked ceiling need2 give2 asked over).0 in
+          let rises = See.rises_by query paging docs greatest give need page of sorted h w head weight mid saw2 looked ceiling need2 give2 asked over (See.asked2 query paging docs greatest give need page of sorted h w head weight mid saw2 looked ceiling need2 give2 asked over) in
+          let walk2 = (See.walked_on query paging docs greatest give need page of sorted h w head weight mid saw2 looked ceiling need2 give2 asked over).0 in
           let all : greatest_id saw2 ≡ reached_by mid.seen (found_by query paging docs) = ap greatest_id (sym (front give2 need2 mid.seen saw2 walk2 looked.seen low)) in
           let before : reached_by page.seen (found_by query paging docs) ≡ greatest_id of.saw = ap greatest_id (front give need page.seen of.saw of.walk of.seen (omega (arith, low, rises))) in
           let both : greatest_id saw2 ≡ max (greatest_id of.saw) (greatest_id (taken query paging at.one (Some w))) = ap greatest_id (sym looked.is) ∙ greatest_append of.saw (taken query paging at.one (Some w)) in (

@@ -17,14 +17,13 @@ use Rattle.sk_sorted.specs.Entries.{RiseAbove, LieBelow, AreSorted, first_id}
 use Rattle.sk_sorted.proofs.EntryLaws.{found-here, found-other, length_fits}
 use Rattle.sk_query.specs.Trees.{Tree}
 use Rattle.sk_model.specs.Allowance.{key_readings, value_readings}
-use Rattle.sk_model.specs.Bounds.{ceil}
 use Rattle.sk_model.specs.Counts.{wanted}
 use Rattle.sk_model.specs.Covers.{CoversAt}
 use Rattle.sk_model.specs.Documents.{Document}
 use Rattle.sk_model.specs.Edits.{document_at, last_id}
 use Rattle.sk_model.specs.Matches.{value_by, key_for, key_of, found_by}
 use Rattle.sk_model.specs.Scores.{score}
-use Rattle.sk_model.specs.Settled.{settled, stop_point}
+use Rattle.sk_model.specs.Settled.{settled}
 use Rattle.sk_model.specs.Sharp.{is_plain}
 use Rattle.sk_model.proofs.PlacedLaws.{length-ordered}
 use Rattle.sk_heap.specs.declared.hit.Hit.{Hit}
@@ -111,10 +110,10 @@ small_there h (d ∷ docs) low document e = by_id (d.0 == h) refl (small_there h
     by_id true f rest = let same = same_id d.0 h f in let l = low.0 in omega (arith, same, l)
     by_id false f rest = rest (sym (found-other h d docs (other_id d.0 h f)) ∙ e)
 
-module _ (query : Tree) (paging : Paging) (docs : Docs) (give : ℕ → Option ℕ) where
+module _ (query : Tree) (paging : Paging) (docs : Docs) (greatest : ℕ) (give : ℕ → Option ℕ) where
   -- ---- a page that saw nothing
 
-  pub page_opened : RiseAbove 0 docs → AllByRecursion (λ (one : ℕ × Document). give one.0 ≡ scores query paging one) docs → (page : Page) → OpensPage paging page → PageOf page query paging docs give 0
+  pub page_opened : RiseAbove 0 docs → AllByRecursion (λ (one : ℕ × Document). give one.0 ≡ scores query paging one) docs → (page : Page) → OpensPage paging page → PageOf page query paging docs greatest give 0
   page_opened rise same page opens =
       let walk : Walk query paging docs give 0 [] = started query paging docs give rise same in
       let pages : Pages paging docs walk.last [] page.heap page.collapser = page_later paging docs 0 walk.last [] page.heap page.collapser (omega arith) (page_start paging docs page.heap page.collapser opens.heap (opens.collapser (key_of paging.collapse docs))) in
@@ -129,13 +128,13 @@ module _ (query : Tree) (paging : Paging) (docs : Docs) (give : ℕ → Option �
         read = omega (arith, opens.read);
         calm = λ plain.
             let is = plain_is paging plain in
-            calm_less query paging docs (stop_point query paging docs) walk.last 0 (need_for paging.options 0 page.heap 0) (omega arith)
-            (calm_need query paging docs is.0 is.1 rise give 0 [] walk (ceil query paging.options.scheme 1 docs) page.heap page.collapser pages (hits_sorted paging docs walk.last [] page.heap page.collapser pages) 0);
+            calm_less query paging docs (settled paging (found_by query paging docs) greatest) walk.last 0 (need_for paging.options 0 page.heap 0) (omega arith)
+            (calm_need query paging docs is.0 is.1 rise give 0 [] walk greatest page.heap page.collapser pages (hits_sorted paging docs walk.last [] page.heap page.collapser pages) 0);
       }
 
   -- ---- a page of a search at a head
 
-  module _ (need : ℕ) (page : Page) (of : PageOf page query paging docs give need) (sorted : AreSorted docs) (h w : ℕ) (head : first_id (weighed give docs) ≡ Some h) (weight : w ≡ first_weight (weighed give docs)) where
+  module _ (need : ℕ) (page : Page) (of : PageOf page query paging docs greatest give need) (sorted : AreSorted docs) (h w : ℕ) (head : first_id (weighed give docs) ≡ Some h) (weight : w ≡ first_weight (weighed give docs)) where
     abbrev walk : Walk query paging docs give need of.saw
     walk = of.walk
 
@@ -281,28 +280,28 @@ module _ (query : Tree) (paging : Paging) (docs : Docs) (give : ℕ → Option �
 
     -- what the tree was asked for then, and what it gives
     module _ (mid : Page) (saw2 : List Rank) (looked : Looked mid saw2) (ceiling need2 : ℕ) (give2 : ℕ → Option ℕ)
-        (asked : ((need2 ≡ need) × (h ≡ last_id)) ⊎ (need2 ≡ max need (need_for mid.options mid.seen mid.heap ceiling)))
+        (asked : (need2 ≡ need) ⊎ (need2 ≡ max need (need_for mid.options mid.seen mid.heap ceiling)))
         (over : AllByRecursion (λ (one : ℕ × Document). CoversAt (cond (nat_le (h + 1) one.0) (give one.0) None) (give2 one.0) need2) docs) where
       abbrev own_ask : ℕ
       own_ask = need_for paging.options mid.seen mid.heap ceiling
 
-      pub asked2 : ((need2 ≡ need) × (h ≡ last_id)) ⊎ (need2 ≡ max need own_ask)
+      pub asked2 : (need2 ≡ need) ⊎ (need2 ≡ max need own_ask)
       asked2 = by_options asked
         where
-          by_options : ((need2 ≡ need) × (h ≡ last_id)) ⊎ (need2 ≡ max need (need_for mid.options mid.seen mid.heap ceiling)) → ((need2 ≡ need) × (h ≡ last_id)) ⊎ (need2 ≡ max need own_ask)
+          by_options : (need2 ≡ need) ⊎ (need2 ≡ max need (need_for mid.options mid.seen mid.heap ceiling)) → (need2 ≡ need) ⊎ (need2 ≡ max need own_ask)
           by_options (inl e) = inl e
           by_options (inr e) = inr (e ∙ (λ j. max need (need_for (looked.options j) mid.seen mid.heap ceiling)))
 
-      pub rises_by : ((need2 ≡ need) × (h ≡ last_id)) ⊎ (need2 ≡ max need own_ask) → need ≤ need2
-      rises_by (inl e) = let same = e.0 in omega (arith, same)
+      pub rises_by : (need2 ≡ need) ⊎ (need2 ≡ max need own_ask) → need ≤ need2
+      rises_by (inl e) = omega (arith, e)
       rises_by (inr e) = omega (arith, e)
 
-      right_by : IsNeed paging docs saw2 h need → IsNeed paging docs saw2 h own_ask → ((need2 ≡ need) × (h ≡ last_id)) ⊎ (need2 ≡ max need own_ask) → IsNeed paging docs saw2 h need2
-      right_by a b (inl e) = subst (IsNeed paging docs saw2 h) (sym e.0) a
+      right_by : IsNeed paging docs saw2 h need → IsNeed paging docs saw2 h own_ask → (need2 ≡ need) ⊎ (need2 ≡ max need own_ask) → IsNeed paging docs saw2 h need2
+      right_by a b (inl e) = subst (IsNeed paging docs saw2 h) (sym e) a
       right_by a b (inr e) = subst (IsNeed paging docs saw2 h) (sym e) (need_max paging docs saw2 h need own_ask a b)
 
-      few_by : ((need2 ≡ need) × (h ≡ last_id)) ⊎ (need2 ≡ max need own_ask) → length saw2 < wanted paging → need2 ≤ paging.options.cutoff
-      few_by (inl e) few = let low = walk.few (omega (arith, few, looked.long)) in let same = e.0 in omega (arith, same, low)
+      few_by : (need2 ≡ need) ⊎ (need2 ≡ max need own_ask) → length saw2 < wanted paging → need2 ≤ paging.options.cutoff
+      few_by (inl e) few = let low = walk.few (omega (arith, few, looked.long)) in omega (arith, e, low)
       few_by (inr e) few =
           let low = walk.few (omega (arith, few, looked.long)) in
           let cut = need_few paging mid.seen ceiling mid.heap (omega (arith, few, looked.seen)) in
@@ -320,7 +319,7 @@ module _ (query : Tree) (paging : Paging) (docs : Docs) (give : ℕ → Option �
       pages_on = subst (λ n. Pages paging docs n saw2 mid.heap mid.collapser) (sym walked_on.1) looked.pages
 
       abbrev stop : ℕ
-      stop = stop_point query paging docs
+      stop = settled paging (found_by query paging docs) greatest
 
       ask_is : need_for paging.options (length saw2) mid.heap ceiling ≡ own_ask
       ask_is = ap (λ n. need_for paging.options n mid.heap ceiling) (sym looked.seen)
@@ -338,15 +337,15 @@ module _ (query : Tree) (paging : Paging) (docs : Docs) (give : ℕ → Option �
           own =
               subst (λ n. IsCalm query paging docs stop n own_ask) walked_on.1
               (subst (IsCalm query paging docs stop walked_on.0.last) ask_is
-              (calm_need query paging docs is.0 is.1 sorted.rise give2 need2 saw2 walked_on.0 (ceil query paging.options.scheme 1 docs) mid.heap mid.collapser pages_on
+              (calm_need query paging docs is.0 is.1 sorted.rise give2 need2 saw2 walked_on.0 greatest mid.heap mid.collapser pages_on
               (hits_sorted paging docs walked_on.0.last saw2 mid.heap mid.collapser pages_on) ceiling))
 
-          by_asked : ((need2 ≡ need) × (h ≡ last_id)) ⊎ (need2 ≡ max need own_ask) → IsCalm query paging docs stop h need2
-          by_asked (inl e) = subst (IsCalm query paging docs stop h) (sym e.0) before
+          by_asked : (need2 ≡ need) ⊎ (need2 ≡ max need own_ask) → IsCalm query paging docs stop h need2
+          by_asked (inl e) = subst (IsCalm query paging docs stop h) (sym e) before
           by_asked (inr e) = subst (IsCalm query paging docs stop h) (sym e) (calm_max query paging docs stop h need own_ask before own)
 
       -- it is the page of the search that goes on
-      pub gone_on : PageOf mid query paging docs give2 need2
+      pub gone_on : PageOf mid query paging docs greatest give2 need2
       gone_on = record {
         options = looked.options;
         order = looked.order;
@@ -367,36 +366,40 @@ module _ (query : Tree) (paging : Paging) (docs : Docs) (give : ℕ → Option �
           let low : need2 ≤ t.0 = subst (λ o. IsSomeAnd o (λ v. need2 ≤ v)) t.2 (calm_on plain before within) in
           (t.0, t.1, low)
 
-      -- from a point on at which this weight cannot matter it is not enough
-      pub asked_behind : is_plain paging ≡ true → (least : ℕ) → settled paging (found_by query paging docs) least ≤ h → h < last_id → (least < need2) ⊎ (ceiling < need2)
-      asked_behind plain least after within =
+      -- from a point on at which this weight cannot matter it is not enough, where what the page needs was asked for
+      pub asked_behind : ((need2 ≡ need) × (h ≡ last_id)) ⊎ (need2 ≡ max need (need_for mid.options mid.seen mid.heap ceiling)) → is_plain paging ≡ true → (least : ℕ) → settled paging (found_by query paging docs) least ≤ h → h < last_id
+          → (least < need2) ⊎ (ceiling < need2)
+      asked_behind strictly plain least after within =
           let is = plain_is paging plain in
           let behind = walked_on.1 in
-          above asked2
+          above strictly
           (asks_more query paging docs is.0 is.1 sorted.rise give2 need2 saw2 walked_on.0 least mid.heap mid.collapser pages_on
           (hits_sorted paging docs walked_on.0.last saw2 mid.heap mid.collapser pages_on) ceiling (omega (arith, after, behind)) (omega (arith, within, behind)))
         where
-          above : ((need2 ≡ need) × (h ≡ last_id)) ⊎ (need2 ≡ max need own_ask) → (least < need_for paging.options (length saw2) mid.heap ceiling) ⊎ (ceiling < need_for paging.options (length saw2) mid.heap ceiling)
+          own : need2 ≡ max need (need_for mid.options mid.seen mid.heap ceiling) → need2 ≡ max need own_ask
+          own e = e ∙ (λ j. max need (need_for (looked.options j) mid.seen mid.heap ceiling))
+
+          above : ((need2 ≡ need) × (h ≡ last_id)) ⊎ (need2 ≡ max need (need_for mid.options mid.seen mid.heap ceiling)) → (least < need_for paging.options (length saw2) mid.heap ceiling) ⊎ (ceiling < need_for paging.options (length saw2) mid.heap ceiling)
               → (least < need2) ⊎ (ceiling < need2)
           above (inl e) high = let last = e.1 in absurd (omega (arith, last, within))
-          above (inr e) (inl high) = inl (omega (arith, e, high, ask_is))
-          above (inr e) (inr high) = inr (omega (arith, e, high, ask_is))
+          above (inr e) (inl high) = let same = own e in inl (omega (arith, same, high, ask_is))
+          above (inr e) (inr high) = let same = own e in inr (omega (arith, same, high, ask_is))
 
     -- a search that goes on is at no document behind the stop point
-    pub head_early : (ceiling : ℕ) → ceiling ≤ ceil query paging.options.scheme 1 docs → is_settled page.options page.seen page.heap ceiling ≡ false → is_plain paging ≡ true → h ≤ stop_point query paging docs
+    pub head_early : (ceiling : ℕ) → ceiling ≤ greatest → is_settled page.options page.seen page.heap ceiling ≡ false → is_plain paging ≡ true → h ≤ settled paging (found_by query paging docs) greatest
     head_early ceiling low goes plain = by_place (nat_lt walk.last point) refl (nat_lt point last_id) refl
       where
         point : ℕ
-        point = stop_point query paging docs
+        point = settled paging (found_by query paging docs) greatest
 
         is : (paging.order.by ≡ OrderBy.Relevance) × (paging.collapse ≡ None)
         is = plain_is paging plain
 
         asks : walk.last < last_id → point ≤ walk.last → is_settled paging.options page.seen page.heap ceiling ≡ true
         asks within after =
-            done_after query paging page.heap page.seen (ceil query paging.options.scheme 1 docs) ceiling low
-            (subst (λ n. (ceil query paging.options.scheme 1 docs < need_for paging.options n page.heap ceiling) ⊎ (ceiling < need_for paging.options n page.heap ceiling)) (sym of.seen)
-            (asks_more query paging docs is.0 is.1 sorted.rise give need of.saw walk (ceil query paging.options.scheme 1 docs) page.heap page.collapser of.pages (hits_sorted paging docs walk.last of.saw page.heap page.collapser of.pages) ceiling after within))
+            done_after query paging page.heap page.seen greatest ceiling low
+            (subst (λ n. (greatest < need_for paging.options n page.heap ceiling) ⊎ (ceiling < need_for paging.options n page.heap ceiling)) (sym of.seen)
+            (asks_more query paging docs is.0 is.1 sorted.rise give need of.saw walk greatest page.heap page.collapser of.pages (hits_sorted paging docs walk.last of.saw page.heap page.collapser of.pages) ceiling after within))
 
         first_given : (o : Option Document) → document_at point docs ≡ o → IsCalm query paging docs point walk.last need → walk.last < point → point < last_id → h ≤ point
         first_given None e calm before within = absurd (subst (λ (o : Option Document). IsSomeAnd (option_and_then (λ d. score query paging.options.scheme 1 d) o) (λ v. need ≤ v)) e (calm before within))

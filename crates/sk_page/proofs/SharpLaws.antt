@@ -1,15 +1,17 @@
 -- The steps of a search are within the sharper bounds, where what it read of lists is.
-use Rattle.std.proofs.Common.{◌≡◌, ◌≤◌, ◌+◌, ℕ, Bool, true, false, cond, List, [], ◌∷◌, Option, None, Some, option_map, IfSome, refl, sym, ap, subst, arith, true≢false}
+use Rattle.std.proofs.Common.{◌≡◌, ◌≤◌, ◌+◌, ℕ, Bool, true, false, cond, List, [], ◌∷◌, length, Option, None, Some, option_map, IfSome, refl, sym, ap, subst, arith, true≢false}
 use Rattle.sk_base.specs.declared.find.Collapse.{Collapse}
 use Rattle.sk_base.specs.declared.find.Paging.{Paging}
 use Rattle.sk_base.specs.declared.rank.OrderBy.{OrderBy}
 use Rattle.sk_base.specs.Numbers.{Docs}
 use Rattle.sk_query.specs.declared.form.Form.{Form}
 use Rattle.sk_query.specs.Trees.{Tree, parts, Trees}
-use Rattle.sk_model.specs.Allowance.{key_readings, value_readings, extra}
+use Rattle.sk_model.specs.Allowance.{key_readings, value_readings, extra, allowance}
+use Rattle.sk_model.specs.Joined.{term_lists, joined_ups, joined_stop_point, joined_stop, joined_most}
+use Rattle.sk_model.specs.Matches.{found_by}
 use Rattle.sk_model.specs.Settled.{stop_point}
-use Rattle.sk_model.specs.Sharp.{is_plain, flat_lists, ups, stop_number, rare_lists, rare_readings, rare_number, terms_in, of_two, decay_of, decay_number}
-use Rattle.sk_page.specs.Tells.{IsSpent}
+use Rattle.sk_model.specs.Sharp.{is_plain, flat_lists, ups, stop_number, rare_lists, rare_readings, rare_number, terms_in, of_two, decay_of, decay_number, at_most}
+use Rattle.sk_page.specs.Tells.{IsSpent, IsSpentOver}
 
 -- a plain find goes by relevance and does not collapse
 pub plain_is : (paging : Paging) → is_plain paging ≡ true → (paging.order.by ≡ OrderBy.Relevance) × (paging.collapse ≡ None)
@@ -73,3 +75,25 @@ within_decay query paging docs spent seen hits steps within most = by_form query
     by_form : (q : Tree) → query ≡ q → IfSome (decay_number q paging docs hits) (λ n. steps ≤ n)
     by_form (parts Form.Or ts) is = subst (λ (q : Tree). IfSome (cond (is_plain paging) (decay_of q paging docs hits (of_two (terms_in ts))) None) (λ n. steps ≤ n)) is (by_plain ts is (is_plain paging) refl)
     by_form _ is = cc
+
+-- ---- over several parts
+
+pub within_joined_stop : (n : ℕ) (query : Tree) (paging : Paging) (docs : Docs) (spent seen hits steps : ℕ) → IsSpentOver n query paging docs spent → steps ≤ spent + (key_readings paging.collapse seen + value_readings paging.order.by seen + hits)
+    → IfSome (joined_stop n query paging docs hits) (λ m. steps ≤ m)
+within_joined_stop n query paging docs spent seen hits steps within most = by_plain (is_plain paging) refl (term_lists query) refl
+  where
+    by_plain : (b : Bool) → is_plain paging ≡ b → (o : Option (List (List ℕ))) → term_lists query ≡ o → IfSome (cond b (option_map (λ lists. joined_ups n lists (joined_stop_point n query paging docs) docs + hits) o) None) (λ m. steps ≤ m)
+    by_plain true e (Some lists) f =
+        let few = within.stop e lists f in
+        omega (arith, few, most, plain_free paging seen e)
+    by_plain true e None f = cc
+    by_plain false e o f = cc
+
+-- what is within each number is within what the parts allow
+pub within_joined : (n : ℕ) (query : Tree) (paging : Paging) (docs : Docs) (hits steps : ℕ) → steps ≤ allowance query paging docs (length (found_by query paging docs)) hits
+    → IfSome (joined_stop n query paging docs hits) (λ m. steps ≤ m) → steps ≤ joined_most n query paging docs hits
+within_joined n query paging docs hits steps all stop = least (joined_stop n query paging docs hits) stop
+  where
+    least : (o : Option ℕ) → IfSome o (λ m. steps ≤ m) → steps ≤ at_most (allowance query paging docs (length (found_by query paging docs)) hits) o
+    least None one = all
+    least (Some m) one = omega (arith, all, one)

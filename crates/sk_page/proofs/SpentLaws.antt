@@ -42,7 +42,7 @@ ups_none (t ∷ lists) docs rise = omega (arith, up_none t 0 docs rise, ups_none
 
 -- ---- within the sharp bound
 
-module _ (query : Tree) (paging : Paging) (docs : Docs) (give : ℕ → Option ℕ) (need : ℕ) (page : Page) (of : PageOf page query paging docs give need) where
+module _ (query : Tree) (paging : Paging) (docs : Docs) (greatest : ℕ) (give : ℕ → Option ℕ) (need : ℕ) (page : Page) (of : PageOf page query paging docs greatest give need) where
   saw_few : length of.saw ≤ length (found_by query paging docs)
   saw_few =
       let beside = (shown_beside (is_behind_page paging.order (held_by paging docs of.saw)) (λ _. []) (λ _ _ _. refl) (found_by query paging of.walk.before) of.saw of.walk.shown).long in

@@ -1,5 +1,5 @@
 -- The report of a search at its end is one that the find may have.
-use Rattle.std.proofs.Common.{cond, ◌==◌, bytes_eq, ◌≡◌, ◌≤◌, ◌+◌, ◌-◌, ◌⊎◌, ℕ, true, List, [], ◌∷◌, ◌++◌, length, take, drop, min, Option, None, Some, sym, ap, ◌∙◌, subst, arith, inl, inr, length-take, length-drop}
+use Rattle.std.proofs.Common.{cond, ◌==◌, bytes_eq, ◌≡◌, ◌≤◌, ◌+◌, ◌-◌, ◌⊎◌, ℕ, List, [], ◌∷◌, ◌++◌, length, take, drop, min, Option, None, Some, sym, ap, ◌∙◌, subst, arith, inl, inr, length-take, length-drop}
 use Rattle.std.specs.List.{AllZip}
 use Rattle.std.proofs.lemmas.List.{drop-take, length-append}
 use Rattle.std.proofs.Math.Seq.{take-append_seam}
@@ -14,24 +14,23 @@ use Rattle.sk_base.specs.declared.report.Report.{Report}
 use Rattle.sk_base.specs.Before.{is_before}
 use Rattle.sk_base.specs.Numbers.{Docs}
 use Rattle.sk_query.specs.Trees.{Tree}
-use Rattle.sk_query.specs.Fits.{is_sound}
 use Rattle.sk_model.specs.Allowance.{key_readings, value_readings}
-use Rattle.sk_model.specs.Bounds.{ceil, static_count}
 use Rattle.sk_model.specs.Counts.{wanted, seen, AllSeen, kept_by, dropped_by, duplicates, Counts, CollapseCount}
 use Rattle.sk_model.specs.Edits.{document_at}
+use Rattle.sk_model.specs.Joined.{joined_most}
 use Rattle.sk_model.specs.Matches.{found_by, key_for, key_of}
 use Rattle.sk_model.specs.Page.{best_first, kept, count_key, dropped}
 use Rattle.sk_model.specs.Laws.{kept_number}
 use Rattle.sk_model.proofs.PlacedLaws.{ordered_permutation}
 use Rattle.sk_model.specs.Reports.{page_of, IsHit}
-use Rattle.sk_report.specs.Reports.{ReportsFor}
-use Rattle.sk_model.proofs.CountLaws.{found_within}
+use Rattle.sk_model.specs.Sharp.{sharp}
+use Rattle.sk_report.specs.Reports.{ReportsWithin}
 use Rattle.sk_model.proofs.KeptLaws.{kept_alike, kept_front, kept_others, dropped_front, kept_few, kept_each}
 use Rattle.sk_page.specs.Walks.{page_end, held_by, IsFull, HasEnded}
-use Rattle.sk_page.specs.Tells.{TellsHit, IsUpper, TellsReport}
+use Rattle.sk_page.specs.Tells.{TellsHit, IsUpper, IsSpent, IsSpentOver, TellsReport}
 use Rattle.sk_page.proofs.ShownLaws.{Beside, shown_beside}
 use Rattle.sk_page.proofs.FrontLaws.{front_alike}
-use Rattle.sk_page.proofs.SharpLaws.{within_stop, within_rare, within_decay}
+use Rattle.sk_page.proofs.SharpLaws.{within_stop, within_rare, within_decay, within_joined, within_joined_stop}
 use Rattle.sk_report.proofs.ReportLaws.{within_sharp}
 
 -- a key hangs on the id
@@ -132,15 +131,15 @@ module _ (query : Tree) (paging : Paging) (docs : Docs) (saw : List Rank) (end :
   }
 
   -- where all must be seen, all was seen as it is
-  exactly : (upper : ℕ) → AllSeen paging all (ceil query paging.options.scheme 1 docs) → IsUpper query paging docs saw upper → all ≡ saw
-  exactly upper (inl few) is = end.exact few
-  exactly upper (inr low) (inl is) = is.0
-  exactly upper (inr low) (inr is) = let most = is.1 in absurd (omega (arith, low, most))
+  exactly : (greatest static upper : ℕ) → AllSeen paging all greatest → IsUpper query paging docs greatest static saw upper → all ≡ saw
+  exactly greatest static upper (inl few) is = end.exact few
+  exactly greatest static upper (inr low) (inl is) = is.0
+  exactly greatest static upper (inr low) (inr is) = let most = is.1 in absurd (omega (arith, low, most))
 
-  upper_exact : (upper : ℕ) → AllSeen paging all (ceil query paging.options.scheme 1 docs) → IsUpper query paging docs saw upper → upper ≡ length (kept_by paging docs all)
-  upper_exact upper seen_all (inl is) = is.1 ∙ ap (λ rs. length (kept_by paging docs rs)) (sym is.0)
-  upper_exact upper (inl few) (inr is) = let many = is.0 in let n = numbers in absurd (omega (arith, few, many, n.all_long))
-  upper_exact upper (inr low) (inr is) = let most = is.1 in absurd (omega (arith, low, most))
+  upper_exact : (greatest static upper : ℕ) → AllSeen paging all greatest → IsUpper query paging docs greatest static saw upper → upper ≡ length (kept_by paging docs all)
+  upper_exact greatest static upper seen_all (inl is) = is.1 ∙ ap (λ rs. length (kept_by paging docs rs)) (sym is.0)
+  upper_exact greatest static upper (inl few) (inr is) = let many = is.0 in let n = numbers in absurd (omega (arith, few, many, n.all_long))
+  upper_exact greatest static upper (inr low) (inr is) = let most = is.1 in absurd (omega (arith, low, most))
 
   module _ (static upper : ℕ) (within : length all ≤ static) where
     upper_most : ((all ≡ saw) × (upper ≡ length (kept_by paging docs saw))) ⊎ (upper ≡ static - duplicates paging docs saw) → length (kept_by paging docs all) ≤ upper
@@ -151,22 +150,20 @@ module _ (query : Tree) (paging : Paging) (docs : Docs) (saw : List Rank) (end :
     upper_static (inl is) = let up = is.1 in let n = numbers in omega (arith, within, up, n.all_long, n.front_others, n.front_few, n.front_long, n.rest_long, n.seen_kept, n.seen_long)
     upper_static (inr up) = let n = numbers in omega (arith, up, n.front_others, n.front_few, n.saw_few, n.front_long, n.rest_long, n.seen_kept, n.seen_long)
 
-  upper_of : (upper : ℕ) → IsUpper query paging docs saw upper → ((all ≡ saw) × (upper ≡ length (kept_by paging docs saw))) ⊎ (upper ≡ static_count query docs - duplicates paging docs saw)
-  upper_of upper (inl is) = inl is
-  upper_of upper (inr is) = inr is.2
+  upper_of : (greatest static upper : ℕ) → IsUpper query paging docs greatest static saw upper → ((all ≡ saw) × (upper ≡ length (kept_by paging docs saw))) ⊎ (upper ≡ static - duplicates paging docs saw)
+  upper_of greatest static upper (inl is) = inl is
+  upper_of greatest static upper (inr is) = inr is.2
 
-  pub counts_told : (above lower upper : ℕ) → is_sound above query ≡ true → lower ≡ length (kept_by paging docs saw) → IsUpper query paging docs saw upper
-      → Counts paging docs all (ceil query paging.options.scheme 1 docs) (static_count query docs) lower upper
-  counts_told above lower upper sound low high =
+  pub counts_told : (greatest static lower upper : ℕ) → length all ≤ static → lower ≡ length (kept_by paging docs saw) → IsUpper query paging docs greatest static saw upper → Counts paging docs all greatest static lower upper
+  counts_told greatest static lower upper within low high =
       let n = numbers in
-      let within : length all ≤ static_count query docs = found_within query paging above docs sound in
       record {
         of_seen = omega (arith, low, n.front_fewer, n.seen_kept);
         at_least = omega (arith, low, fewer_kept);
-        at_most = upper_most (static_count query docs) upper within (upper_of upper high);
-        of_static = upper_static (static_count query docs) upper within (upper_of upper high);
-        exact_lower = λ is. low ∙ ap (λ rs. length (kept_by paging docs rs)) (sym (exactly upper is high));
-        exact_upper = λ is. upper_exact upper is high;
+        at_most = upper_most static upper within (upper_of greatest static upper high);
+        of_static = upper_static static upper within (upper_of greatest static upper high);
+        exact_lower = λ is. low ∙ ap (λ rs. length (kept_by paging docs rs)) (sym (exactly greatest static upper is high));
+        exact_upper = λ is. upper_exact greatest static upper is high;
       }
 
   -- what is dropped of a key
@@ -188,21 +185,35 @@ module _ (query : Tree) (paging : Paging) (docs : Docs) (saw : List Rank) (end :
     hits_told ranks hits h.1,
   )
 
-  pub told : (above : ℕ) (report : Report) → is_sound above query ≡ true → TellsReport query paging docs saw report → ReportsFor query paging docs report
-  told above report sound tells =
-      let n = numbers in
-      let fewer : length saw ≤ length all = omega (arith, n.all_long) in
-      record {
-        hits = hits_told (page_of query paging docs) report.hits (subst (λ ranks. AllZip (TellsHit paging docs saw) ranks report.hits) (sym page_is) tells.hits);
-        counts = counts_told above report.lower report.upper sound tells.lower tells.upper;
-        estimate = tells.estimate;
-        greatest = tells.greatest;
-        least_steps = tells.least_steps;
-        most_steps =
-            let lists = tells.within.lists in
-            within_sharp query paging docs (length report.hits) report.steps
-            (omega (arith, tells.most_steps, lists, more_keys paging.collapse (length saw) (length all) fewer, more_values paging.order.by (length saw) (length all) fewer))
-            (within_stop query paging docs tells.spent (length saw) (length report.hits) report.steps tells.within tells.most_steps)
-            (within_rare query paging docs tells.spent (length all) (length report.hits) report.steps tells.within (omega (arith, tells.most_steps, more_keys paging.collapse (length saw) (length all) fewer, more_values paging.order.by (length saw) (length all) fewer)))
-            (within_decay query paging docs tells.spent (length saw) (length report.hits) report.steps tells.within tells.most_steps);
-      }
+  pub told : (greatest static : ℕ) (most : ℕ → ℕ) (report : Report) → length all ≤ static → TellsReport query paging docs greatest static saw report → report.steps ≤ most (length report.hits) → ReportsWithin query paging docs greatest static most report
+  told greatest static most report within tells few = record {
+    hits = hits_told (page_of query paging docs) report.hits (subst (λ ranks. AllZip (TellsHit paging docs saw) ranks report.hits) (sym page_is) tells.hits);
+    counts = counts_told greatest static report.lower report.upper within tells.lower tells.upper;
+    estimate = tells.estimate;
+    greatest = tells.greatest;
+    least_steps = tells.least_steps;
+    most_steps = few;
+  }
+
+  -- ---- its steps
+
+  fewer : length saw ≤ length all
+  fewer = let n = numbers in omega (arith, n.all_long)
+
+  -- over one index they are within the sharp bound
+  pub steps_sharp : (greatest static : ℕ) (report : Report) (tells : TellsReport query paging docs greatest static saw report) → IsSpent query paging docs tells.spent → report.steps ≤ sharp query paging docs (length report.hits)
+  steps_sharp greatest static report tells spent =
+      let lists = spent.lists in
+      within_sharp query paging docs (length report.hits) report.steps
+      (omega (arith, tells.most_steps, lists, more_keys paging.collapse (length saw) (length all) fewer, more_values paging.order.by (length saw) (length all) fewer))
+      (within_stop query paging docs tells.spent (length saw) (length report.hits) report.steps spent tells.most_steps)
+      (within_rare query paging docs tells.spent (length all) (length report.hits) report.steps spent (omega (arith, tells.most_steps, more_keys paging.collapse (length saw) (length all) fewer, more_values paging.order.by (length saw) (length all) fewer)))
+      (within_decay query paging docs tells.spent (length saw) (length report.hits) report.steps spent tells.most_steps)
+
+  -- over n parts they are within what the parts allow
+  pub steps_joined : (n greatest static : ℕ) (report : Report) (tells : TellsReport query paging docs greatest static saw report) → IsSpentOver n query paging docs tells.spent → report.steps ≤ joined_most n query paging docs (length report.hits)
+  steps_joined n greatest static report tells spent =
+      let lists = spent.lists in
+      within_joined n query paging docs (length report.hits) report.steps
+      (omega (arith, tells.most_steps, lists, more_keys paging.collapse (length saw) (length all) fewer, more_values paging.order.by (length saw) (length all) fewer))
+      (within_joined_stop n query paging docs tells.spent (length saw) (length report.hits) report.steps spent tells.most_steps)

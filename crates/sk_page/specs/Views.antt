@@ -8,8 +8,8 @@ use Rattle.sk_base.specs.Numbers.{Docs}
 use Rattle.sk_query.specs.Trees.{Tree}
 use Rattle.sk_model.specs.Allowance.{key_readings, value_readings}
 use Rattle.sk_model.specs.Edits.{document_at}
-use Rattle.sk_model.specs.Matches.{key_for}
-use Rattle.sk_model.specs.Settled.{stop_point}
+use Rattle.sk_model.specs.Matches.{key_for, found_by}
+use Rattle.sk_model.specs.Settled.{settled}
 use Rattle.sk_model.specs.Sharp.{is_plain}
 use Rattle.sk_heap.specs.declared.hit.Hit.{Hit}
 use Rattle.sk_collapse.specs.Collapsed.{group_of}
@@ -30,8 +30,8 @@ pub record OpensPage (paging : Paging) (page : Page) : Type 0 where
   pub seen : page.seen ≡ 0
   pub read : page.read ≡ 0
 
--- A page is that of this find over documents of which it saw some; a search that goes on is given what covers the others, under the need.
-pub record PageOf (page : Page) (query : Tree) (paging : Paging) (docs : Docs) (give : ℕ → Option ℕ) (need : ℕ) : Type 0 where
+-- A page is that of this find over documents of which it saw some, where none is known to weigh more than the greatest; a search that goes on is given what covers the others, under the need.
+pub record PageOf (page : Page) (query : Tree) (paging : Paging) (docs : Docs) (greatest : ℕ) (give : ℕ → Option ℕ) (need : ℕ) : Type 0 where
   pub options : page.options ≡ paging.options
   pub order : page.order ≡ paging.order
   pub collapse : page.collapse ≡ paging.collapse
@@ -40,7 +40,7 @@ pub record PageOf (page : Page) (query : Tree) (paging : Paging) (docs : Docs) (
   pub walk : Walk query paging docs give need saw
   pub pages : Pages paging docs walk.last saw page.heap page.collapser
   pub read : page.read ≤ key_readings paging.collapse (length saw) + value_readings paging.order.by (length saw)
-  pub calm : is_plain paging ≡ true → IsCalm query paging docs (stop_point query paging docs) walk.last need
+  pub calm : is_plain paging ≡ true → IsCalm query paging docs (settled paging (found_by query paging docs) greatest) walk.last need
 
 -- A page may see a match of this id and weight: behind all that it saw, which are few.
 pub record MaySee (page : Page) (id weight : ℕ) : Type 0 where

@@ -5,3 +5,4 @@ pub mod KeptLemmas
 pub mod ReportLemmas
 mod WildLemmas
 mod FacetLemmas
+mod PartLemmas

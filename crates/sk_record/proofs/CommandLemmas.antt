@@ -52,7 +52,7 @@ module _ (accepted : Schema) (is : are_fields accepted.fields ≡ true) where
   Comes = MayCome (Some accepted)
 
   shape_comes : (shape : Shape) (command : Command Data) → FitsShape shape → command_of accepted.fields shape ≡ Some command → Comes command
-  shape_comes (schema given) command fits e = absurd fits
+  shape_comes (schema given parts) command fits e = absurd fits
   shape_comes (add given) command fits e =
       mapped Comes (λ it. Command.Edit (Edit.Add it)) (record_of accepted.fields given) command (λ it made. record_fits accepted.fields given it is fits made) e
   shape_comes (replace id given) command fits e =
@@ -81,7 +81,7 @@ question_fits (Question.Show text join) fits = fits
 question_fits (Question.Facets query) fits = record { text = fits.text; size = fits.size }
 
 comes : (accepted : Schema) (command : Command Value) → MayCome (Some accepted) (command_over view command) → MayCome (Some accepted) command
-comes accepted (Command.Schema given) fits = fits
+comes accepted (Command.Schema given parts) fits = fits
 comes accepted (Command.Edit edit) fits = fits
 comes accepted (Command.Ask question) fits = question_fits question fits
 

@@ -76,10 +76,13 @@ abbrev pub field : List ℕ → FieldKind → Field
 field name kind = record { name = name; kind = kind }
 
 abbrev pub opened : List Field → Result (Command Data) LineFault
-opened fields = Ok (Command.Schema (record { fields = fields; stem = false }))
+opened fields = Ok (Command.Schema (record { fields = fields; stem = false }) 1)
 
 abbrev pub opened_stemming : List Field → Result (Command Data) LineFault
-opened_stemming fields = Ok (Command.Schema (record { fields = fields; stem = true }))
+opened_stemming fields = Ok (Command.Schema (record { fields = fields; stem = true }) 1)
+
+abbrev pub opened_in : ℕ → List Field → Result (Command Data) LineFault
+opened_in parts fields = Ok (Command.Schema (record { fields = fields; stem = false }) parts)
 
 -- an edit
 abbrev pub entry : ℕ → FieldValue → Entry

@@ -1,7 +1,7 @@
 -- Lines before a schema was accepted, and what they give, worked out by hand from the rules. A ' stands for a ".
 use Rattle.std.proofs.Common.{◌∷◌, [], refl, None, codes}
 use Rattle.sk_base.specs.declared.schema.FieldKind.TheVariants as FieldKind
-use Rattle.sk_record.proofs.ExampleLines.{on_lines, AreGiven, row, field, opened, opened_stemming, not_json, no_schema, bad_shape, bad_field}
+use Rattle.sk_record.proofs.ExampleLines.{on_lines, AreGiven, row, field, opened, opened_stemming, opened_in, not_json, no_schema, bad_shape, bad_field}
 
 -- Bytes that are no JSON value.
 no_json : AreGiven None (
@@ -66,6 +66,26 @@ stems : AreGiven None (
     [])
 unfolding on_lines
 stems = refl
+
+-- The number of parts: 1 to 16, and 1 where nothing is said. The fields are judged behind it.
+parts : AreGiven None (
+    row (codes "{'schema':[{'name':'a','kind':'text'}],'parts':1}") (opened (field (codes "a") (FieldKind.Text [] 1) ∷ [])) ∷
+    row (codes "{'parts':2,'schema':[{'name':'a','kind':'text'}]}") (opened_in 2 (field (codes "a") (FieldKind.Text [] 1) ∷ [])) ∷
+    row (codes "{'schema':[{'name':'a','kind':'text'}],'parts':16,'stem':false}") (opened_in 16 (field (codes "a") (FieldKind.Text [] 1) ∷ [])) ∷
+    row (codes "{'parts':0,'schema':[{'name':'a','kind':'text'}],'parts':3}") (opened_in 3 (field (codes "a") (FieldKind.Text [] 1) ∷ [])) ∷
+    row (codes "{'schema':[{'name':'a','kind':'text'}],'parts':0}") bad_shape ∷
+    row (codes "{'schema':[{'name':'a','kind':'text'}],'parts':17}") bad_shape ∷
+    row (codes "{'schema':[{'name':'a','kind':'text'}],'parts':-1}") bad_shape ∷
+    row (codes "{'schema':[{'name':'a','kind':'text'}],'parts':null}") bad_shape ∷
+    row (codes "{'schema':[{'name':'a','kind':'text'}],'parts':1.5}") bad_shape ∷
+    row (codes "{'schema':[{'name':'a','kind':'text'}],'parts':'2'}") bad_shape ∷
+    row (codes "{'schema':[{'name':'a','kind':'text'}],'parts':18446744073709551616}") bad_shape ∷
+    row (codes "{'schema':[{'name':'A','kind':'text'}],'parts':2}") bad_field ∷
+    row (codes "{'schema':[{'name':'A','kind':'text'}],'parts':17}") bad_shape ∷
+    row (codes "{'parts':2}") no_schema ∷
+    [])
+unfolding on_lines
+parts = refl
 
 -- A field has a name and a kind.
 names_and_kinds : AreGiven None (

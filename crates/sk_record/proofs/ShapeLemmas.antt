@@ -28,7 +28,7 @@ pub record FitsCounted (counted : Counted) : Type 0 where
 
 -- a shape that is no schema, and is in its ranges
 abbrev pub FitsShape : Shape → Type 0
-FitsShape (schema given) = ⊥
+FitsShape (schema given parts) = ⊥
 FitsShape (add given) = bytes_in given.values ≤ most_bytes
 FitsShape (replace id given) = (1 ≤ id) × (bytes_in given.values ≤ most_bytes)
 FitsShape (replace_by pair given) = bytes_in given.values ≤ most_bytes

@@ -149,7 +149,7 @@ replaced_by fields pair given = option_and_then (λ term. option_map (λ it. Edi
 
 -- What a shape says under the fields that were accepted; a schema stands by itself.
 abbrev pub command_of : List Field → Shape → Option (Command Data)
-command_of fields (schema given) = if are_fields given.fields then Some (Command.Schema given) else None
+command_of fields (schema given parts) = if are_fields given.fields then Some (Command.Schema given parts) else None
 command_of fields (add given) = option_map (λ it. Command.Edit (Edit.Add it)) (record_of fields given)
 command_of fields (replace id given) = option_map (λ it. Command.Edit (Edit.Replace id it)) (record_of fields given)
 command_of fields (replace_by pair given) = option_map (λ it. Command.Edit it) (replaced_by fields pair given)

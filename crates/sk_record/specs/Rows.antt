@@ -92,4 +92,4 @@ later_shape d =
 
 -- The shape of a value, and none where it fits no row.
 abbrev pub row_shape : Data → Option Shape
-row_shape d = if has (codes "schema") d then option_map schema (schema_row d) else later_shape d
+row_shape d = if has (codes "schema") d then option_map (λ p. schema p.0 p.1) (schema_row d) else later_shape d

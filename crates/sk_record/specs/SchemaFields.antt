@@ -6,7 +6,7 @@ use Rattle.serde_json.specs.Find.{get, as_array}
 use Rattle.sk_base.specs.declared.schema.Field.{Field}
 use Rattle.sk_base.specs.declared.schema.FieldKind.{FieldKind}
 use Rattle.sk_base.specs.declared.schema.Schema.{Schema}
-use Rattle.sk_json.specs.Values.{has_only, text_at, optional_text, optional_number, optional_flag, whole_number, count_items}
+use Rattle.sk_json.specs.Values.{has_only, text_at, optional_text, optional_number, optional_flag, whole_number, between, count_items}
 
 -- A number beyond 32 bits is taken as the greatest of 32 bits, which is out of range as well.
 abbrev pub capped : ℕ → ℕ
@@ -61,9 +61,14 @@ some_fields ds = if nat_le 1 (count_items ds) && nat_le (count_items ds) 64 then
 abbrev pub fields_at : Data → Option (List Field)
 fields_at d = option_and_then some_fields (option_and_then as_array (get (codes "schema") d))
 
--- The schema of a schema line. Words are not stemmed where nothing is said.
-abbrev pub schema_row : Data → Option Schema
+-- In how many parts the documents stand: 1 to 16, and in one where nothing is said.
+abbrev pub parts_at : Data → Option ℕ
+parts_at d = option_and_then (between 1 16) (optional_number (codes "parts") 1 d)
+
+-- The schema of a schema line, and the number of parts. Words are not stemmed where nothing is said.
+abbrev pub schema_row : Data → Option (Schema × ℕ)
 schema_row d =
-    if has_only (codes "schema" ∷ codes "stem" ∷ []) d then
-    option_and_then (λ stem. option_map (λ fields. record { fields = fields; stem = stem }) (fields_at d)) (optional_flag (codes "stem") d)
+    if has_only (codes "schema" ∷ codes "stem" ∷ codes "parts" ∷ []) d then
+    option_and_then (λ stem.
+    option_and_then (λ parts. option_map (λ fields. (record { fields = fields; stem = stem }, parts)) (fields_at d)) (parts_at d)) (optional_flag (codes "stem") d)
     else None

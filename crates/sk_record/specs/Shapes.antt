@@ -37,9 +37,9 @@ pub record Counted : Type 0 where
   pub field : List ℕ
   pub size : ℕ
 
--- The rows. A field and a text are those of `replace_by` and `delete_by`.
+-- The rows. A schema has the number of parts beside it. A field and a text are those of `replace_by` and `delete_by`.
 pub data Shape : Type 0 where
-  schema : Schema → Shape
+  schema : Schema → ℕ → Shape
   add : Given → Shape
   replace : ℕ → Given → Shape
   replace_by : List ℕ × List ℕ → Given → Shape

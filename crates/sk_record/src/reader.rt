@@ -45,7 +45,7 @@ fn first_command(alloc: Global, value: &Value) -> Result<Command<Value>, LineFau
         return Err(LineFault::BadShape);
     };
     match Schema::check(row.fields, row.stem) {
-        Some(schema) => Ok(Command::Schema(schema)),
+        Some(schema) => Ok(Command::Schema(schema, row.parts)),
         None => Err(LineFault::BadField),
     }
 }

@@ -3,36 +3,56 @@ ghost use Rattle.std.specs.Prelude.{◌≡◌, ◌≤◌, ◌&&◌, nat_le, leng
 ghost use Rattle.std.specs.Option.{option_and_then};
 ghost use Rattle.serde_json.specs.View.{view, items_view};
 ghost use Rattle.serde_json.specs.Find.{get, as_array};
+ghost use Rattle.sk_base.specs.Commands.{FitsParts};
 ghost use Rattle.sk_base.specs.declared.schema.FieldKind.TheVariants as FieldKind;
-ghost use Rattle.sk_record.specs.SchemaFields.{capped, text_kind, filter_kind, slot_at, kind_named, kind_of, field_of, fields_of, some_fields, fields_at, schema_row};
+ghost use Rattle.sk_record.specs.SchemaFields.{capped, text_kind, filter_kind, slot_at, kind_named, kind_of, field_of, fields_of, some_fields, fields_at, parts_at, schema_row};
 
 use serde_json::Value;
-use sk_base::{Field, FieldKind, MOST_FIELDS, Text};
-use sk_json::{has_only, optional_flag, optional_number, optional_text, text_at, whole_number};
+use sk_base::{Field, FieldKind, MOST_FIELDS, MOST_PARTS, Text};
+use sk_json::{
+    between, has_only, optional_flag, optional_number, optional_text, text_at, whole_number,
+};
 use std::alloc::{AllocError, Global};
 
-/// The fields of a schema line, and whether it asks for stems.
+/// The fields of a schema line, whether it asks for stems, and for how many parts.
 #[derive(Drop)]
 pub struct SchemaRow {
     pub fields: Vec<Field>,
     pub stem: bool,
+    pub parts: u32,
 }
 
 /// What a schema line gives, none where it has not the shape of one.
 pub fn schema_row(alloc: Global, line: &Value) -> Result<Option<SchemaRow>, AllocError>
-    ensures value { IfOk result (λ r. option_map (λ row. record { fields = row.fields.items; stem = row.stem }) r ≡ schema_row (view line.now)) }
+    ensures value { IfOk result (λ r. option_map (λ row. (record { fields = row.fields.items; stem = row.stem }, row.parts)) r ≡ schema_row (view line.now)) }
     ensures count { IfOk result (λ r. IfSome r (λ row. (1 ≤ length row.fields.items) × (length row.fields.items ≤ 64))) }
+    ensures parts { IfOk result (λ r. IfSome r (λ row. FitsParts row.parts)) }
 {
-    if !has_only(line, &["schema", "stem"]) {
+    if !has_only(line, &["schema", "stem", "parts"]) {
         return Ok(None);
     }
     let Some(stem) = optional_flag(line, "stem") else {
         return Ok(None);
     };
+    let Some(parts) = parts_at(line) else {
+        return Ok(None);
+    };
     match fields_at(alloc, line)? {
-        Some(fields) => Ok(Some(SchemaRow { fields, stem })),
+        Some(fields) => Ok(Some(SchemaRow {
+            fields,
+            stem,
+            parts,
+        })),
         None => Ok(None),
     }
+}
+
+/// In how many parts the documents stand, none where the line says it wrongly.
+fn parts_at(line: &Value) -> Option<u32>
+    ensures value { result ≡ parts_at (view line.now) }
+    ensures few { IfSome result FitsParts }
+{
+    between(1, MOST_PARTS, optional_number(line, "parts", 1)?)
 }
 
 fn fields_at(alloc: Global, line: &Value) -> Result<Option<Vec<Field>>, AllocError>

@@ -1,37 +1,39 @@
 -- What a shelf holds, and what it does.
-use Rattle.std.specs.Prelude.{◌≡◌, ℕ}
+use Rattle.std.specs.Prelude.{◌≡◌, ℕ, ◌==◌, if◌then◌else◌}
 use Rattle.sk_base.specs.declared.facets.Facets.{Facets}
 use Rattle.sk_base.specs.declared.schema.Schema.{Schema}
 use Rattle.sk_base.specs.declared.find.Paging.{Paging}
 use Rattle.sk_base.specs.declared.report.Report.{Report}
 use Rattle.sk_query.specs.Trees.{Tree}
-use Rattle.sk_model.specs.Edits.{Live, nothing_live}
+use Rattle.sk_model.specs.Edits.{Live}
 use Rattle.sk_model.specs.Facets.{facet_allowance}
 use Rattle.sk_report.specs.Facets.{FacetsFor}
-use Rattle.sk_plain.specs.Pages.{report_for}
-use Rattle.sk_run.specs.Conducts.{Conduct, EditsLive, ClosesSilently}
+use Rattle.sk_plain.specs.Pages.{report_for, report_in_parts}
+use Rattle.sk_run.specs.Conducts.{Conduct, Held, nothing_held, are_in_parts, EditsHeld, ClosesSilently}
 
--- What a shelf holds: its schema, and the live documents.
+-- What a shelf holds: its schema, the live documents, and in how many parts they stand.
 pub record Shelved : Type 0 where
   pub schema : Schema
   pub live : Live
+  pub parts : ℕ
 
 -- The schema that a shelf is under.
 abbrev pub schema_of : Shelved → Schema
 schema_of shelf = shelf.schema
 
--- A shelf holds these live documents.
-abbrev pub holds : Shelved → Live → Type 0
-holds shelf live = shelf.live ≡ live
+-- A shelf holds these live documents, in so many parts.
+abbrev pub holds : Shelved → Held → Type 0
+holds shelf held = record { live = shelf.live; parts = shelf.parts } ≡ held
 
 -- The report of a find of a query over these live documents: one, and no other.
-abbrev pub Finds : Live → Paging → Tree → Report → Type 0
-Finds live paging query report = report ≡ report_for query paging live.documents
+abbrev pub Finds : Held → Paging → Tree → Report → Type 0
+Finds held paging query report =
+    report ≡ (if held.parts == 1 then report_for query paging held.live.documents else report_in_parts held.parts query paging held.live.documents)
 
 -- The facets that are told of a query over these live documents: all but the steps are one, and the steps are the most that the rules allow.
-abbrev pub Counts : Live → ℕ → ℕ → Tree → Facets → Type 0
-Counts live slot size query facets = FacetsFor query slot size live.documents facets × (facets.steps ≡ facet_allowance query live.documents)
+abbrev pub Counts : Held → ℕ → ℕ → Tree → Facets → Type 0
+Counts held slot size query facets = FacetsFor query slot size held.live.documents facets × (facets.steps ≡ facet_allowance query held.live.documents)
 
 -- What a shelf does: it begins without documents, and nothing is put at the end.
-abbrev pub shelf_conduct : Conduct Live
-shelf_conduct = record { begun = nothing_live; edits = EditsLive; finds = Finds; facets = Counts; closes = ClosesSilently }
+abbrev pub shelf_conduct : Conduct Held
+shelf_conduct = record { begun = nothing_held; in_parts = are_in_parts; edits = EditsHeld; finds = Finds; facets = Counts; closes = ClosesSilently }

@@ -1,5 +1,7 @@
 //! The live documents, as a plain map.
 ghost use Rattle.std.specs.Prelude.{◌≡◌, ◌<◌, ◌^◌, [], length, All, IfOk};
+ghost use Rattle.sk_sorted.specs.Entries.{RiseAbove};
+ghost use Rattle.sk_base.specs.Commands.{FitsParts};
 ghost use Rattle.sk_base.specs.Records.{FitsEdit};
 ghost use Rattle.sk_base.specs.Documents.{has_term};
 ghost use Rattle.sk_base.specs.Loads.{IsLight};
@@ -55,27 +57,34 @@ impl Keeper for PlainMap {
     }
 }
 
-/// The live documents under one schema, as a plain map. Contracts see it as what it holds.
+/// The live documents under one schema, as a plain map, and in how many parts they stand. Contracts see it as what it
+/// holds.
 #[derive(Debug, Drop)]
 pub struct Shelf {
     documents: Documents<PlainMap>,
+    parts: u32,
 }
 
 impl Model for Shelf {
     ghost use Rattle.sk_reference.specs.Shelved.{Shelved};
+    ghost use Rattle.sk_base.specs.Commands.{FitsParts};
 
     ghost Value = { Shelved };
 
-    ghost view = { λ s. record { schema = s.documents.schema; live = s.documents.live } };
+    ghost view = { λ s. record { schema = s.documents.schema; live = s.documents.live; parts = s.parts } };
+
+    ghost invariant = { λ s. FitsParts s.parts };
 }
 
 impl Shelf {
     /// A shelf without documents.
-    pub fn new(alloc: Global, schema: Schema) -> Shelf
-        ensures { result ≡ record { schema = schema; live = nothing_live } }
+    pub fn new(alloc: Global, schema: Schema, parts: u32) -> Shelf
+        requires { FitsParts parts }
+        ensures { result ≡ record { schema = schema; live = nothing_live; parts = parts } }
     {
         Shelf {
             documents: Documents::new(alloc, schema, PlainMap::new(alloc)),
+            parts,
         }
     }
 
@@ -90,9 +99,18 @@ impl Shelf {
         self.documents.allocator()
     }
 
+    /// In how many parts the documents stand.
+    pub fn parts(&self) -> u32
+        ensures value { result ≡ self.now.parts }
+        ensures few { FitsParts result }
+    {
+        self.parts
+    }
+
     /// The live documents.
     pub fn documents(&self) -> &BTreeMap<DocId, Doc>
         ensures value { result.now.entries ≡ self.now.live.documents }
+        ensures rising { RiseAbove 0 result.now.entries }
         ensures light { All IsLight result.now.entries }
         ensures few { length result.now.entries < 2 ^ 32 }
     {
@@ -105,10 +123,11 @@ impl Shelf {
         ensures live { IfOk result (λ p. p.0.live ≡ edited self.schema self.live edit) }
         ensures reply { IfOk result (λ p. p.1 ≡ reply_to self.live edit) }
         ensures schema { IfOk result (λ p. p.0.schema ≡ self.schema) }
+        ensures parts { IfOk result (λ p. p.0.parts ≡ self.parts) }
     {
-        let Shelf { documents } = self;
+        let Shelf { documents, parts } = self;
         let (documents, reply) = documents.apply(edit)?;
-        Ok((Shelf { documents }, reply))
+        Ok((Shelf { documents, parts }, reply))
     }
 }
 

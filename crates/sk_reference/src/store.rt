@@ -1,34 +1,42 @@
 //! A shelf as the store of a run.
-ghost use Rattle.std.specs.Prelude.{◌≡◌, ◌+◌};
+ghost use Rattle.std.specs.Prelude.{◌≡◌, ◌≤◌, ◌+◌, true, IfOk};
+ghost use Rattle.sk_query.specs.Trees.{query_view};
+ghost use Rattle.sk_query.specs.Fits.{is_sound, leaves_of};
+ghost use Rattle.sk_reference.specs.Shelved.{Finds};
 
 use crate::shelf::Shelf;
 use serde_json::Value;
-use sk_base::{Edit, FacetQuery, Facets, Find, Reply, Report, Schema};
+use sk_base::{Edit, FacetQuery, Facets, Find, Paging, Reply, Report, Schema};
 use sk_parser::{AskError, query_of, text_query};
+use sk_query::Query;
 use sk_run::{Response, Store};
-use sk_sharp::{facets_of, report_of};
+use sk_sharp::{facets_of, report_in_parts, report_of};
 use sk_steps::Steps;
 use std::alloc::{AllocError, Global};
 use std::sync::ledger::Ledger;
 
 impl Store for Shelf {
-    ghost use Rattle.sk_model.specs.Edits.{Live};
+    ghost use Rattle.sk_run.specs.Conducts.{Held};
     ghost use Rattle.sk_reference.specs.Shelved.{holds, schema_of, shelf_conduct};
 
     ghost under = { schema_of };
 
-    ghost State = { Live };
+    ghost State = { Held };
 
     ghost holds = { holds };
 
     ghost conduct = { shelf_conduct };
 
-    fn new(alloc: Global, schema: Schema) -> Result<Shelf, AllocError> {
-        Ok(Shelf::new(alloc, schema))
+    fn new(alloc: Global, schema: Schema, parts: u32) -> Result<Shelf, AllocError> {
+        Ok(Shelf::new(alloc, schema, parts))
     }
 
     fn schema(&self) -> &Schema {
         Shelf::schema(self)
+    }
+
+    fn is_in_parts(&self) -> bool {
+        self.parts() > 1
     }
 
     fn apply(self, edit: Edit) -> Result<(Shelf, Reply), AllocError> {
@@ -43,7 +51,7 @@ impl Store for Shelf {
     ) -> Result<Report, AskError> {
         let alloc = self.allocator();
         let query = query_of(alloc, Shelf::schema(self), &find.ask)?;
-        match report_of(alloc, self.documents(), &query, &find.paging) {
+        match self.report(alloc, &query, &find.paging) {
             Ok(report) => {
                 count(report.steps, steps);
                 Ok(report)
@@ -72,6 +80,21 @@ impl Store for Shelf {
 
     fn close(self, _alloc: Global) -> Result<Response, AllocError> {
         Ok(Response::Skipped)
+    }
+}
+
+impl Shelf {
+    /// The report of a find, by the number of parts.
+    fn report(&self, alloc: Global, query: &Query, paging: &Paging) -> Result<Report, AllocError>
+        requires sound { is_sound 1 (query_view query.now) ≡ true }
+        requires leaves { leaves_of (query_view query.now) ≤ 1024 }
+        ensures { IfOk result (λ report. Finds (record { live = self.now.live; parts = self.now.parts }) paging.now (query_view query.now) report) }
+    {
+        let parts = self.parts();
+        if parts == 1 {
+            return report_of(alloc, self.documents(), query, paging);
+        }
+        report_in_parts(alloc, self.documents(), parts, query, paging)
     }
 }
 

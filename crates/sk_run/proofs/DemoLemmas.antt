@@ -98,8 +98,8 @@ record_fits i = record { rising = rising i; kinds = refl; small = omega (arith, 
 -- Each command may come behind those before it.
 pub comes : (documents place : ℕ) → MayCome (schema_before place) (demo_command documents place)
 comes documents place =
-    elim (place == 0) as (λ b. MayCome (if b then None else Some demo_schema) (if b then Command.Schema demo_schema else (if nat_le place documents then Command.Edit (Edit.Add (demo_record place)) else Command.Ask (Question.Find (demo_find (place - documents - 1)))))) [
-      | true ↦ schema_fits
+    elim (place == 0) as (λ b. MayCome (if b then None else Some demo_schema) (if b then Command.Schema demo_schema 1 else (if nat_le place documents then Command.Edit (Edit.Add (demo_record place)) else Command.Ask (Question.Find (demo_find (place - documents - 1)))))) [
+      | true ↦ (schema_fits, record { some = omega arith; few = omega arith })
       | false ↦ elim (nat_le place documents) as (λ b. MayCome (Some demo_schema) (if b then Command.Edit (Edit.Add (demo_record place)) else Command.Ask (Question.Find (demo_find (place - documents - 1))))) [
         | true ↦ record_fits place
         | false ↦ find_fits (place - documents - 1)
@@ -117,16 +117,16 @@ question_fits f (Question.Facets facets) fits = fits
 
 -- A command may come where what it stands for may.
 pub comes_as : {A B : Type 0} (f : A → B) (schema : Option Schema) (command : Command A) → MayCome schema (command_over f command) → MayCome schema command
-comes_as f None (Command.Schema given) may = may
+comes_as f None (Command.Schema given parts) may = may
 comes_as f None (Command.Edit edit) may = may
 comes_as f None (Command.Ask question) may = may
-comes_as f (Some schema) (Command.Schema given) may = may
+comes_as f (Some schema) (Command.Schema given parts) may = may
 comes_as f (Some schema) (Command.Edit edit) may = may
 comes_as f (Some schema) (Command.Ask question) may = question_fits f question may
 
 -- It leaves the schema that what it stands for leaves.
 pub behind_as : {A B : Type 0} (f : A → B) (schema : Option Schema) (command : Command A) → schema_behind schema command ≡ schema_behind schema (command_over f command)
-behind_as f None (Command.Schema given) = refl
+behind_as f None (Command.Schema given parts) = refl
 behind_as f None (Command.Edit edit) = refl
 behind_as f None (Command.Ask question) = refl
 behind_as f (Some schema) command = refl
@@ -136,7 +136,7 @@ pub next_schema : (documents place : ℕ) → schema_behind (schema_before place
 next_schema documents place =
     let later : ((place + 1) == 0) ≡ false = grind (arith, nat_tests) in
     let kept : schema_behind (schema_before place) (demo_command documents place) ≡ Some demo_schema =
-    elim (place == 0) as (λ b. schema_behind (if b then None else Some demo_schema) (if b then Command.Schema demo_schema else (if nat_le place documents then Command.Edit (Edit.Add (demo_record place)) else Command.Ask (Question.Find (demo_find (place - documents - 1))))) ≡ Some demo_schema) [
+    elim (place == 0) as (λ b. schema_behind (if b then None else Some demo_schema) (if b then Command.Schema demo_schema 1 else (if nat_le place documents then Command.Edit (Edit.Add (demo_record place)) else Command.Ask (Question.Find (demo_find (place - documents - 1))))) ≡ Some demo_schema) [
       | true ↦ refl
       | false ↦ refl
     ] in

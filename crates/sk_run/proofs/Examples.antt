@@ -60,6 +60,10 @@ tree_refused_text : text_of (Response.Refused Refusal.BadTree) ≡ codes "refuse
 unfolding digits
 tree_refused_text = refl
 
+parts_refused_text : text_of (Response.Refused Refusal.InParts) ≡ codes "refused 11 InParts\n"
+unfolding digits
+parts_refused_text = refl
+
 schema_text : text_of (Response.Schema 4) ≡ codes "ok schema 4\n"
 unfolding digits
 schema_text = refl

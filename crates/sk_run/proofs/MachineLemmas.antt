@@ -77,10 +77,10 @@ text_asked join schema under line find some short is_text is =
 -- Over a store that tells these.
 module _ {M S : Type 0} (under : M → Schema) (Holds : M → S → Type 0) (conduct : Conduct S) where
   -- A schema begins a store.
-  pub accepted : (store : M) (schema : Schema) (response : Response) → under store ≡ schema → Holds store conduct.begun → response ≡ Response.Schema (length schema.fields)
-      → (s : State S) → StandsFor under Holds None s → IsReached (MachineStands under Holds) (Obeys conduct s (Command.Schema schema) response) (record { store = Some store })
-  accepted store schema response same holds is None at = record { next = Some (schema, conduct.begun); allowed = (is, refl); at = (sym same, holds) }
-  accepted store schema response same holds is (Some s) at = absurd at
+  pub accepted : (store : M) (schema : Schema) (parts : ℕ) (response : Response) → under store ≡ schema → Holds store (conduct.begun parts) → response ≡ Response.Schema (length schema.fields)
+      → (s : State S) → StandsFor under Holds None s → IsReached (MachineStands under Holds) (Obeys conduct s (Command.Schema schema parts) response) (record { store = Some store })
+  accepted store schema parts response same holds is None at = record { next = Some (schema, conduct.begun parts); allowed = (is, refl); at = (sym same, holds) }
+  accepted store schema parts response same holds is (Some s) at = absurd at
 
   -- What a store did, its machine did.
   pub obeyed : (old new : M) (c : Command Data) (response : Response) → Did under Holds conduct old c response new → under new ≡ under old

@@ -1,10 +1,11 @@
 -- What a command and a line may be answered, over a store of some conduct.
-use Rattle.std.specs.Prelude.{◌≡◌, ℕ, Bool, true, false, List, length, Option, Some, None}
+use Rattle.std.specs.Prelude.{◌≡◌, ◌⊎◌, ℕ, Bool, true, false, nat_lt, List, length, Option, Some, None}
 use Rattle.std.specs.Option.{option_map}
 use Rattle.serde_json.specs.Data.{Data}
 use Rattle.sk_base.specs.declared.command.Command.{Command}
 use Rattle.sk_base.specs.declared.command.Question.{Question}
 use Rattle.sk_base.specs.declared.facets.Facets.{Facets}
+use Rattle.sk_base.specs.declared.facets.FacetQuery.{FacetQuery}
 use Rattle.sk_base.specs.declared.find.Paging.{Paging}
 use Rattle.sk_base.specs.declared.find.Join.{Join}
 use Rattle.sk_base.specs.declared.record.Edit.{Edit}
@@ -12,8 +13,9 @@ use Rattle.sk_base.specs.declared.record.Reply.{Reply}
 use Rattle.sk_base.specs.declared.report.Report.{Report}
 use Rattle.sk_base.specs.declared.schema.Schema.{Schema}
 use Rattle.sk_query.specs.Trees.{Tree}
-use Rattle.sk_model.specs.Edits.{Live, edited, reply_to}
+use Rattle.sk_model.specs.Edits.{Live, nothing_live, edited, reply_to}
 use Rattle.sk_parser.specs.Asked.{asked, text_asked}
+use Rattle.sk_run.specs.declared.refusal.Refusal.TheVariants as Refusal
 use Rattle.sk_run.specs.declared.response.Response.{Response}
 use Rattle.sk_run.specs.Responses.{response_to}
 use Rattle.sk_run.specs.Asking.{AnswersAsk, IsFound, IsCounted, IsShown}
@@ -22,9 +24,10 @@ use Rattle.sk_run.specs.declared.machine.Reading.TheVariants.{Commands, Queries}
 use Rattle.sk_run.specs.Meaning.{Meaning, blank, refusal, asks, unread, meaning}
 use Rattle.sk_run.specs.Queries.{query_meaning}
 
--- A store's conduct, by its states under a schema: the state that a schema begins, what an edit is replied and the state that it leaves, the reports that a find of a query may have, the facets of a slot that so many may be told of for a query, and what may close a run.
+-- A store's conduct, by its states under a schema: the state that a schema begins with so many parts, whether the documents stand in several, what an edit is replied and the state that it leaves, the reports that a find of a query may have, the facets of a slot that so many may be told of for a query, and what may close a run.
 pub record Conduct (S : Type 0) : Type 1 where
-  pub begun : S
+  pub begun : ℕ → S
+  pub in_parts : S → Bool
   pub edits : Schema → S → Edit → Reply → S → Type 0
   pub finds : S → Paging → Tree → Report → Type 0
   pub facets : S → ℕ → ℕ → Tree → Facets → Type 0
@@ -45,21 +48,27 @@ reads (Question.Show text join) = false
 reads (Question.Facets facets) = true
 
 module _ {S : Type 0} (conduct : Conduct S) where
+  -- What is answered where facets are asked for: those that the text may have, or a refusal where it is no query. Over documents in several parts they are refused, whatever the text.
+  abbrev pub AnswersFacets : Schema → FacetQuery → S → Response → Type 0
+  AnswersFacets schema facets s answer =
+      ((conduct.in_parts s ≡ true) × (answer ≡ Response.Refused Refusal.InParts))
+      ⊎ ((conduct.in_parts s ≡ false) × AnswersAsk (λ query found. IsCounted (conduct.facets s facets.slot facets.size query) facets.kind found) (text_asked schema facets.join facets.text) answer)
+
   -- What a question is answered by a store in a state. A find is answered a report that it may have, where it asks for a query, a show the query of its text, and facets are answered that its text may have; and each is answered a refusal, where there is no query.
   abbrev pub AnswersQuestion : Schema → Question Data → S → Response → Type 0
   AnswersQuestion schema (Question.Find find) s answer = AnswersAsk (λ query found. IsFound (conduct.finds s find.paging query) find.paging.options.first found) (asked schema find.ask) answer
   AnswersQuestion schema (Question.Show text join) s answer = AnswersAsk IsShown (text_asked schema join text) answer
-  AnswersQuestion schema (Question.Facets facets) s answer = AnswersAsk (λ query found. IsCounted (conduct.facets s facets.slot facets.size query) facets.kind found) (text_asked schema facets.join facets.text) answer
+  AnswersQuestion schema (Question.Facets facets) s answer = AnswersFacets schema facets s answer
 
   -- What a command is answered by a store in a state, and the state that it leaves: an edit its reply, and a question its answer, which leaves the state as it was.
   abbrev pub Does : Schema → S → Command Data → Response → S → Type 0
-  Does schema s (Command.Schema given) answer next = ⊥
+  Does schema s (Command.Schema given parts) answer next = ⊥
   Does schema s (Command.Edit edit) answer next = (reply : Reply) × conduct.edits schema s edit reply next × (answer ≡ response_to reply)
   Does schema s (Command.Ask question) answer next = AnswersQuestion schema question s answer × (next ≡ s)
 
   -- What a command is answered, and the state that it leaves: a schema begins a store, and every other command is the store's.
   abbrev pub Obeys : State S → Command Data → Response → State S → Type 0
-  Obeys None (Command.Schema schema) answer next = (answer ≡ Response.Schema (length schema.fields)) × (next ≡ Some (schema, conduct.begun))
+  Obeys None (Command.Schema schema parts) answer next = (answer ≡ Response.Schema (length schema.fields)) × (next ≡ Some (schema, conduct.begun parts))
   Obeys None (Command.Edit edit) answer next = ⊥
   Obeys None (Command.Ask question) answer next = ⊥
   Obeys (Some s) command answer next = (after : S) × Does s.0 s.1 command answer after × (next ≡ Some (s.0, after))
@@ -89,9 +98,26 @@ module _ {S : Type 0} (conduct : Conduct S) where
   Closes None answer = answer ≡ Response.Skipped
   Closes (Some s) answer = conduct.closes s.0 s.1 answer
 
+-- The live documents, and in how many parts they stand.
+pub record Held : Type 0 where
+  pub live : Live
+  pub parts : ℕ
+
+-- At first there are none.
+abbrev pub nothing_held : ℕ → Held
+nothing_held parts = record { live = nothing_live; parts = parts }
+
+-- They stand in several parts.
+abbrev pub are_in_parts : Held → Bool
+are_in_parts held = nat_lt 1 held.parts
+
+-- What an edit leaves, under a schema.
+abbrev pub edited_held : Schema → Held → Edit → Held
+edited_held schema held edit = record { live = edited schema held.live edit; parts = held.parts }
+
 -- What an edit is replied over live documents, and the documents that it leaves.
-abbrev pub EditsLive : Schema → Live → Edit → Reply → Live → Type 0
-EditsLive schema live edit reply next = (reply ≡ reply_to live edit) × (next ≡ edited schema live edit)
+abbrev pub EditsHeld : Schema → Held → Edit → Reply → Held → Type 0
+EditsHeld schema held edit reply next = (reply ≡ reply_to held.live edit) × (next ≡ edited_held schema held edit)
 
 -- Nothing is put at the end.
 abbrev pub ClosesSilently : {S : Type 0} → Schema → S → Response → Type 0

@@ -59,7 +59,7 @@ demo_find (suc (suc (suc (suc more)))) = three_by (codes "year:1950..1959") (rec
 -- The command at a place, of a demonstration with so many documents: the schema, the documents from 1 on, and the finds.
 abbrev pub demo_command : ℕ → ℕ → Command Data
 demo_command documents place =
-    if place == 0 then Command.Schema demo_schema
+    if place == 0 then Command.Schema demo_schema 1
     else (if nat_le place documents then Command.Edit (Edit.Add (demo_record place))
     else Command.Ask (Question.Find (demo_find (place - documents - 1))))
 

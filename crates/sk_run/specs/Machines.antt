@@ -33,6 +33,6 @@ Obeyed {M} {S} under Holds conduct old command answer new = (s : State S) → St
 
 -- The schema that a machine has when it has obeyed a command: the first that came.
 abbrev pub schema_behind : {T : Type 0} → Option Schema → Command T → Option Schema
-schema_behind None (Command.Schema schema) = Some schema
+schema_behind None (Command.Schema schema parts) = Some schema
 schema_behind None _ = None
 schema_behind (Some schema) command = Some schema

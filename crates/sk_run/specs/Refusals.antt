@@ -2,7 +2,7 @@
 use Rattle.std.specs.Prelude.{ℕ, List, [], ◌++◌, codes, decimal}
 use Rattle.sk_grammar.specs.declared.fault.FaultKind.{FaultKind}
 use Rattle.sk_run.specs.declared.refusal.Refusal.{Refusal}
-use Rattle.sk_run.specs.declared.refusal.Refusal.TheVariants.{TooLong, NotJson, NoSchema, SchemaAgain, BadShape, BadField, NoIdLeft, NotFound, BadQuery, BadTree}
+use Rattle.sk_run.specs.declared.refusal.Refusal.TheVariants.{TooLong, NotJson, NoSchema, SchemaAgain, BadShape, BadField, NoIdLeft, NotFound, BadQuery, BadTree, InParts}
 
 -- The number that is printed behind `refused`.
 abbrev pub refusal_number : Refusal → ℕ
@@ -16,6 +16,7 @@ refusal_number NoIdLeft = 7
 refusal_number NotFound = 8
 refusal_number (BadQuery kind place) = 9
 refusal_number BadTree = 10
+refusal_number InParts = 11
 
 -- The name that is printed behind the number.
 abbrev pub refusal_name : Refusal → List ℕ
@@ -29,6 +30,7 @@ refusal_name NoIdLeft = codes "NoIdLeft"
 refusal_name NotFound = codes "NotFound"
 refusal_name (BadQuery kind place) = codes "BadQuery"
 refusal_name BadTree = codes "BadTree"
+refusal_name InParts = codes "InParts"
 
 -- The name of a fault of a query text.
 abbrev pub fault_name : FaultKind → List ℕ
@@ -52,6 +54,7 @@ detail_of NoIdLeft = []
 detail_of NotFound = []
 detail_of (BadQuery kind place) = codes " " ++ (fault_name kind ++ (codes " at " ++ decimal place))
 detail_of BadTree = []
+detail_of InParts = []
 
 -- `refused`, the number, the name, and what stands behind it.
 abbrev pub refusal_line : Refusal → List ℕ

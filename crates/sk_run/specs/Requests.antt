@@ -46,7 +46,7 @@ MayBeAsked schema (Asks command) = MayCome schema command
 abbrev pub may_read : Request → Bool
 may_read Blank = false
 may_read (Refused why) = false
-may_read (Asks (Command.Schema schema)) = false
+may_read (Asks (Command.Schema schema parts)) = false
 may_read (Asks (Command.Edit edit)) = false
 may_read (Asks (Command.Ask question)) = reads question
 

@@ -6,7 +6,7 @@ ghost use Rattle.sk_base.specs.Commands.{FitsFacets, FitsQuestion, question_over
 ghost use Rattle.sk_base.specs.Finds.{FitsFind, find_over};
 ghost use Rattle.sk_parser.specs.Asked.{text_asked};
 ghost use Rattle.sk_run.specs.Responses.{steps_of};
-ghost use Rattle.sk_run.specs.Asking.{RefusedFor, AnswersAsk, IsShown};
+ghost use Rattle.sk_run.specs.Asking.{RefusedFor, AnswersAsk, IsCounted, IsShown};
 ghost use Rattle.sk_run.specs.Conducts.{reads, AnswersQuestion};
 
 use crate::{Refusal, Response, Store};
@@ -46,7 +46,7 @@ pub(crate) fn answer_question<M: Store, L: Ledger>(
     match question {
         Question::Find(find) => found(store, find, steps),
         Question::Show(text, join) => shown(alloc, store.schema(), *join, text.as_str()),
-        Question::Facets(wanted) => counted(store, wanted, steps),
+        Question::Facets(wanted) => faceted(store, wanted, steps),
     }
 }
 
@@ -79,15 +79,34 @@ fn found<M: Store, L: Ledger>(
     }
 }
 
-/// What a line is answered that asks for facets.
-#[tactic(auto, using(crate::proofs::AskLemmas::told, crate::proofs::AskLemmas::not_told))]
-fn counted<M: Store, L: Ledger>(
+/// What a line is answered that asks for facets: where documents stand in several parts it is refused, whatever its text.
+fn faceted<M: Store, L: Ledger>(
     store: &M,
     wanted: &FacetQuery,
     steps: &mut Steps<L>,
 ) -> Result<Response, AllocError>
     requires { FitsFacets wanted.now }
     ensures answer { IfOk result (λ answer. (s : M.State) → M.holds store.now s → AnswersQuestion M.conduct (M.under store.now) (Question.Facets wanted.now) s answer) }
+    ensures cost { IfOk result (λ answer. steps.new ≡ steps.old + steps_of answer) }
+    ensures later { steps.old ≤ steps.new }
+{
+    if store.is_in_parts() {
+        return Ok(Response::Refused(Refusal::InParts));
+    }
+    counted(store, wanted, steps)
+}
+
+/// What a line is answered that asks for facets of documents in one part.
+#[tactic(auto, using(crate::proofs::AskLemmas::told, crate::proofs::AskLemmas::not_told))]
+fn counted<M: Store, L: Ledger>(
+    store: &M,
+    wanted: &FacetQuery,
+    steps: &mut Steps<L>,
+) -> Result<Response, AllocError>
+    requires fits { FitsFacets wanted.now }
+    requires whole { (s : M.State) → M.holds store.now s → M.conduct.in_parts s ≡ false }
+    ensures answer { IfOk result (λ answer. (s : M.State) → M.holds store.now s
+        → AnswersAsk (λ query found. IsCounted (M.conduct.facets s wanted.now.slot wanted.now.size query) wanted.now.kind found) (text_asked (M.under store.now) wanted.now.join wanted.now.text) answer) }
     ensures cost { IfOk result (λ answer. steps.new ≡ steps.old + steps_of answer) }
     ensures later { steps.old ≤ steps.new }
 {

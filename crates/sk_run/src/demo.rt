@@ -85,7 +85,7 @@ pub fn demo_command(
 {
     if place == 0 {
         let schema = demo_schema(alloc)?;
-        return Ok(Command::Schema(schema));
+        return Ok(Command::Schema(schema, 1));
     }
     if place <= documents {
         let record = demo_record(alloc, place)?;

@@ -3,7 +3,7 @@ ghost use Rattle.std.specs.Prelude.{◌≡◌, ◌≤◌, ◌+◌, false, IfOk, 
 ghost use Rattle.std.specs.Option.{option_copied};
 ghost use Rattle.sk_base.specs.declared.command.Command.TheVariants as Command;
 ghost use Rattle.serde_json.specs.View.{view};
-ghost use Rattle.sk_base.specs.Commands.{command_over};
+ghost use Rattle.sk_base.specs.Commands.{FitsParts, command_over};
 ghost use Rattle.sk_record.specs.Outcome.{MayCome};
 ghost use Rattle.sk_run.specs.declared.request.Request.TheVariants as Request;
 ghost use Rattle.sk_base.specs.Records.{FitsEdit};
@@ -104,8 +104,8 @@ impl<M: Store> Machine<M> {
         ensures still { OnErr result (may_read (Request.Asks command) ≡ false → steps.new ≡ steps.old) }
     {
         match (self.store, command) {
-            (None, Command::Schema(schema)) => {
-                let (machine, response) = accept_schema(alloc, schema)?;
+            (None, Command::Schema(schema, parts)) => {
+                let (machine, response) = accept_schema(alloc, schema, parts)?;
                 Ok((machine, response))
             }
             (Some(store), command) => {
@@ -121,13 +121,15 @@ impl<M: Store> Machine<M> {
 fn accept_schema<M: Store>(
     alloc: Global,
     schema: Schema,
+    parts: u32,
 ) -> Result<(Machine<M>, Response), AllocError>
-    ensures obeyed { IfOk result (λ p. Obeyed M.under M.holds M.conduct None (Command.Schema schema) p.1 p.0) }
+    requires { FitsParts parts }
+    ensures obeyed { IfOk result (λ p. Obeyed M.under M.holds M.conduct None (Command.Schema schema parts) p.1 p.0) }
     ensures schema { IfOk result (λ p. schema_in M.under p.0 ≡ Some schema) }
     ensures cost { IfOk result (λ p. steps_of p.1 ≡ 0) }
 {
     let fields = schema.fields().len();
-    let store = M::new(alloc, schema)?;
+    let store = M::new(alloc, schema, parts)?;
     Ok((Machine { store: Some(store) }, Response::Schema(fields)))
 }
 
@@ -146,7 +148,7 @@ fn obey<M: Store, L: Ledger>(
     ensures still { OnErr result (may_read (Request.Asks command) ≡ false → steps.new ≡ steps.old) }
 {
     match command {
-        Command::Schema(_) => unreachable!(),
+        Command::Schema(_, _) => unreachable!(),
         Command::Edit(edit) => apply(store, edit),
         Command::Ask(question) => {
             let response = answer_question(alloc, &store, &question, steps)?;

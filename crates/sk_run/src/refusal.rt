@@ -6,7 +6,7 @@ ghost use Rattle.sk_run.specs.Refusals.{refusal_number, refusal_name, fault_name
 use sk_grammar::FaultKind;
 use std::alloc::{AllocError, Global};
 
-/// Why a line is refused. The tests are made in this order.
+/// Why a line is refused. The tests are made in this order, but for the last.
 #[derive(Clone, Copy, Debug, PartialEq, Eq)]
 pub enum Refusal {
     /// The line has more bytes than a line may have.
@@ -29,6 +29,8 @@ pub enum Refusal {
     BadQuery(FaultKind, usize),
     /// The tree is no query.
     BadTree,
+    /// What is asked for is not there where documents stand in several parts. It is tested before the query.
+    InParts,
 }
 
 impl Refusal {
@@ -46,6 +48,7 @@ impl Refusal {
             Refusal::NotFound => 8,
             Refusal::BadQuery(_, _) => 9,
             Refusal::BadTree => 10,
+            Refusal::InParts => 11,
         }
     }
 
@@ -63,6 +66,7 @@ impl Refusal {
             Refusal::NotFound => "NotFound",
             Refusal::BadQuery(_, _) => "BadQuery",
             Refusal::BadTree => "BadTree",
+            Refusal::InParts => "InParts",
         }
     }
 

@@ -1,10 +1,10 @@
 //! What a run changes and searches.
-ghost use Rattle.std.specs.Prelude.{◌≡◌, IfOk};
+ghost use Rattle.std.specs.Prelude.{◌≡◌, false, IfOk};
 ghost use Rattle.sk_base.specs.declared.schema.Schema.{Schema};
 ghost use Rattle.serde_json.specs.View.{view};
 ghost use Rattle.sk_base.specs.declared.facets.Facets.{Facets};
 ghost use Rattle.sk_base.specs.declared.report.Report.{Report};
-ghost use Rattle.sk_base.specs.Commands.{FitsFacets};
+ghost use Rattle.sk_base.specs.Commands.{FitsFacets, FitsParts};
 ghost use Rattle.sk_base.specs.Finds.{FitsFind, ask_over};
 ghost use Rattle.sk_base.specs.Records.{FitsEdit};
 ghost use Rattle.sk_parser.specs.Asked.{asked, text_asked};
@@ -35,13 +35,18 @@ pub trait Store: Drop {
     // What it may do, by its states.
     ghost conduct: { Conduct State };
 
-    /// A store without documents.
-    fn new(alloc: Global, schema: Schema) -> Result<Self, AllocError>
+    /// A store without documents, which are to stand in so many parts.
+    fn new(alloc: Global, schema: Schema, parts: u32) -> Result<Self, AllocError>
+        requires { FitsParts parts }
         ensures schema { IfOk result (λ store. under store ≡ schema) }
-        ensures holds { IfOk result (λ store. holds store conduct.begun) };
+        ensures holds { IfOk result (λ store. holds store (conduct.begun parts)) };
 
     fn schema(&self) -> &Schema
         ensures { result.now ≡ under self.now };
+
+    /// Whether its documents stand in several parts.
+    fn is_in_parts(&self) -> bool
+        ensures { (s : State) → holds self.now s → result ≡ conduct.in_parts s };
 
     /// Changes the documents. Where memory runs out the store is given up.
     fn apply(self, edit: Edit) -> Result<(Self, Reply), AllocError>
@@ -56,13 +61,14 @@ pub trait Store: Drop {
         ensures counts { CountsSteps (λ (report : Report). report.steps) result steps.old steps.new };
 
     /// How often each value stands among the matches of a text, or why it is no query. The counter rises by the steps
-    /// of the answer.
+    /// of the answer. The documents stand in one part.
     fn facets<L: Ledger>(
         &self,
         wanted: &FacetQuery,
         steps: &mut Steps<L>,
     ) -> Result<Facets, AskError>
-        requires { FitsFacets wanted.now }
+        requires fits { FitsFacets wanted.now }
+        requires whole { (s : State) → holds self.now s → conduct.in_parts s ≡ false }
         ensures tells { (s : State) → holds self.now s → TellsOfQuestion (conduct.facets s wanted.now.slot wanted.now.size) (text_asked (under self.now) wanted.now.join wanted.now.text) result }
         ensures counts { CountsSteps (λ (facets : Facets). facets.steps) result steps.old steps.new };
 

@@ -1,3 +1,4 @@
 mod ListLemmas
 mod SharpLemmas
 mod FacetLemmas
+mod PartLemmas

@@ -3,6 +3,7 @@
 
 mod allowance;
 mod facets;
+mod joined;
 mod lists;
 mod readings;
 mod reports;
@@ -11,5 +12,6 @@ mod shapes;
 mod sharp;
 
 pub use facets::facets_of;
+pub use joined::report_in_parts;
 pub use reports::report_of;
 pub use sharp::sharp_of;

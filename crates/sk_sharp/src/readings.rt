@@ -7,7 +7,7 @@ use sk_plain::{has_term, length_of};
 use std::collections::BTreeMap;
 
 /// How many documents up to the id have the term.
-fn up(term: &[u8], id: DocId, docs: &BTreeMap<DocId, Doc>) -> usize
+pub fn up(term: &[u8], id: DocId, docs: &BTreeMap<DocId, Doc>) -> usize
     ensures value { result ≡ up term.now id docs.now.entries }
     ensures bound { result ≤ length docs.now.entries }
 {

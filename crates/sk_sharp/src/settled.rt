@@ -69,7 +69,7 @@ fn term_ceil(scheme: Scheme, term: &[u8], docs: &BTreeMap<DocId, Doc>) -> Weight
 
 /// The least id up to which there are as many matches as a find wants to see, and as many as its page needs that no
 /// later match of this weight comes before.
-fn settled(paging: &Paging, ranks: &[Rank], weight: Weight) -> DocId
+pub fn settled(paging: &Paging, ranks: &[Rank], weight: Weight) -> DocId
     requires { weight < 2 ^ 127 }
     ensures { result ≡ settled paging.now ranks.now weight }
 {

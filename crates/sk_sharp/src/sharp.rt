@@ -138,14 +138,14 @@ fn decay_of(
 }
 
 /// The heavier first, and nothing collapsed.
-fn is_plain(paging: &Paging) -> bool
+pub fn is_plain(paging: &Paging) -> bool
     ensures { result ≡ is_plain paging.now }
 {
     matches!(paging.order.by, OrderBy::Relevance) && paging.collapse.is_none()
 }
 
 /// The lesser of a number and one that may apply.
-fn at_most(n: u128, other: Option<u128>) -> u128
+pub fn at_most(n: u128, other: Option<u128>) -> u128
     ensures { result ≡ at_most n other }
 {
     match other {

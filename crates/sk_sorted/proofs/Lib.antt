@@ -6,5 +6,13 @@ pub mod RunLaws
 pub mod RunEditLaws
 pub mod RunPlaceLaws
 pub mod ReachLaws
+pub mod JoinedIdLaws
+pub mod JoinedLaws
+pub mod MergeLaws
+pub mod JoinedSumLaws
+pub mod PartLaws
+pub mod PartsLaws
+pub mod GiveLaws
 mod Examples
 mod RunExamples
+mod JoinedExamples

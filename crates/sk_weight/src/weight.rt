@@ -6,6 +6,7 @@ use sk_base::{MOST_WDF, Scheme, Weight};
 
 /// The weight of a wdf, or of a sum of wdfs, under a factor.
 #[tactic(auto, using(crate::proofs::WeightLemmas::square_small, crate::proofs::WeightLemmas::times_small, crate::proofs::WeightLemmas::weigh_by_small))]
+#[inline(always)]
 pub fn weigh_by(factor: u64, scheme: Scheme, wdf: u64) -> Weight
     requires factor { factor ≤ 65536 }
     requires wdf { wdf < 2 ^ 40 }

@@ -21,7 +21,7 @@ use Rattle.sk_nodes.proofs.SkipLaws.{sides_skipped, accounts_skipped, fades_skip
 use Rattle.sk_nodes.specs.OrMany.{AreKept, AreMoved, AreWeighed}
 use Rattle.sk_nodes.proofs.RangeLaws.{shape_of-Range, range_shape}
 use Rattle.sk_nodes.proofs.ListLaws.{weigh_more}
-use Rattle.sk_nodes.proofs.SumLaws.{sums_ended, sums_light, sums_gone, sums_covers, sums_accounts}
+use Rattle.sk_nodes.proofs.SumLaws.{sums_none, sums_light, sums_gone, sums_covers, sums_accounts}
 use Rattle.sk_nodes.proofs.OrManyLaws.{none_head, moved_first, or_found, or_accounts, or_kept, size_some, or_top, or_covers, kept_behind, led_none, weighed_light, weighed_more, or_begun, or_led, or_weighed, or_on, or_matches, or_gone, or_gone_kept, ended_unread, ended_lands}
 use Rattle.sk_nodes.proofs.moves.+seek.Goals as goal
 
@@ -158,11 +158,10 @@ seek_pair-sides-init g t c =
 
 pub seek_pair-meeting_of-requires-clause-fits : goal.seek_pair-meeting_of-requires-clause-fits
 seek_pair-meeting_of-requires-clause-fits g t c =
-    let i = c.args.index.now in
     omega (
       arith,
-      weight_le i c.reach.new.top (shape_of c.reach.new.node) c.reach.ensures.sought.lands.top,
-      weight_le i c.reach-in-sides.new.top (shape_of c.reach-in-sides.new.node) c.reach-in-sides.ensures.sought.lands.top,
+      weight_le c.args.index.now c.reach.new.top (shape_of c.reach.new.node) c.reach.ensures.sought.lands.top,
+      weight_le c.args.index.now c.reach-in-sides.new.top (shape_of c.reach-in-sides.new.node) c.reach-in-sides.ensures.sought.lands.top,
       c.reach.ensures.sought.falls,
       c.reach-in-sides.ensures.sought.falls,
       c.sides.invariant.far.pair.fits,
@@ -170,13 +169,11 @@ seek_pair-meeting_of-requires-clause-fits g t c =
 
 pub seek_pair-skip-from-requires-in-Behind-clause-from : goal.seek_pair-skip-from-requires-in-Behind-clause-from
 seek_pair-skip-from-requires-in-Behind-clause-from g t c =
-    let i = c.args.index.now in
-    (c.in-Behind.ensures.meets (rest i (shape_of c.reach.new.node)) (rest i (shape_of c.reach-in-sides.new.node)) c.reach.ensures.sought.lands.top.head c.reach-in-sides.ensures.sought.lands.top.head).within
+    (c.in-Behind.ensures.meets (rest c.args.index.now (shape_of c.reach.new.node)) (rest c.args.index.now (shape_of c.reach-in-sides.new.node)) c.reach.ensures.sought.lands.top.head c.reach-in-sides.ensures.sought.lands.top.head).within
 
 pub seek_pair-sides-smaller : goal.seek_pair-sides-smaller
 seek_pair-sides-smaller g t c =
-    let i = c.args.index.now in
-    let on = c.in-Behind.ensures.meets (rest i (shape_of c.reach.new.node)) (rest i (shape_of c.reach-in-sides.new.node)) c.reach.ensures.sought.lands.top.head c.reach-in-sides.ensures.sought.lands.top.head in
+    let on = c.in-Behind.ensures.meets (rest c.args.index.now (shape_of c.reach.new.node)) (rest c.args.index.now (shape_of c.reach-in-sides.new.node)) c.reach.ensures.sought.lands.top.head c.reach-in-sides.ensures.sought.lands.top.head in
     omega (arith, on.further, on.within, c.reach.ensures.sought.lands.reached, c.skip-from-in-Behind.ensures.later, c.skip-from-in-Behind.ensures.within)
 
 pub seek_pair-sides-preserved : goal.seek_pair-sides-preserved
@@ -363,10 +360,9 @@ seek_xor_many-all-smaller g t c =
 
 pub seek_xor_many-all-preserved : goal.seek_xor_many-all-preserved
 seek_xor_many-all-preserved g t c =
-    let i = c.args.index.now in
-    let on = c.in-Behind.ensures i c.all.from c.all.invariant.far.within c.reach_all.ensures.moved.sound c.reach_all.ensures.reached in
+    let on = c.in-Behind.ensures c.args.index.now c.all.from c.all.invariant.far.within c.reach_all.ensures.moved.sound c.reach_all.ensures.reached in
     record {
-      far = xor_more i c.args.target c.all.from c.in-Behind.further (sides_on c.args.tops.now c.args.nodes.now) (sides_on c.all.tops c.all.nodes) (sides_on c.reach_all.new.tops c.reach_all.new.nodes)
+      far = xor_more c.args.index.now c.args.target c.all.from c.in-Behind.further (sides_on c.args.tops.now c.args.nodes.now) (sides_on c.all.tops c.all.nodes) (sides_on c.reach_all.new.tops c.reach_all.new.nodes)
           c.all.invariant.far c.reach_all.ensures.moved.sound c.reach_all.ensures.sought c.reach_all.ensures.moved.falls c.reach_all.ensures.moved.smaller on;
       spends = record {
         paid = omega (arith, c.reach_all.ensures.spends.paid, c.all.invariant.spends.paid);
@@ -467,25 +463,18 @@ seek_synonym-returns-in-Some-clause-sought g t c =
 
 pub seek_synonym-returns-in-Some-clause-accounts : goal.seek_synonym-returns-in-Some-clause-accounts
 seek_synonym-returns-in-Some-clause-accounts g t c =
-    let i = c.args.index.now in
-    sums_accounts c.args.scheme c.args.factor c.args.need c.in-Some.wdf c.in-Some.ensures.least c.in-Some.ensures.wdf c.in-Some.ensures.enough i c.args.target c.args.spent.now c.reach.new.spent c.args.below.now c.reach.new.top (shape_of c.args.node.now) (shape_of c.reach.new.node) c.requires.synonym
-    (subst (λ n. Accounts i c.args.target n c.args.spent.now c.reach.new.spent (shape_of c.args.node.now) (shape_of c.reach.new.node)) c.from.ensures c.reach.ensures.accounts.all)
+    sums_accounts c.args.scheme c.args.factor c.args.need c.in-Some.wdf c.in-Some.ensures.least c.in-Some.ensures.wdf c.in-Some.ensures.enough c.args.index.now c.args.target c.args.spent.now c.reach.new.spent c.args.below.now c.reach.new.top (shape_of c.args.node.now) (shape_of c.reach.new.node) c.requires.synonym
+    (subst (λ n. Accounts c.args.index.now c.args.target n c.args.spent.now c.reach.new.spent (shape_of c.args.node.now) (shape_of c.reach.new.node)) c.from.ensures c.reach.ensures.accounts.all)
 
 pub seek_synonym-returns-in-None-clause-sought : goal.seek_synonym-returns-in-None-clause-sought
 seek_synonym-returns-in-None-clause-sought g t c =
     let i = c.args.index.now in
     let gone = ap shape_of c.give_up.ensures.node ∙ shape_of-Nothing in
+    let none = sums_none i c.args.scheme c.args.factor c.give_up.new.top _ (shape_of c.give_up.new.node) c.requires.synonym.bounded gone c.give_up.ensures.top c.ended.ensures in
     record {
       lands = record {
-        top =
-            subst (λ (u : Top). IsTop i u (synonym c.args.scheme c.args.factor c.give_up.new.top (shape_of c.give_up.new.node))) (sym c.ended.ensures)
-            (sums_ended i c.args.scheme c.args.factor c.give_up.new.top (shape_of c.give_up.new.node) (subst (λ (s : Shape). IsTop i c.give_up.new.top s) (sym gone) (subst (λ (u : Top). IsTop i u ended) (sym c.give_up.ensures.top) (ended_top i))) (omega (arith, ap (λ (u : Top). u.head) c.give_up.ensures.top)));
-        sound = record {
-          top = subst (λ (s : Shape). IsTop i c.give_up.new.top s) (sym gone) (subst (λ (u : Top). IsTop i u ended) (sym c.give_up.ensures.top) (ended_top i));
-          sound = subst (λ (s : Shape). Sound i s) (sym gone) tt;
-          bounded = c.requires.synonym.bounded;
-          small = omega (arith, ap (λ (u : Top). u.greatest) c.give_up.ensures.top);
-        };
+        top = none.0;
+        sound = none.1;
         covers = sums_light i c.args.scheme c.args.factor c.args.need c.in-None.ensures.least c.args.target c.args.below.now c.give_up.new.top (shape_of c.args.node.now) (shape_of c.give_up.new.node) c.requires.synonym gone;
         reached = omega (arith, ap (λ (u : Top). u.head) c.ended.ensures, c.requires.target);
       };
@@ -509,8 +498,7 @@ seek_positional-tests-init g t c =
 
 pub seek_positional-passes-requires-clause-all : goal.seek_positional-passes-requires-clause-all
 seek_positional-passes-requires-clause-all g t c =
-    let i = c.args.index.now in
-    moved_all i c.args.target c.args.need c.tests.from c.args.test.now c.args.below.now (shape_of c.args.node.now) c.tests.test c.tests.below (shape_of c.tests.node) c.reach.new.top (shape_of c.reach.new.node)
+    moved_all c.args.index.now c.args.target c.args.need c.tests.from c.args.test.now c.args.below.now (shape_of c.args.node.now) c.tests.test c.tests.below (shape_of c.tests.node) c.reach.new.top (shape_of c.reach.new.node)
     c.tests.invariant.far c.reach.ensures.sought.lands.top c.reach.ensures.sought.lands.sound c.reach.ensures.sought.lands.reached c.reach.ensures.sought.falls c.reach.ensures.sought.smaller c.reach.ensures.sought.lands.covers (omega (arith, c.if-below-ge-END.false))
 
 pub seek_positional-returns-then-below-ge-END : goal.seek_positional-returns-then-below-ge-END
@@ -661,9 +649,8 @@ seek_some-returns-then-head-ge-END-clause-sought g t c =
 
 pub seek_some-returns-then-head-ge-END-clause-accounts : goal.seek_some-returns-then-head-ge-END-clause-accounts
 seek_some-returns-then-head-ge-END-clause-accounts g t c =
-    let i = c.args.index.now in
-    or_gone_kept i c.args.target c.args.need c.requires.needed c.args.spent.now (sides_on c.args.tops.now c.args.nodes.now) c.lead-head.result c.lead-head.new.spent (sides_on c.lead-head.new.tops c.lead-head.new.nodes) (sides_on c.end_sides.new.tops c.end_sides.new.nodes)
-    (or_led i c.args.target c.args.need c.requires.needed c.args.spent.now (sides_on c.args.tops.now c.args.nodes.now) c.matches.from c.lead-head.result c.matches.spent c.lead-head.new.spent (sides_on c.matches.tops c.matches.nodes) (sides_on c.lead-head.new.tops c.lead-head.new.nodes) c.matches.invariant.within
+    or_gone_kept c.args.index.now c.args.target c.args.need c.requires.needed c.args.spent.now (sides_on c.args.tops.now c.args.nodes.now) c.lead-head.result c.lead-head.new.spent (sides_on c.lead-head.new.tops c.lead-head.new.nodes) (sides_on c.end_sides.new.tops c.end_sides.new.nodes)
+    (or_led c.args.index.now c.args.target c.args.need c.requires.needed c.args.spent.now (sides_on c.args.tops.now c.args.nodes.now) c.matches.from c.lead-head.result c.matches.spent c.lead-head.new.spent (sides_on c.matches.tops c.matches.nodes) (sides_on c.lead-head.new.tops c.lead-head.new.nodes) c.matches.invariant.within
     c.matches.invariant.far c.lead-head.ensures.led c.lead-head.ensures.moved.sound c.lead-head.ensures.moved.falls c.lead-head.ensures.moved.smaller c.lead-head.ensures.moved.kept)
     c.end_sides.ensures.over
 
@@ -758,10 +745,9 @@ weigh-returns-in-Some-split_first_mut-clause-weighed g t c =
 
 pub lead-returns-in-Some-split_first_mut-clause-moved : goal.lead-returns-in-Some-split_first_mut-clause-moved
 lead-returns-in-Some-split_first_mut-clause-moved g t c =
-    let i = c.args.index.now in
-    subst (λ (ss : Sides). AreMoved i c.args.from c.args.spent.now c.lead.new.spent ss (side c.reach.new.top (shape_of c.reach.new.node) (sides_on c.lead.new.tops c.lead.new.nodes)))
+    subst (λ (ss : Sides). AreMoved c.args.index.now c.args.from c.args.spent.now c.lead.new.spent ss (side c.reach.new.top (shape_of c.reach.new.node) (sides_on c.lead.new.tops c.lead.new.nodes)))
     (sym (sides_cons c.args.tops.now c.in-Some.tops.now c.args.nodes.now c.in-Some-split_first_mut.nodes.now _ _ c.in-Some.ensures.cases c.in-Some-split_first_mut.ensures.cases))
-    (moved_first i c.args.from c.args.spent.now c.reach.new.spent c.lead.new.spent _ _ _ _ (sides_on c.in-Some.tops.now c.in-Some-split_first_mut.nodes.now) c.reach.new.top (shape_of c.reach.new.node) (sides_on c.lead.new.tops c.lead.new.nodes)
+    (moved_first c.args.index.now c.args.from c.args.spent.now c.reach.new.spent c.lead.new.spent _ _ _ _ (sides_on c.in-Some.tops.now c.in-Some-split_first_mut.nodes.now) c.reach.new.top (shape_of c.reach.new.node) (sides_on c.lead.new.tops c.lead.new.nodes)
     c.reach.ensures.sought c.reach.ensures.accounts.all c.lead.ensures.moved)
 
 pub weigh-returns-in-Some-split_first_mut-clause-moved : goal.weigh-returns-in-Some-split_first_mut-clause-moved

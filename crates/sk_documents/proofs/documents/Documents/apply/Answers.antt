@@ -1,7 +1,6 @@
 -- What is deleted by a term is what the edit says.
 use Rattle.std.proofs.Common.{◌≡◌, ℕ, List, IfOk, sym, subst, ◌∙◌}
 use Rattle.sk_base.specs.declared.record.Edit.{Edit}
-use Rattle.sk_base.specs.declared.record.Edit.TheVariants as Edit
 use Rattle.sk_model.specs.Edits.{reply_to}
 use Rattle.sk_documents.proofs.documents.Documents.apply.Goals as goal
 

@@ -19,4 +19,5 @@ ids-preserved g c =
       }),
       c.remove.ensures.schema ∙ inv.1,
       omega (arith, inv.2),
+      c.remove.ensures.parts ∙ inv.3,
     )

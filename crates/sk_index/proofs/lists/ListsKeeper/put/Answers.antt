@@ -26,8 +26,8 @@ invariant_of-result c =
       c.self.invariant.1,
     )
 
-pub returns : goal.returns
-returns c =
+pub returns-clause-documents : goal.returns-clause-documents
+returns-clause-documents c =
     let old = c.self.inside in
     let doc = c.args.doc in
     let p = c.in_ok-packed.packed in

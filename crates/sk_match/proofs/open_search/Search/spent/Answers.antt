@@ -1,4 +1,5 @@
 use Rattle.std.proofs.Common.{arith, ℕ, length}
+use Rattle.sk_model.specs.Bounds.{ceil}
 use Rattle.sk_page.proofs.SharpLaws.{plain_free}
 use Rattle.sk_page.proofs.SpentLaws.{spent_sharp}
 use Rattle.sk_model.specs.Matches.{found_by}
@@ -11,7 +12,7 @@ use Rattle.sk_match.proofs.open_search.Search.spent.Goals as goal
 pub returns-clause-within : goal.returns-clause-within
 returns-clause-within c i paging query hits stands =
     let s = c.args.self.now in
-    let few = spent_sharp query paging i.live.documents (gives i s.tree) s.need s.page stands.page c.spent.result
+    let few = spent_sharp query paging i.live.documents (ceil query paging.options.scheme 1 i.live.documents) (gives i s.tree) s.need s.page stands.page c.spent.result
     (lists_spent i s paging query stands c.spent.result
     (record { within = c.spent.ensures.within i query paging.options.scheme stands.built; stops = c.spent.ensures.stops i; rare = c.spent.ensures.rare i; decays = c.spent.ensures.decays i })) hits in
     omega (arith, few, c.spent.ensures.value, c.saturating_add.ensures)
