@@ -1,8 +1,9 @@
 #!/usr/bin/env python3
 """Compares finds of the built sk_tool with those of the built sk_reference, over random documents, trees and options,
-and texts of words that have stems, under schemas that ask for these or do not: hits, order, weights and payloads are to
-be equal, counts within their bounds, and steps no more than the rules allow, which is what sk_reference prints. Facets
-of random texts are to be equal but for their steps. Ends with 1 where one differs.
+and texts of words that have stems, under schemas that ask for these or do not, in one part or in up to 16: hits, order,
+weights and payloads are to be equal, counts within their bounds, and steps no more than the rules allow, which is what
+sk_reference prints. Facets of random texts are to be equal but for their steps. What stands in several parts is also
+put to sk_tool in one: hits, order, weights and payloads are to be equal. Ends with 1 where one differs.
 
 Wants both programs: (cd crates/sk_tool && rt run; cd ../sk_reference && rt run). Run it at the top of the repository:
 python3 bench/random_finds.py [SEEDS [FIRST [TEXTS [FOLDER]]]], FIRST being the first seed, TEXTS how many finds by such
@@ -126,7 +127,8 @@ def counted(picks):
 def commands(picks, texts=STEMMED):
     """A schema, documents and some deletions, finds by tree and so many by text, and facets."""
     stem = picks.random() < 0.5
-    yield SCHEMA | ({"stem": True} if stem else {})
+    parts = picks.randint(2, 16) if picks.random() < 0.5 else 1
+    yield SCHEMA | ({"stem": True} if stem else {}) | ({"parts": parts} if parts > 1 else {})
     for number in range(picks.randint(5, 60) if picks.random() < 0.8 else picks.randint(200, 600)):
         words = picks.choices("abcde", [5, 3, 2, 1, 1], k=picks.randint(0, 8))
         record = {"body": " ".join([*words, *picks.choices(FORMS, k=picks.randint(0, 3))])}
@@ -180,6 +182,13 @@ def same_facets(ours, plain):
     return mine == true and ours[1:] == plain[1:] and mine["matches"] <= steps[0] <= steps[1]
 
 
+def same_hits(ours, whole):
+    """Whether two answers have the same hits, whatever was collapsed into these, and the like otherwise."""
+    if ours[0].startswith("found ") and whole[0].startswith("found "):
+        return [COLLAPSED.sub("", line) for line in ours[1:]] == [COLLAPSED.sub("", line) for line in whole[1:]]
+    return ours == whole or ours[0] == "refused 11 InParts"
+
+
 def agree(ours, plain, few=0):
     """Whether an answer is one that the plain program's allows, and the true count where fewer than `few` match."""
     if ours[0].startswith("facets ") and plain[0].startswith("facets "):
@@ -208,11 +217,19 @@ def main():
     texts = int(sys.argv[3]) if len(sys.argv) > 3 else STEMMED
     folder = sys.argv[4] if len(sys.argv) > 4 else os.path.join(HERE, "..")
     programs = [os.path.join(folder, "crates", name, "out", name) for name in ("sk_tool", "sk_reference")]
-    finds = facets = stemmed = differing = 0
+    finds = facets = stemmed = parted = differing = 0
     for seed in range(first, first + seeds):
         lines = list(commands(random.Random(seed), texts))
         text = "".join(json.dumps(line) + "\n" for line in lines).encode()
         ours, plain = (answers(program, text)[0] for program in programs)
+        if "parts" in lines[0]:
+            schema = {name: value for name, value in lines[0].items() if name != "parts"}
+            whole = answers(programs[0], "".join(json.dumps(line) + "\n" for line in [schema, *lines[1:]]).encode())[0]
+            for line, mine, one in zip(lines, ours, whole):
+                parted += "tree" in line or "find" in line
+                if not same_hits(mine, one):
+                    differing += 1
+                    print(seed, json.dumps(line), mine, one)
         for line, mine, true in zip(lines, ours, plain):
             finds += "tree" in line or "find" in line
             facets += "facets" in line
@@ -221,7 +238,7 @@ def main():
                 differing += 1
                 print(seed, json.dumps(line), mine, true)
         differing += abs(len(ours) - len(plain))
-    print(f"seeds {first} to {first + seeds - 1}: {finds} finds, {facets} facets, {stemmed} texts under stems, {differing} differ")
+    print(f"seeds {first} to {first + seeds - 1}: {finds} finds, {facets} facets, {stemmed} texts under stems, {parted} finds in parts, {differing} differ")
     sys.exit(1 if differing else 0)
 
 

@@ -233,9 +233,12 @@ class Stream:
         schema = {"schema": self.fields}
         if picks.random() < 0.5:
             schema["stem"] = picks.random() < 0.9
+        if picks.random() < 0.3:
+            schema["parts"] = picks.randint(1, 16)
         if picks.random() < 0.1:
             bad = [{"schema": fields} for fields in ([], [{**FIELDS[0], "name": "T"}], self.fields * 2)]
             bad += [{**schema, "stem": stem} for stem in (None, 1, "true")]
+            bad += [{**schema, "parts": parts} for parts in (0, 17, None, "2", 1.5, -1)]
             yield picks.choice([{"find": "a"}, 7, *bad])
         if picks.random() < 0.97:
             yield schema

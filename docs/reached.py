@@ -18,7 +18,7 @@ WORD = re.compile(r"[^\s(){},;λ.]+")
 def read(path):
     """Returns what the file imports, each by the name that it has here, and its own definitions, each with its words."""
     text = path.read_text()
-    uses, own, block = {}, {}, None
+    uses, own, block, now = {}, {}, None, set()
     for place, names, alias in IMPORT.findall(text):
         for name in names.split(",") if names else [place.split(".")[-1]]:
             name, _, other = name.strip().partition(" as ")

@@ -502,6 +502,7 @@ class Index:
     path: the program; a name without a slash is looked up in PATH.
     fields: the schema, 1 to 64 objects as docs/FORMATS.md has them.
     stem: whether words are found by their stems too, as docs/QUERIES.md has it.
+    parts: in how many parts the documents stand, 1 to 16; over several there are no facets.
     timeout: for how many seconds the process may do nothing that is seen while something waits for it, before it is
         taken for stuck, ended, and reported as a Fault; None waits for ever.
     on_refused: is called with each Refused of an addition or a replacement that nobody waited for; without it these
@@ -516,11 +517,13 @@ class Index:
         fields: Sequence[Mapping[str, Any]],
         *,
         stem: bool = False,
+        parts: int = 1,
         timeout: Optional[float] = 60.0,
         on_refused: Optional[Callable[[Refused], None]] = None,
     ) -> None:
         schema = [dict(field) for field in fields]
-        line = _line({"schema": schema, **({"stem": stem} if stem else {})}, "these fields")
+        asked = {**({"stem": stem} if stem else {}), **({"parts": parts} if parts != 1 else {})}
+        line = _line({"schema": schema, **asked}, "these fields")
         self.fields: Tuple[Mapping[str, Any], ...] = tuple(schema)
         self.path = os.fspath(path)
         self.status: Optional[int] = None

@@ -405,6 +405,16 @@ class Stems(unittest.TestCase):
             self.assertEqual(index.show("hopes"), {"term": "hopes"})
 
 
+class Parts(unittest.TestCase):
+    def test_documents_in_parts_are_found_as_in_one(self):
+        with Index(PROGRAM, BODY, parts=3) as index:
+            index.add_all([{"body": "red fox red"}, {"body": "red hen"}, {"body": "fox den"}, {"body": "red fox den"}])
+            self.assertEqual([(hit.id, hit.weight) for hit in index.find("red fox")], [(1, 3), (4, 2), (2, 1), (3, 1)])
+        with self.assertRaises(Refused) as refused:
+            Index(PROGRAM, BODY, parts=17)
+        self.assertEqual(refused.exception.name, "BadShape")
+
+
 class Loads(unittest.TestCase):
     def test_many_additions_and_their_progress(self):
         seen = []
