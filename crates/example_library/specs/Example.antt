@@ -16,7 +16,7 @@ use Rattle.sk_grammar.specs.Meaning.{query_meant}
 use Rattle.sk_parser.specs.declared.asked.AskError.{AskError}
 use Rattle.sk_parser.specs.Asked.{text_asked}
 use Rattle.sk_run.specs.Asking.{TellsOfQuestion}
-use Rattle.sk_run.specs.Conducts.{Held, nothing_held, edited_held}
+use Rattle.sk_run.specs.Held.{Held, nothing_held, edited_held}
 use Rattle.sk_engine.specs.Sessions.{MayFind}
 
 -- The schema: one text, whose words are terms without a prefix, and count once; words are not stemmed.

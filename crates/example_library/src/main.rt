@@ -4,7 +4,7 @@
 
 ghost use Rattle.std.specs.Prelude.{◌≡◌, ◌≤◌, ℕ, length, string_bytes, Ok, Err, IfOk};
 ghost use Rattle.sk_grammar.specs.declared.fault.FaultKind.{FaultKind};
-ghost use Rattle.sk_run.specs.Conducts.{Held, edited_held};
+ghost use Rattle.sk_run.specs.Held.{Held, edited_held};
 ghost use Rattle.sk_parser.specs.declared.parsing.ParseError.TheVariants as ParseError;
 ghost use Rattle.sk_engine.specs.Sessions.{SessionHolds, schema_of};
 ghost use Rattle.example_library.specs.Example.{bodies, addition, three, Answers, json_meant};

@@ -22,7 +22,7 @@ mod term;
 mod text;
 
 pub use bytes::Bytes;
-pub use command::{Command, Question};
+pub use command::{Command, FlightCommand, Question};
 pub use doc::Doc;
 pub use doc_entry::{DocTerm, SlotValue};
 pub use doc_lists::{DocTerms, SlotValues};

@@ -54,6 +54,18 @@ impl Chunk {
         }
     }
 
+    /// The same entries, in memory of their own, of just their room. It is no reading: it shows none of them.
+    pub fn copy(&self, alloc: Global) -> Result<Chunk, AllocError>
+        ensures { IfOk result (λ copy. copy ≡ self.now) }
+    {
+        let entries = copies_of(alloc, self.entries.as_slice())?;
+        Ok(Chunk {
+            entries,
+            last: self.last,
+            greatest: self.greatest,
+        })
+    }
+
     /// One entry. It takes room for that one alone.
     pub fn one(alloc: Global, id: u32, wdf: u32) -> Result<Chunk, AllocError>
         requires { 1 ≤ id }
@@ -275,4 +287,15 @@ impl Debug for Chunk {
     fn fmt<W: Write>(&self, f: &mut Formatter<W>) -> Result<(), Error> {
         write!(f, "Chunk of {}", self.count())
     }
+}
+
+/// The same entries, in a vector of just their room.
+fn copies_of(alloc: Global, entries: &[Entry]) -> Result<Vec<Entry>, AllocError>
+    ensures { IfOk result (λ copies. copies.items ≡ entries.now) }
+{
+    let mut copies = Vec::with_capacity(alloc, entries.len())?;
+    'entries: for entry in entries {
+        copies.push(entry.copy())?;
+    }
+    Ok(copies)
 }

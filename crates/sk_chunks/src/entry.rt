@@ -40,6 +40,13 @@ impl Entry {
         }
     }
 
+    /// The same bytes.
+    pub(crate) fn copy(&self) -> Entry
+        ensures { result ≡ self.now }
+    {
+        Entry { bytes: self.bytes }
+    }
+
     /// The document's id.
     pub(crate) fn id(&self) -> u32
         ensures { result ≡ self.now.0 }

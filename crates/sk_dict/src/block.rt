@@ -56,6 +56,14 @@ impl Block {
         Ok(())
     }
 
+    /// The same numbers, in memory of their own.
+    pub fn copy(&self) -> Result<Block, AllocError>
+        ensures { IfOk result (λ copy. copy ≡ self.now) }
+    {
+        let numbers = Vec::from_slice(*self.numbers.allocator(), self.numbers.as_slice())?;
+        Ok(Block { numbers })
+    }
+
     /// A copy of the numbers from the offset on.
     pub fn upper(&self, offset: usize) -> Result<Block, AllocError>
         requires { offset < length self.now }

@@ -46,6 +46,20 @@ impl Dict {
         }
     }
 
+    /// The same terms with the same numbers, in memory of their own.
+    pub fn copy(&self) -> Result<Dict, AllocError>
+        ensures { IfOk result (λ copy. copy ≡ self.now) }
+    {
+        let terms = self.terms.copy()?;
+        let blocks = copies_of(terms.allocator(), self.blocks.as_slice())?;
+        let guesses = self.guesses.copy()?;
+        Ok(Dict {
+            terms,
+            blocks,
+            guesses,
+        })
+    }
+
     /// How many terms there are.
     pub fn len(&self) -> usize
         ensures count { result ≡ length self.now }
@@ -203,4 +217,16 @@ impl Debug for Dict {
     fn fmt<W: Write>(&self, f: &mut Formatter<W>) -> Result<(), Error> {
         write!(f, "Dict of {}", self.len())
     }
+}
+
+/// The same blocks, in memory of their own.
+fn copies_of(alloc: Global, blocks: &[Block]) -> Result<Vec<Block>, AllocError>
+    ensures { IfOk result (λ copies. copies.items ≡ blocks.now) }
+{
+    let mut copies = Vec::with_capacity(alloc, blocks.len())?;
+    'copies: for block in blocks {
+        let copy = block.copy()?;
+        copies.push(copy)?;
+    }
+    Ok(copies)
 }

@@ -1,5 +1,5 @@
 //! Guesses at the numbers of terms.
-use std::alloc::Global;
+use std::alloc::{AllocError, Global};
 
 /// For each hash the number of a term that has it: a guess, since others may have it too. Who asks compares the term.
 #[derive(Drop)]
@@ -16,6 +16,15 @@ impl Guesses {
             alloc,
             numbers: Vec::new(alloc),
         }
+    }
+
+    /// The same guesses, in memory of their own.
+    pub fn copy(&self) -> Result<Guesses, AllocError> {
+        let numbers = Vec::from_slice(self.alloc, self.numbers.as_slice())?;
+        Ok(Guesses {
+            alloc: self.alloc,
+            numbers,
+        })
     }
 
     /// A number to compare the term with.

@@ -1,5 +1,5 @@
 //! The terms by number, one behind the other, with the first bytes of each beside them.
-ghost use Rattle.std.specs.Prelude.{◌≡◌, ◌<◌, ◌≤◌, ◌++◌, ◌∷◌, [], length, take, slice_index, OnOk, OnErr};
+ghost use Rattle.std.specs.Prelude.{◌≡◌, ◌<◌, ◌≤◌, ◌++◌, ◌∷◌, [], length, take, slice_index, IfOk, OnOk, OnErr};
 ghost use Rattle.sk_dict.specs.Terms.{term_at};
 ghost use Rattle.sk_dict.specs.Searches.{stands_before};
 ghost use Rattle.sk_dict.specs.Heads.{AreBytes, head_of};
@@ -79,6 +79,18 @@ impl Terms {
             ends: Vec::new(alloc),
             heads: Vec::new(alloc),
         }
+    }
+
+    /// The same terms, in memory of their own.
+    pub fn copy(&self) -> Result<Terms, AllocError>
+        ensures { IfOk result (λ copy. copy ≡ self.now) }
+    {
+        let alloc = self.allocator();
+        Ok(Terms {
+            bytes: Vec::from_slice(alloc, self.bytes.as_slice())?,
+            ends: Vec::from_slice(alloc, self.ends.as_slice())?,
+            heads: Vec::from_slice(alloc, self.heads.as_slice())?,
+        })
     }
 
     pub fn allocator(&self) -> Global {

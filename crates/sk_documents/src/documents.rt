@@ -1,12 +1,12 @@
 //! Documents under a schema.
-ghost use Rattle.std.specs.Prelude.{◌≡◌, ◌<◌, ◌^◌, [], length, All};
+ghost use Rattle.std.specs.Prelude.{◌≡◌, ◌<◌, ◌^◌, [], length, All, IfOk};
 ghost use Rattle.sk_base.specs.Loads.{IsLight};
 ghost use Rattle.sk_model.specs.Edits.{nothing_live, IsLive};
 ghost use Rattle.sk_documents.specs.Documented.{Documented, IsSoundLive};
 
 use crate::Keeper;
 use sk_base::{DocId, Schema};
-use std::alloc::Global;
+use std::alloc::{AllocError, Global};
 use std::fmt::{Debug, Error, Formatter, Write};
 use std::marker::Model;
 
@@ -42,6 +42,20 @@ impl<K: Keeper> Documents<K> {
             highest: 0,
             keeper,
         }
+    }
+
+    /// The same schema and the same documents, as another keeper has them.
+    pub fn copy_over(&self, keeper: K) -> Result<Documents<K>, AllocError>
+        requires { K.documents keeper ≡ self.now.live.documents }
+        ensures { IfOk result (λ copy. copy ≡ record { schema = self.now.schema; live = self.now.live; keeper = keeper }) }
+    {
+        let schema = self.schema.copy(self.alloc)?;
+        Ok(Documents {
+            alloc: self.alloc,
+            schema,
+            highest: self.highest,
+            keeper,
+        })
     }
 
     pub fn schema(&self) -> &Schema

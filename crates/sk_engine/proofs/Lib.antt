@@ -1,0 +1,2 @@
+mod FlightLaws
+mod SeveralLaws

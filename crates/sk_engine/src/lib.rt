@@ -1,6 +1,7 @@
 //! The session, and the run over lines.
 #![tactic(auto)]
 
+mod flying;
 mod program;
 mod runs;
 mod session;

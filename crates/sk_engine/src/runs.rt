@@ -1,11 +1,13 @@
 //! The run by the words of a program.
 ghost use Rattle.std.specs.Prelude.{◌≡◌, map, string_bytes};
+ghost use Rattle.sk_run.specs.declared.form.Form.{Form};
 ghost use Rattle.sk_run.specs.declared.status.Status.TheVariants as Status;
 ghost use Rattle.sk_run.specs.Outsides.{outside_at};
-ghost use Rattle.sk_engine.specs.SessionRan.{SessionRan};
+ghost use Rattle.sk_engine.specs.SessionRan.{SessionRan, ReadingsTold};
 
 use crate::{Session, Status};
 use sk_io::{Sink, Source};
+use sk_run::readings_are_told;
 use sk_steps::Steps;
 use std::alloc::Global;
 use std::sync::ledger::Ledger;
@@ -27,8 +29,14 @@ pub fn run<S: Source, R: Source, K: Sink, L: Ledger>(
         (outside_at (S.seen input.old) (R.seen records.old) (K.seen output.old) steps.old)
         (outside_at (S.seen input.new) (R.seen records.new) (K.seen output.new) steps.new) }
 
+    // Each reading is told once.
+    ensures told { (form : Form) → ReadingsTold form result
+        (outside_at (S.seen input.old) (R.seen records.old) (K.seen output.old) steps.old)
+        (outside_at (S.seen input.new) (R.seen records.new) (K.seen output.new) steps.new) }
+
     // Words that are no form touch nothing.
     ensures untouched { result ≡ Status.Usage → (input.new ≡ input.old) × (records.new ≡ records.old) × (output.new ≡ output.old) }
 {
+    readings_are_told::<Session>();
     sk_run::run::<Session, _, _, _, _>(alloc, words, input, records, output, steps)
 }

@@ -1,9 +1,9 @@
 //! A session: the documents under one schema, in one index or in several.
-ghost use Rattle.std.specs.Prelude.{◌≡◌, ◌≤◌, ◌+◌, true, false, IfOk};
+ghost use Rattle.std.specs.Prelude.{◌≡◌, ◌≤◌, ◌+◌, true, false, IfOk, OnOk};
 ghost use Rattle.serde_json.specs.View.{view};
 ghost use Rattle.sk_base.specs.declared.facets.Facets.{Facets};
 ghost use Rattle.sk_base.specs.declared.report.Report.{Report};
-ghost use Rattle.sk_base.specs.Commands.{FitsFacets, FitsParts};
+ghost use Rattle.sk_base.specs.Commands.{FitsFacets, FitsFlight, FitsParts, flight_over};
 ghost use Rattle.sk_base.specs.Finds.{FitsFind, FitsPaging, ask_over};
 ghost use Rattle.sk_base.specs.Records.{FitsEdit};
 ghost use Rattle.sk_parser.specs.Asked.{asked, text_asked};
@@ -11,17 +11,24 @@ ghost use Rattle.sk_query.specs.Trees.{query_view};
 ghost use Rattle.sk_query.specs.Fits.{fits_tree};
 ghost use Rattle.sk_run.specs.Asking.{TellsOfQuestion, CountsSteps};
 ghost use Rattle.sk_model.specs.Edits.{reply_to};
-ghost use Rattle.sk_run.specs.Conducts.{Held, nothing_held, are_in_parts, edited_held};
-ghost use Rattle.sk_engine.specs.Sessions.{SessionHolds, schema_of, MayFind, MayCount};
+ghost use Rattle.sk_run.specs.Held.{Held, nothing_held, are_in_parts, edited_held};
+ghost use Rattle.sk_run.specs.Lines.{IsReached};
+ghost use Rattle.sk_run.specs.Responses.{reads_of};
+ghost use Rattle.sk_engine.specs.Sessions.{SessionHolds, schema_of, MayFind, MayCount, MayFly, MayEnd};
 
 use crate::Several;
+use crate::flying::fly;
 use serde_json::Value;
-use sk_base::{Edit, FacetQuery, Facets, Find, Paging, Reply, Report, Schema};
+use sk_base::{
+    Edit, FacetQuery, Facets, Find, FlightCommand, Items, Paging, Reply, Report, Schema,
+};
 use sk_facets::count;
+use sk_flight::Flights;
 use sk_index::Index;
 use sk_match::search;
 use sk_parser::{AskError, query_of, text_query};
 use sk_query::Query;
+use sk_run::Response;
 use sk_shards::Parts;
 use sk_steps::Steps;
 use std::alloc::{AllocError, Global};
@@ -30,9 +37,9 @@ use std::sync::ledger::Ledger;
 /// The documents under one schema, and what is found in them.
 #[derive(Debug, Drop)]
 pub enum Session {
-    /// They stand in one index.
-    One(Index),
-    /// They stand in several, which take turns.
+    /// They stand in one index. Searches may be in flight.
+    One(Flights),
+    /// They stand in several, which take turns. No search is in flight.
     Several(Several),
 }
 
@@ -45,7 +52,8 @@ impl Session {
     {
         if parts == 1 {
             let index = Index::new(alloc, schema)?;
-            return Ok(Session::One(index));
+            let flights = Flights::new(alloc, index)?;
+            return Ok(Session::One(flights));
         }
         let parts = Parts::new(alloc, schema, parts)?;
         Ok(Session::Several(Several { parts }))
@@ -55,7 +63,7 @@ impl Session {
         ensures { result.now ≡ schema_of self.now }
     {
         match self {
-            Session::One(index) => index.schema(),
+            Session::One(flights) => flights.index().schema(),
             Session::Several(several) => several.parts.schema(),
         }
     }
@@ -70,12 +78,13 @@ impl Session {
     /// The allocator that it keeps.
     fn allocator(&self) -> Global {
         match self {
-            Session::One(index) => index.allocator(),
+            Session::One(flights) => flights.index().allocator(),
             Session::Several(several) => several.parts.allocator(),
         }
     }
 
-    /// Changes the documents. Where memory runs out the session is given up.
+    /// Changes the documents. Searches in flight stay on those of their opening. Where memory runs out the session is
+    /// given up.
     pub fn apply(self, edit: Edit) -> Result<(Session, Reply), AllocError>
         requires { FitsEdit (schema_of self) edit }
         ensures holds { IfOk result (λ p. (held : Held) → SessionHolds self held → SessionHolds p.0 (edited_held (schema_of self) held edit)) }
@@ -83,9 +92,9 @@ impl Session {
         ensures schema { IfOk result (λ p. schema_of p.0 ≡ schema_of self) }
     {
         match self {
-            Session::One(index) => {
-                let (index, reply) = index.apply(edit)?;
-                Ok((Session::One(index), reply))
+            Session::One(flights) => {
+                let (flights, reply) = flights.apply(edit)?;
+                Ok((Session::One(flights), reply))
             }
             Session::Several(several) => {
                 let Several { parts } = several;
@@ -126,7 +135,10 @@ impl Session {
         ensures later { steps.old ≤ steps.new }
     {
         match self {
-            Session::One(index) => search(index.allocator(), index, paging, query, steps),
+            Session::One(flights) => {
+                let index = flights.index();
+                search(index.allocator(), index, paging, query, steps)
+            }
             Session::Several(several) => several.parts.find(paging, query, steps),
         }
     }
@@ -143,14 +155,48 @@ impl Session {
         ensures tells { (held : Held) → SessionHolds self.now held → TellsOfQuestion (MayCount held wanted.now.slot wanted.now.size) (text_asked (schema_of self.now) wanted.now.join wanted.now.text) result }
         ensures counts { CountsSteps (λ (facets : Facets). facets.steps) result steps.old steps.new }
     {
-        let Session::One(index) = self else {
+        let Session::One(flights) = self else {
             unreachable!();
         };
+        let index = flights.index();
         let alloc = index.allocator();
         let query = text_query(alloc, self.schema(), wanted.join, wanted.text.as_str())?;
         match count(alloc, index, &query, wanted.slot, wanted.size, steps) {
             Ok(facets) => Ok(facets),
             Err(AllocError) => Err(AskError::NoMemory),
+        }
+    }
+
+    /// What a command on searches in flight is answered. The documents stand in one part. Where memory runs out the
+    /// session is only to be dropped.
+    pub fn fly<L: Ledger>(
+        &mut self,
+        command: FlightCommand<Value>,
+        steps: &mut Steps<L>,
+    ) -> Result<Response, AllocError>
+        requires fits { FitsFlight command }
+        requires whole { (held : Held) → SessionHolds self.old held → are_in_parts held ≡ false }
+        ensures flies { IfOk result (λ answer. (held : Held) → SessionHolds self.old held → IsReached SessionHolds (MayFly (schema_of self.old) held (flight_over view command) answer) self.new) }
+        ensures schema { OnOk result (schema_of self.new ≡ schema_of self.old) }
+        ensures cost { IfOk result (λ answer. steps.new ≡ steps.old + reads_of answer) }
+        ensures later { steps.old ≤ steps.new }
+    {
+        let Session::One(flights) = self else {
+            unreachable!();
+        };
+        fly(flights, command, steps)
+    }
+
+    /// The searches that are still open, as a run tells of them at its end.
+    pub(crate) fn still_open(&self) -> Result<Response, AllocError>
+        ensures ends { IfOk result (λ answer. (held : Held) → SessionHolds self.now held → MayEnd (schema_of self.now) held answer) }
+        ensures free { IfOk result (λ answer. reads_of answer ≡ 0) }
+    {
+        match self {
+            Session::One(flights) => Ok(Response::StillOpen(Items::from_vec(flights.readings()?))),
+            Session::Several(several) => {
+                Ok(Response::StillOpen(Items::new(several.parts.allocator())))
+            }
         }
     }
 }

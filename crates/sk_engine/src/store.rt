@@ -1,7 +1,7 @@
 //! A session as the store of a run.
 use crate::Session;
 use serde_json::Value;
-use sk_base::{Edit, FacetQuery, Facets, Find, Reply, Report, Schema};
+use sk_base::{Edit, FacetQuery, Facets, Find, FlightCommand, Reply, Report, Schema};
 use sk_parser::AskError;
 use sk_run::{Response, Store};
 use sk_steps::Steps;
@@ -10,7 +10,7 @@ use std::mem;
 use std::sync::ledger::Ledger;
 
 impl Store for Session {
-    ghost use Rattle.sk_run.specs.Conducts.{Held};
+    ghost use Rattle.sk_run.specs.Held.{Held};
     ghost use Rattle.sk_engine.specs.Sessions.{SessionHolds, schema_of, session_conduct};
 
     ghost under = { schema_of };
@@ -53,9 +53,18 @@ impl Store for Session {
         Session::facets(self, wanted, steps)
     }
 
+    fn fly<L: Ledger>(
+        &mut self,
+        command: FlightCommand<Value>,
+        steps: &mut Steps<L>,
+    ) -> Result<Response, AllocError> {
+        Session::fly(self, command, steps)
+    }
+
     /// Nothing is taken apart: a run is the last thing that the process does, and the memory goes with that.
     fn close(self, _alloc: Global) -> Result<Response, AllocError> {
+        let response = self.still_open();
         mem::forget(self);
-        Ok(Response::Skipped)
+        response
     }
 }

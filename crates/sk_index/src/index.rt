@@ -59,6 +59,15 @@ impl Index {
         })
     }
 
+    /// The same documents under the same schema, in memory of their own. It is no reading.
+    pub fn copy(&self) -> Result<Index, AllocError>
+        ensures { IfOk result (λ copy. copy ≡ self.now) }
+    {
+        let lists = self.documents.keeper().copy(self.allocator())?;
+        let documents = self.documents.copy_over(lists)?;
+        Ok(Index { documents })
+    }
+
     pub fn schema(&self) -> &Schema
         ensures { result.now ≡ self.now.schema }
     {

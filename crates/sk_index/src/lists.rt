@@ -9,7 +9,7 @@ ghost use Rattle.sk_index.specs.Packed.{AreKnown};
 ghost use Rattle.sk_index.specs.Stands.{AreListsOf, AreSlotsOf};
 ghost use Rattle.sk_index.specs.Unpacked.{named_all, unpacked};
 
-use crate::packed_terms::PackedTerms;
+use crate::packed_terms::{PackedTerms, TermsCopier};
 use crate::payloads::Payloads;
 use crate::slot_lists::SlotLists;
 use crate::term_lists::TermLists;
@@ -58,6 +58,20 @@ impl Lists {
             terms: TermLists::new(alloc),
             slots: SlotLists::new(alloc, slots)?,
             payloads: Payloads::new(alloc),
+        })
+    }
+
+    /// The same documents and lists, in memory of their own.
+    pub fn copy(&self, alloc: Global) -> Result<Lists, AllocError>
+        ensures { IfOk result (λ copy. copy ≡ self.now) }
+    {
+        Ok(Lists {
+            map: self.map.copy(&TermsCopier { alloc })?,
+            none: PackedTerms::new(alloc),
+            all: self.all.copy()?,
+            terms: self.terms.copy()?,
+            slots: self.slots.copy()?,
+            payloads: self.payloads.copy(alloc)?,
         })
     }
 

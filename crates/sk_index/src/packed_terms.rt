@@ -3,6 +3,7 @@ ghost use Rattle.std.specs.Prelude.{◌≡◌, ◌<◌, ◌≤◌, ◌+◌, ◌*
 ghost use Rattle.sk_base.specs.Order.{ArePositions};
 ghost use Rattle.sk_index.specs.Packed.{numbered_at, positions_at_place, words_of, heads_of, wdfs_of, are_plain, term_count, begin_in, words_behind};
 
+use sk_pieces::Copier;
 use std::alloc::{AllocError, Global};
 use std::marker::Model;
 
@@ -100,6 +101,14 @@ impl PackedTerms {
         }
     }
 
+    /// The same terms, in memory of their own.
+    pub fn copy(&self, alloc: Global) -> Result<PackedTerms, AllocError>
+        ensures { IfOk result (λ copy. copy ≡ self.now) }
+    {
+        let words = Vec::from_slice(alloc, self.words.as_slice())?;
+        Ok(PackedTerms { words })
+    }
+
     pub fn len(&self) -> usize
         ensures value { result ≡ length self.now }
         ensures small { result < 2 ^ 32 }
@@ -138,6 +147,18 @@ impl PackedTerms {
         } else {
             &[]
         }
+    }
+}
+
+/// Copies the terms of documents.
+#[derive(Drop)]
+pub(crate) struct TermsCopier {
+    pub alloc: Global,
+}
+
+impl Copier<PackedTerms> for TermsCopier {
+    fn copy(&self, x: &PackedTerms) -> Result<PackedTerms, AllocError> {
+        x.copy(self.alloc)
     }
 }
 

@@ -3,7 +3,7 @@ ghost use Rattle.std.specs.Prelude.{◌≡◌, ◌≤◌, [], IfOk, OnOk};
 ghost use Rattle.sk_index.specs.Payloads.{payload_of, KeepsPayloads};
 
 use sk_base::{DocId, Text};
-use sk_pieces::Pieces;
+use sk_pieces::{Copier, Pieces};
 use std::alloc::{AllocError, Global};
 use std::marker::Model;
 
@@ -30,6 +30,14 @@ impl Payloads {
         Payloads {
             texts: Pieces::new(alloc),
         }
+    }
+
+    /// The same payloads, in memory of their own.
+    pub fn copy(&self, alloc: Global) -> Result<Payloads, AllocError>
+        ensures { IfOk result (λ copy. copy ≡ self.now) }
+    {
+        let texts = self.texts.copy(&TextCopier { alloc })?;
+        Ok(Payloads { texts })
     }
 
     /// The payload of the document, empty where it has none.
@@ -63,5 +71,17 @@ impl Payloads {
     {
         let _sorted = self.texts.length();
         self.texts.take(id);
+    }
+}
+
+/// Copies payloads.
+#[derive(Drop)]
+struct TextCopier {
+    alloc: Global,
+}
+
+impl Copier<Text> for TextCopier {
+    fn copy(&self, x: &Text) -> Result<Text, AllocError> {
+        Text::new(self.alloc, x.as_str())
     }
 }

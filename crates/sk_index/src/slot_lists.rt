@@ -50,6 +50,18 @@ impl SlotLists {
         })
     }
 
+    /// The same values, in memory of their own.
+    pub fn copy(&self) -> Result<SlotLists, AllocError>
+        ensures { IfOk result (λ copy. copy ≡ self.now) }
+    {
+        let slots = copies_of(self.alloc, self.slots.as_slice())?;
+        Ok(SlotLists {
+            alloc: self.alloc,
+            slots,
+            none: SlotList::new(self.alloc),
+        })
+    }
+
     /// The list of the slot.
     pub fn list(&self, slot: u32) -> &SlotList
         ensures pieces { result.now ≡ slot_pieces slot self.now }
@@ -116,4 +128,19 @@ impl SlotLists {
             }
         }
     }
+}
+
+/// The same slots with the same values, in memory of their own.
+fn copies_of(alloc: Global, slots: &[SlotEntry]) -> Result<Vec<SlotEntry>, AllocError>
+    ensures { IfOk result (λ copies. copies.items ≡ slots.now) }
+{
+    let mut copies = Vec::with_capacity(alloc, slots.len())?;
+    'copies: for one in slots {
+        let list = one.list.copy(alloc)?;
+        copies.push(SlotEntry {
+            slot: one.slot,
+            list,
+        })?;
+    }
+    Ok(copies)
 }

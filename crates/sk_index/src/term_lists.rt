@@ -53,6 +53,19 @@ impl TermLists {
         }
     }
 
+    /// The same terms with the same lists, in memory of their own.
+    pub fn copy(&self) -> Result<TermLists, AllocError>
+        ensures { IfOk result (λ copy. copy ≡ self.now) }
+    {
+        let dict = self.dict.copy()?;
+        let lists = copies_of(self.alloc, self.lists.as_slice())?;
+        Ok(TermLists {
+            alloc: self.alloc,
+            dict,
+            lists,
+        })
+    }
+
     /// The number of the term.
     pub fn find(&self, term: &[u8]) -> Option<usize>
         ensures value { result ≡ number_of term.now self.now.terms }
@@ -243,4 +256,16 @@ fn capped(total: u32, more: u32, most: u32) -> u32
     ensures { result ≡ min most (total + more) }
 {
     total.saturating_add(more).min(most)
+}
+
+/// The same lists, in memory of their own.
+fn copies_of(alloc: Global, lists: &[List]) -> Result<Vec<List>, AllocError>
+    ensures { IfOk result (λ copies. copies.items ≡ lists.now) }
+{
+    let mut copies = Vec::with_capacity(alloc, lists.len())?;
+    'copies: for list in lists {
+        let copy = list.copy()?;
+        copies.push(copy)?;
+    }
+    Ok(copies)
 }

@@ -19,7 +19,7 @@ pub(crate) const FULL: u32 = 32;
 const HALF: u32 = 16;
 /// Neighbours that have no more entries together become one behind a removal or a halving, where the first has room for
 /// all: it has room for as many as it ever had, and each but the last for 16 at least, so a list of n entries has about
-/// n / 9 chunks at most.
+/// n / 9 chunks at most. A copied chunk has room for the entries that it was copied with, so a copy may have more.
 const THIN: u32 = 24;
 
 /// Chunks in order of their ids, none of them empty.
@@ -57,6 +57,19 @@ impl Directory {
             chunks,
             length,
             greatest,
+        })
+    }
+
+    /// The same chunks, in memory of their own.
+    pub fn copy(&self) -> Result<Directory, AllocError>
+        ensures { IfOk result (λ copy. copy ≡ self.now) }
+    {
+        let chunks = copies_of(self.alloc, self.chunks.as_slice())?;
+        Ok(Directory {
+            alloc: self.alloc,
+            chunks,
+            length: self.length,
+            greatest: self.greatest,
         })
     }
 
@@ -148,9 +161,21 @@ impl Directory {
         ensures at { result < length self.now → id ≤ top_id 0 (get_or self.now result []) }
         ensures sound { AreRuns self.now }
     {
+        // A document that is added has the highest id.
+        if self.is_behind(id) {
+            return self.chunks.len();
+        }
         self.chunks
             .as_slice()
             .partition_point(|chunk| chunk.last() < id)
+    }
+
+    /// Whether the id is behind all chunks.
+    fn is_behind(&self, id: u32) -> bool
+        ensures { result ≡ true → (k : ℕ) → k < length self.now → top_id 0 (get_or self.now k []) < id }
+    {
+        let count = self.chunks.len();
+        count == 0 || self.chunks[count - 1].last() < id
     }
 
     /// An entry behind all others: into the last chunk, or a new one where that is full or there is none.
@@ -294,4 +319,16 @@ fn greatest_of(chunks: &[Chunk], bound: u32) -> u32
         }
     }
     most
+}
+
+/// The same chunks, in memory of their own.
+fn copies_of(alloc: Global, chunks: &[Chunk]) -> Result<Vec<Chunk>, AllocError>
+    ensures { IfOk result (λ copies. copies.items ≡ chunks.now) }
+{
+    let mut copies = Vec::with_capacity(alloc, chunks.len())?;
+    'chunks: for chunk in chunks {
+        let copy = chunk.copy(alloc)?;
+        copies.push(copy)?;
+    }
+    Ok(copies)
 }

@@ -47,6 +47,20 @@ impl List {
         }
     }
 
+    /// The same entries in the same chunks, in memory of their own. It is no reading: it shows none of them.
+    pub fn copy(&self) -> Result<List, AllocError>
+        ensures { IfOk result (λ copy. copy ≡ self.now) }
+    {
+        let form = match &self.form {
+            Form::One(chunk) => Form::One(chunk.copy(self.alloc)?),
+            Form::Many(directory) => Form::Many(directory.copy()?),
+        };
+        Ok(List {
+            alloc: self.alloc,
+            form,
+        })
+    }
+
     /// Gives the document this wdf. Only a new entry takes memory, and only entries of a few chunks move.
     pub fn insert(&mut self, id: u32, wdf: u32) -> Result<(), AllocError>
         requires { 1 ≤ id }

@@ -37,7 +37,7 @@ use Rattle.sk_page.proofs.WalkLaws as Walks
 use Rattle.sk_page.proofs.WalkLaws.{weighed, scores}
 use Rattle.sk_page.proofs.FewerLaws.{none_either, same_given, fewer_left}
 use Rattle.sk_page.proofs.SeeLaws.{page_opened, may_see, at_last, Looked, passed_by, looked_at, gone_on, wanted_before, asked_behind, head_early}
-use Rattle.sk_page.specs.Paces.{reached_by}
+use Rattle.sk_report.specs.Paces.{reached_by}
 use Rattle.sk_page.proofs.PaceLaws.{no_cutoff, reached_on}
 use Rattle.sk_match.specs.Searches.{IsOn, Stands, TreePasses, PassesUnseen, AsksBehind}
 use Rattle.sk_match.specs.declared.open_search.Search.{Search}

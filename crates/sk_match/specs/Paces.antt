@@ -5,7 +5,7 @@ use Rattle.sk_query.specs.Trees.{Tree}
 use Rattle.sk_model.specs.Matches.{found_by}
 use Rattle.sk_model.specs.Sharp.{ups}
 use Rattle.sk_index.specs.Indexed.{Indexed}
-use Rattle.sk_page.specs.Paces.{reached_by}
+use Rattle.sk_report.specs.Paces.{reached_by}
 use Rattle.sk_match.specs.declared.open_search.Search.{Search}
 
 -- Each list up to the last match that a search saw, and one entry more.

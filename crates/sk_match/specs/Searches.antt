@@ -20,7 +20,7 @@ use Rattle.sk_tree.specs.Rare.{Rare}
 use Rattle.sk_tree.specs.Decays.{Decays, MayFall}
 use Rattle.sk_tree.specs.declared.tree.Tree.{Tree}
 use Rattle.sk_page.specs.Needs.{is_settled, need_for}
-use Rattle.sk_page.specs.Paces.{reached_by}
+use Rattle.sk_report.specs.Paces.{reached_by}
 use Rattle.sk_page.specs.Views.{PageOf, Sees}
 use Rattle.sk_match.specs.declared.open_search.Search.{Search}
 

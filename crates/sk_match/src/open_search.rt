@@ -14,7 +14,7 @@ ghost use Rattle.sk_model.specs.Matches.{found_by};
 ghost use Rattle.sk_model.specs.Sharp.{is_plain, flat_lists, sharp};
 ghost use Rattle.sk_tree.specs.Built.{scored, IsTree};
 ghost use Rattle.sk_page.specs.Needs.{is_whole};
-ghost use Rattle.sk_page.specs.Paces.{IsEarly};
+ghost use Rattle.sk_report.specs.Paces.{IsEarly};
 ghost use Rattle.sk_match.specs.Paces.{ups_seen};
 ghost use Rattle.sk_match.specs.Searches.{IsOn, Stands, Asks, PassesUnseen, MovesPast, ahead, left_to_stop, is_done, spent_by};
 ghost use Rattle.sk_match.specs.declared.open_search.Turn.TheVariants as Turn;

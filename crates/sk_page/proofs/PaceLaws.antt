@@ -15,7 +15,7 @@ use Rattle.sk_model.specs.Documents.{Document}
 use Rattle.sk_model.specs.Matches.{found_by}
 use Rattle.sk_heap.specs.Held.{Held, need_of}
 use Rattle.sk_page.specs.Needs.{need_at, need_for}
-use Rattle.sk_page.specs.Paces.{greatest_id, reached_by}
+use Rattle.sk_report.specs.Paces.{greatest_id, reached_by}
 use Rattle.sk_page.specs.Views.{PageOf}
 use Rattle.sk_page.specs.Walks.{Walk}
 use Rattle.sk_page.specs.declared.page.Page.{Page}

@@ -6,4 +6,3 @@ pub mod Needs
 pub mod Calm
 pub mod Hits
 pub mod Views
-pub mod Paces

@@ -1,3 +1,4 @@
 mod PlaceLemmas
 mod PieceLemmas
+mod CopyLemmas
 mod Examples

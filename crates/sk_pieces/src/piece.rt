@@ -3,6 +3,7 @@ ghost use Rattle.std.specs.Prelude.{◌≡◌, ◌≤◌, ◌<◌, ◌+◌, ◌�
 ghost use Rattle.std.specs.Option.{option_map};
 ghost use Rattle.sk_sorted.specs.Entries.{AreSorted, RiseAbove, put, without, found, has, from, top_id};
 
+use crate::Copier;
 use crate::place::{place_from, place_without_gaps};
 use sk_sorted::{Ends, Sorted};
 use std::alloc::{AllocError, Global};
@@ -97,6 +98,18 @@ impl<T: Drop> Piece<T> {
         Ok(Piece { entries })
     }
 
+    /// The same entries, in memory of their own.
+    pub(crate) fn copy<C: Copier<T>>(
+        &self,
+        alloc: Global,
+        copier: &C,
+    ) -> Result<Piece<T>, AllocError>
+        ensures { IfOk result (λ copy. copy ≡ self.now) }
+    {
+        let entries = copies_of(alloc, self.entries.as_slice(), copier)?;
+        Ok(Piece { entries })
+    }
+
     /// Puts this with the id, in constant time where that is above all others. Only a new entry takes memory.
     pub(crate) fn put(&mut self, id: u32, x: T) -> Result<(), AllocError>
         requires id { 1 ≤ id }
@@ -164,4 +177,21 @@ impl<T> Debug for Piece<T> {
     fn fmt<W: Write>(&self, f: &mut Formatter<W>) -> Result<(), Error> {
         write!(f, "Piece of {}", self.count())
     }
+}
+
+/// The same entries, in memory of their own. Each is put behind all others.
+fn copies_of<T: Drop, C: Copier<T>>(
+    alloc: Global,
+    entries: &[(u32, T)],
+    copier: &C,
+) -> Result<Sorted<T>, AllocError>
+    requires { AreSorted entries.now }
+    ensures { IfOk result (λ copies. copies ≡ entries.now) }
+{
+    let mut copies = Sorted::new(alloc);
+    'entries: for entry in entries {
+        let x = copier.copy(&entry.1)?;
+        copies.put(entry.0, x)?;
+    }
+    Ok(copies)
 }

@@ -6,7 +6,7 @@ ghost use Rattle.std.specs.Vec.{vec_len, vec_capacity};
 ghost use Rattle.sk_sorted.specs.Entries.{AreSorted, put, without, found, has, top_id};
 ghost use Rattle.sk_sorted.specs.Runs.{flat, AreRuns, FitsAt};
 
-use crate::Piece;
+use crate::{Copier, Piece};
 use std::alloc::{AllocError, Global};
 use std::fmt::{Debug, Error, Formatter, Write};
 use std::marker::Model;
@@ -15,7 +15,8 @@ use std::marker::Model;
 const FULL: u32 = 128;
 /// Neighbours that have no more entries together become one behind a removal or a halving, where the first has room for
 /// all: it has room for as many as it ever had, and each but the last for 64 at least, so a list of n entries has about
-/// n / 33 pieces at most.
+/// n / 33 pieces at most. A copied piece may have room for the entries alone that it was copied with, so a copy may have
+/// more.
 const THIN: u32 = 96;
 
 /// Entries, each an id from 1 and what stands with it, no id twice, in order of their ids, cut into pieces of at most
@@ -108,6 +109,18 @@ fn is_place<T>(pieces: &[Piece<T>], at: usize, id: u32) -> bool
 }
 
 impl<T: Drop> Pieces<T> {
+    /// The same entries in the same pieces, in memory of their own.
+    pub fn copy<C: Copier<T>>(&self, copier: &C) -> Result<Pieces<T>, AllocError>
+        ensures { IfOk result (λ copy. copy ≡ self.now) }
+    {
+        let pieces = copies_of(self.alloc, self.pieces.as_slice(), copier)?;
+        Ok(Pieces {
+            alloc: self.alloc,
+            pieces,
+            length: self.length,
+        })
+    }
+
     /// Puts this with the id. Only a new entry takes memory, and only entries of a few pieces move.
     pub fn put(&mut self, id: u32, x: T) -> Result<(), AllocError>
         requires { 1 ≤ id }
@@ -243,4 +256,20 @@ impl<T> Debug for Pieces<T> {
     fn fmt<W: Write>(&self, f: &mut Formatter<W>) -> Result<(), Error> {
         write!(f, "Pieces of {}", self.length())
     }
+}
+
+/// The same pieces, in memory of their own.
+fn copies_of<T: Drop, C: Copier<T>>(
+    alloc: Global,
+    pieces: &[Piece<T>],
+    copier: &C,
+) -> Result<Vec<Piece<T>>, AllocError>
+    ensures { IfOk result (λ copies. copies.items ≡ pieces.now) }
+{
+    let mut copies = Vec::with_capacity(alloc, pieces.len())?;
+    'pieces: for piece in pieces {
+        let copy = piece.copy(alloc, copier)?;
+        copies.push(copy)?;
+    }
+    Ok(copies)
 }

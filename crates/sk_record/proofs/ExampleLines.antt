@@ -12,6 +12,7 @@ use Rattle.json.specs.Word.{word, after_number}
 use Rattle.serde_json.specs.Data.{Data, null}
 use Rattle.serde_json.specs.Read.{number_of}
 use Rattle.sk_base.specs.declared.command.Command.{Command}
+use Rattle.sk_base.specs.declared.command.FlightCommand.{FlightCommand}
 use Rattle.sk_base.specs.declared.command.Question.{Question}
 use Rattle.sk_base.specs.declared.facets.ValueKind.{ValueKind}
 use Rattle.sk_base.specs.declared.find.Ask.{Ask}
@@ -141,6 +142,21 @@ shown text join = Ok (Command.Ask (Question.Show text join))
 -- how often each value stands
 abbrev pub faceted : List ℕ → Join → ℕ → ValueKind → ℕ → Result (Command Data) LineFault
 faceted text join slot kind size = Ok (Command.Ask (Question.Facets (record { text = text; join = join; slot = slot; kind = kind; size = size })))
+
+-- a search in flight that is opened, with what a find has
+abbrev pub opened_search : Ask Data → Options → Order → Option Collapse → Result (Command Data) LineFault
+opened_search ask options order collapse =
+    Ok (Command.Flight (FlightCommand.Open (record { ask = ask; paging = record { options = options; order = order; collapse = collapse } })))
+
+-- so many turns of a search
+abbrev pub turned : ℕ → ℕ → Result (Command Data) LineFault
+turned n times = Ok (Command.Flight (FlightCommand.Turn n times))
+
+abbrev pub closed : ℕ → Result (Command Data) LineFault
+closed n = Ok (Command.Flight (FlightCommand.Close n))
+
+abbrev pub dropped : ℕ → Result (Command Data) LineFault
+dropped n = Ok (Command.Flight (FlightCommand.Drop n))
 
 -- ---- the schema of most lines
 

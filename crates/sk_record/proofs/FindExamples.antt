@@ -22,6 +22,8 @@ texts : AreGiven (Some schema) (
     row (codes "{'find':'a','limit':1}") bad_shape ∷
     row (codes "{'find':'a','data':'x'}") bad_shape ∷
     row (codes "{'find':'a','show':'a'}") bad_shape ∷
+    row (codes "{'find':'a','open':'a'}") bad_shape ∷
+    row (codes "{'find':'a','times':1}") bad_shape ∷
     [])
 unfolding on_lines
 texts = refl

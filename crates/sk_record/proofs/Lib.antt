@@ -10,4 +10,5 @@ mod ExampleLines
 mod SchemaExamples
 mod RecordExamples
 mod FindExamples
+mod FlightExamples
 mod LimitExamples

@@ -8,7 +8,7 @@ use Rattle.sk_base.specs.declared.find.Join.{Join}
 use Rattle.sk_base.specs.declared.schema.FieldKind.TheVariants as FieldKind
 use Rattle.sk_record.specs.Outcome.{outcome}
 use Rattle.sk_base.specs.declared.find.Ask.{Ask}
-use Rattle.sk_record.proofs.ExampleLines.{on_lines, AreGiven, row, schema, field, opened, found, faceted, not_json, no_schema, bad_shape, bad_field}
+use Rattle.sk_record.proofs.ExampleLines.{on_lines, AreGiven, row, schema, field, opened, plain, relevance, found, faceted, opened_search, not_json, no_schema, bad_shape, bad_field}
 
 -- Bytes that are not UTF-8 are no value, and a mark of the order of bytes is no white space.
 no_text_at_first : AreGiven None (
@@ -111,6 +111,16 @@ longest_facets text e = rw e
 
 too_long_facets : (text : List ℕ) → length text ≡ 1048577 → outcome (Some schema) (Some (counting text)) ≡ bad_shape
 too_long_facets text e = rw e
+
+-- and that of a search that is opened
+abbrev opening : List ℕ → Data
+opening text = object (member (codes "open") (string text) no_members)
+
+longest_opened : (text : List ℕ) → length text ≡ 1048576 → outcome (Some schema) (Some (opening text)) ≡ opened_search (Ask.Text text Join.Or) plain relevance None
+longest_opened text e = rw e
+
+too_long_opened : (text : List ℕ) → length text ≡ 1048577 → outcome (Some schema) (Some (opening text)) ≡ bad_shape
+too_long_opened text e = rw e
 
 -- so have the strings of a record together, wherever they stand in it
 abbrev adding : List ℕ → List ℕ → Data

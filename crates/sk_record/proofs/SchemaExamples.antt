@@ -27,6 +27,11 @@ no_schema_yet : AreGiven None (
     row (codes "{'find':'red'}") no_schema ∷
     row (codes "{'find':7}") no_schema ∷
     row (codes "{'facets':'red','by':'site'}") no_schema ∷
+    row (codes "{'open':'red'}") no_schema ∷
+    row (codes "{'turn':0}") no_schema ∷
+    row (codes "{'turn':-1}") no_schema ∷
+    row (codes "{'close':0}") no_schema ∷
+    row (codes "{'drop':0}") no_schema ∷
     row (codes "{'schemas':[]}") no_schema ∷
     row (codes "{'add':{'schema':[]}}") no_schema ∷
     [])

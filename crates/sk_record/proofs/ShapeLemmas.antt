@@ -7,12 +7,13 @@ use Rattle.serde_json.specs.Data.{Data}
 use Rattle.serde_json.specs.Find.{get, as_str, as_object}
 use Rattle.sk_base.specs.declared.find.Ask.{Ask}
 use Rattle.sk_base.specs.declared.find.Options.{Options}
+use Rattle.sk_base.specs.Commands.{FitsTurns}
 use Rattle.sk_base.specs.Finds.{FitsAsk}
 use Rattle.sk_base.specs.Records.{most_bytes}
 use Rattle.sk_json.specs.Values.{has, has_only, text_at, whole_number, between, optional_text, optional_number, bytes_in}
-use Rattle.sk_record.specs.Shapes.{Given, CollapsedOn, Wanted, Counted, Shape, schema, add, replace, replace_by, delete, delete_by, seek, show, facets}
+use Rattle.sk_record.specs.Shapes.{Given, CollapsedOn, Wanted, Counted, Flight, opening, turning, closing, dropping, Shape, schema, add, replace, replace_by, delete, delete_by, seek, show, facets, flight}
 use Rattle.sk_record.specs.Options.{query_at, join_at, scheme_at, page_at, check_at, cutoff_at, falling_at, sorted_at, collapsed_on, collapsed_by, collapsed_at, options_at, wanted_at, option_names, find_row, tree_row}
-use Rattle.sk_record.specs.Rows.{values_object, given_at, id_member, pair_at, add_row, replace_row, replace_by_row, delete_row, delete_by_row, show_row, told_at, facets_row, later_shape}
+use Rattle.sk_record.specs.Rows.{values_object, given_at, id_member, pair_at, add_row, replace_row, replace_by_row, delete_row, delete_by_row, show_row, told_at, facets_row, number_at, times_at, open_row, turn_row, close_row, drop_row, later_shape}
 use Rattle.sk_record.proofs.Choices.{some_is, chained, mapped, guarded, either}
 
 -- the query, the page and the collapsing are in their ranges
@@ -26,6 +27,13 @@ pub record FitsCounted (counted : Counted) : Type 0 where
   pub text : length counted.text ≤ most_bytes
   pub size : counted.size ≤ 100000
 
+-- the find of a search that is opened is in its ranges, and so are the turns that one is given
+abbrev pub FitsAsked : Flight → Type 0
+FitsAsked (opening wanted) = FitsWanted wanted
+FitsAsked (turning number times) = FitsTurns times
+FitsAsked (closing number) = Unit {0}
+FitsAsked (dropping number) = Unit {0}
+
 -- a shape that is no schema, and is in its ranges
 abbrev pub FitsShape : Shape → Type 0
 FitsShape (schema given parts) = ⊥
@@ -37,6 +45,7 @@ FitsShape (delete_by pair) = Unit {0}
 FitsShape (seek wanted) = FitsWanted wanted
 FitsShape (show text join) = length text ≤ most_bytes
 FitsShape (facets counted) = FitsCounted counted
+FitsShape (flight asked) = FitsAsked asked
 
 between_least : (least most n m : ℕ) → between least most n ≡ Some m → least ≤ m
 between_least least most n m =
@@ -108,12 +117,12 @@ wanted_fits d ask wanted fits =
     (λ falling l. mapped FitsWanted _ (collapsed_at d) wanted
     (λ collapsed k. record { ask = fits; page = options_fit d options i; collapsed = collapsed_keeps_by d (get (codes "collapse") d) collapsed k }))))
 
-find_fits : (d : Data) (wanted : Wanted) → find_row d ≡ Some wanted → FitsWanted wanted
-find_fits d wanted =
-    guarded FitsWanted (has_only (codes "find" ∷ codes "op" ∷ option_names) d) _ wanted
-    (λ only. chained FitsWanted _ (query_at (codes "find") d) wanted
+find_fits : (name : List ℕ) (d : Data) (wanted : Wanted) → find_row name d ≡ Some wanted → FitsWanted wanted
+find_fits name d wanted =
+    guarded FitsWanted (has_only (name ∷ codes "op" ∷ option_names) d) _ wanted
+    (λ only. chained FitsWanted _ (query_at name d) wanted
     (λ text is. chained FitsWanted _ (join_at d) wanted
-    (λ join it. wanted_fits d (Ask.Text text join) wanted (query_short (codes "find") d text is))))
+    (λ join it. wanted_fits d (Ask.Text text join) wanted (query_short name d text is))))
 
 tree_fits : (d : Data) (wanted : Wanted) → tree_row d ≡ Some wanted → FitsWanted wanted
 tree_fits d wanted =
@@ -165,6 +174,28 @@ facets_fit d counted =
     (λ field there. mapped FitsCounted _ (told_at d) counted
     (λ size told. record { text = query_short (codes "facets") d text is; size = told_fits d size told })))))
 
+times_fit : (d : Data) (times : ℕ) → times_at d ≡ Some times → FitsTurns times
+times_fit d times =
+    chained FitsTurns (between 1 100000) (optional_number (codes "times") 1 d) times
+    (λ n is e. record { some = between_least 1 100000 n times e; few = between_most 1 100000 n times e })
+
+open_fits : (d : Data) (asked : Flight) → open_row d ≡ Some asked → FitsAsked asked
+open_fits d asked = mapped FitsAsked opening (find_row (codes "open") d) asked (find_fits (codes "open") d)
+
+turn_fits : (d : Data) (asked : Flight) → turn_row d ≡ Some asked → FitsAsked asked
+turn_fits d asked =
+    guarded FitsAsked (has_only (codes "turn" ∷ codes "times" ∷ []) d) _ asked
+    (λ only. chained FitsAsked _ (number_at (codes "turn") d) asked
+    (λ number is. mapped FitsAsked (turning number) (times_at d) asked (times_fit d)))
+
+close_fits : (d : Data) (asked : Flight) → close_row d ≡ Some asked → FitsAsked asked
+close_fits d asked =
+    guarded FitsAsked (has_only (codes "close" ∷ []) d) _ asked (λ only. mapped FitsAsked closing (number_at (codes "close") d) asked (λ number is. tt))
+
+drop_fits : (d : Data) (asked : Flight) → drop_row d ≡ Some asked → FitsAsked asked
+drop_fits d asked =
+    guarded FitsAsked (has_only (codes "drop" ∷ []) d) _ asked (λ only. mapped FitsAsked dropping (number_at (codes "drop") d) asked (λ number is. tt))
+
 pub later_fits : (d : Data) (shape : Shape) → later_shape d ≡ Some shape → FitsShape shape
 later_fits d shape =
     either FitsShape (has (codes "add") d) _ _ shape (add_fits d shape)
@@ -172,7 +203,11 @@ later_fits d shape =
     (either FitsShape (has (codes "replace_by") d) _ _ shape (replace_by_fits d shape)
     (either FitsShape (has (codes "delete") d) _ _ shape (delete_fits d shape)
     (either FitsShape (has (codes "delete_by") d) _ _ shape (delete_by_fits d shape)
-    (either FitsShape (has (codes "find") d) _ _ shape (mapped FitsShape seek (find_row d) shape (find_fits d))
+    (either FitsShape (has (codes "find") d) _ _ shape (mapped FitsShape seek (find_row (codes "find") d) shape (find_fits (codes "find") d))
     (either FitsShape (has (codes "tree") d) _ _ shape (mapped FitsShape seek (tree_row d) shape (tree_fits d))
     (either FitsShape (has (codes "show") d) _ _ shape (show_fits d shape)
-    (either FitsShape (has (codes "facets") d) _ _ shape (mapped FitsShape facets (facets_row d) shape (facets_fit d)) (λ e. cc)))))))))
+    (either FitsShape (has (codes "facets") d) _ _ shape (mapped FitsShape facets (facets_row d) shape (facets_fit d))
+    (either FitsShape (has (codes "open") d) _ _ shape (mapped FitsShape flight (open_row d) shape (open_fits d))
+    (either FitsShape (has (codes "turn") d) _ _ shape (mapped FitsShape flight (turn_row d) shape (turn_fits d))
+    (either FitsShape (has (codes "close") d) _ _ shape (mapped FitsShape flight (close_row d) shape (close_fits d))
+    (either FitsShape (has (codes "drop") d) _ _ shape (mapped FitsShape flight (drop_row d) shape (drop_fits d)) (λ e. cc)))))))))))))

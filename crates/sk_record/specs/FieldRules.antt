@@ -4,6 +4,7 @@ use Rattle.std.specs.Option.{option_and_then}
 use Rattle.serde_json.specs.Data.{Data, null, boolean, number, string, array, object}
 use Rattle.serde_json.specs.Find.{get, as_str}
 use Rattle.sk_base.specs.declared.command.Command.{Command}
+use Rattle.sk_base.specs.declared.command.FlightCommand.{FlightCommand}
 use Rattle.sk_base.specs.declared.command.Question.{Question}
 use Rattle.sk_base.specs.declared.facets.FacetQuery.{FacetQuery}
 use Rattle.sk_base.specs.declared.facets.ValueKind.{ValueKind}
@@ -22,7 +23,7 @@ use Rattle.sk_base.specs.Fields.{are_fields, kind_slot}
 use Rattle.sk_base.specs.Terms.{prefixed}
 use Rattle.sk_record.specs.declared.row.Sort.{Sort}
 use Rattle.sk_json.specs.Values.{all_names, whole_number, texts_of}
-use Rattle.sk_record.specs.Shapes.{Given, Sorted, by_relevance, by_field, CollapsedOn, Wanted, Counted, Shape, schema, add, replace, replace_by, delete, delete_by, seek, show, facets}
+use Rattle.sk_record.specs.Shapes.{Given, Sorted, by_relevance, by_field, CollapsedOn, Wanted, Counted, Flight, opening, turning, closing, dropping, Shape, schema, add, replace, replace_by, delete, delete_by, seek, show, facets, flight}
 
 -- The field with this name.
 abbrev pub field_named : List Field → List ℕ → Option Field
@@ -147,6 +148,13 @@ facets_of fields counted =
 abbrev pub replaced_by : List Field → List ℕ × List ℕ → Given → Option Edit
 replaced_by fields pair given = option_and_then (λ term. option_map (λ it. Edit.ReplaceBy term it) (record_of fields given)) (term_by_filter fields pair)
 
+-- What is asked of searches in flight, by their numbers; one that is opened keeps the rules on fields as a find does.
+abbrev pub flight_of : List Field → Flight → Option (FlightCommand Data)
+flight_of fields (opening wanted) = option_map (λ find. FlightCommand.Open find) (find_of fields wanted)
+flight_of fields (turning n times) = Some (FlightCommand.Turn n times)
+flight_of fields (closing n) = Some (FlightCommand.Close n)
+flight_of fields (dropping n) = Some (FlightCommand.Drop n)
+
 -- What a shape says under the fields that were accepted; a schema stands by itself.
 abbrev pub command_of : List Field → Shape → Option (Command Data)
 command_of fields (schema given parts) = if are_fields given.fields then Some (Command.Schema given parts) else None
@@ -158,3 +166,4 @@ command_of fields (delete_by pair) = option_map (λ term. Command.Edit (Edit.Del
 command_of fields (seek wanted) = option_map (λ find. Command.Ask (Question.Find find)) (find_of fields wanted)
 command_of fields (show text join) = Some (Command.Ask (Question.Show text join))
 command_of fields (facets counted) = option_map (λ it. Command.Ask (Question.Facets it)) (facets_of fields counted)
+command_of fields (flight asked) = option_map (λ it. Command.Flight it) (flight_of fields asked)

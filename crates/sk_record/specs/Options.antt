@@ -136,11 +136,11 @@ abbrev pub option_names : List (List ℕ)
 option_names =
     codes "scheme" ∷ codes "first" ∷ codes "size" ∷ codes "check" ∷ codes "order" ∷ codes "by" ∷ codes "reverse" ∷ codes "collapse" ∷ codes "max" ∷ codes "cutoff" ∷ codes "ids" ∷ []
 
--- A find by text.
-abbrev pub find_row : Data → Option Wanted
-find_row d =
-    if has_only (codes "find" ∷ codes "op" ∷ option_names) d then
-    option_and_then (λ text. option_and_then (λ join. wanted_at d (Ask.Text text join)) (join_at d)) (query_at (codes "find") d)
+-- A find by the text at this member.
+abbrev pub find_row : List ℕ → Data → Option Wanted
+find_row name d =
+    if has_only (name ∷ codes "op" ∷ option_names) d then
+    option_and_then (λ text. option_and_then (λ join. wanted_at d (Ask.Text text join)) (join_at d)) (query_at name d)
     else None
 
 -- A find by tree.

@@ -6,7 +6,7 @@ use Rattle.serde_json.specs.declared.value.Value.{Value}
 use Rattle.sk_base.specs.declared.command.Command.{Command}
 use Rattle.sk_base.specs.declared.schema.Field.{Field}
 use Rattle.sk_base.specs.declared.schema.Schema.{Schema}
-use Rattle.sk_base.specs.Commands.{FitsParts, FitsQuestion, command_over}
+use Rattle.sk_base.specs.Commands.{FitsParts, FitsQuestion, FitsFlight, command_over}
 use Rattle.sk_base.specs.Fields.{IsSchema}
 use Rattle.sk_base.specs.Records.{FitsEdit}
 use Rattle.sk_record.specs.declared.fault.LineFault.{LineFault}
@@ -41,12 +41,14 @@ CommandReadsAs outcome (Ok command) = outcome ≡ Ok (command_over view command)
 CommandReadsAs outcome (Err LineFault.NoMemory) = Unit {0}
 CommandReadsAs outcome (Err fault) = outcome ≡ Err fault
 
--- Before a schema was accepted a command can only bring one; afterwards an edit fits it, and what is asked keeps its
--- bounds.
+-- Before a schema was accepted a command can only bring one; afterwards an edit fits it, and what is asked, also of
+-- searches in flight, keeps its bounds.
 abbrev pub MayCome : {T : Type 0} → Option Schema → Command T → Type 0
 MayCome None (Command.Schema given parts) = IsSchema given × FitsParts parts
 MayCome None (Command.Edit edit) = ⊥
 MayCome None (Command.Ask question) = ⊥
+MayCome None (Command.Flight asked) = ⊥
 MayCome (Some schema) (Command.Schema given parts) = ⊥
 MayCome (Some schema) (Command.Edit edit) = FitsEdit schema edit
 MayCome (Some schema) (Command.Ask question) = FitsQuestion question
+MayCome (Some schema) (Command.Flight asked) = FitsFlight asked

@@ -6,7 +6,7 @@ use Rattle.serde_json.specs.Find.{get, as_object}
 use Rattle.sk_base.specs.Finds.{default_options}
 use Rattle.sk_base.specs.Records.{most_bytes}
 use Rattle.sk_json.specs.Values.{has, has_only, text_at, whole_number, between, optional_text, optional_number, two_texts, bytes_in}
-use Rattle.sk_record.specs.Shapes.{Given, Counted, Shape, schema, add, replace, replace_by, delete, delete_by, seek, show, facets}
+use Rattle.sk_record.specs.Shapes.{Given, Counted, Flight, opening, turning, closing, dropping, Shape, schema, add, replace, replace_by, delete, delete_by, seek, show, facets, flight}
 use Rattle.sk_record.specs.SchemaFields.{schema_row}
 use Rattle.sk_record.specs.Options.{query_at, join_at, find_row, tree_row}
 
@@ -76,6 +76,33 @@ facets_row d =
     (told_at d)) (text_at (codes "by") d)) (join_at d)) (query_at (codes "facets") d)
     else None
 
+-- The number of a search, any of 64 bits.
+abbrev pub number_at : List ℕ → Data → Option ℕ
+number_at name d = option_and_then whole_number (get name d)
+
+-- How many turns a search is given: 1 to 100,000, and 1 where nothing is said.
+abbrev pub times_at : Data → Option ℕ
+times_at d = option_and_then (between 1 100000) (optional_number (codes "times") 1 d)
+
+-- A search that is opened: a find by text, with the options that it has.
+abbrev pub open_row : Data → Option Flight
+open_row d = option_map opening (find_row (codes "open") d)
+
+-- Turns of a search.
+abbrev pub turn_row : Data → Option Flight
+turn_row d =
+    if has_only (codes "turn" ∷ codes "times" ∷ []) d then
+    option_and_then (λ number. option_map (turning number) (times_at d)) (number_at (codes "turn") d)
+    else None
+
+-- The report of a search, which ends it.
+abbrev pub close_row : Data → Option Flight
+close_row d = if has_only (codes "close" ∷ []) d then option_map closing (number_at (codes "close") d) else None
+
+-- The end of a search.
+abbrev pub drop_row : Data → Option Flight
+drop_row d = if has_only (codes "drop" ∷ []) d then option_map dropping (number_at (codes "drop") d) else None
+
 -- The rows other than a schema, each known by its first member.
 abbrev pub later_shape : Data → Option Shape
 later_shape d =
@@ -84,11 +111,15 @@ later_shape d =
     else (if has (codes "replace_by") d then replace_by_row d
     else (if has (codes "delete") d then delete_row d
     else (if has (codes "delete_by") d then delete_by_row d
-    else (if has (codes "find") d then option_map seek (find_row d)
+    else (if has (codes "find") d then option_map seek (find_row (codes "find") d)
     else (if has (codes "tree") d then option_map seek (tree_row d)
     else (if has (codes "show") d then show_row d
     else (if has (codes "facets") d then option_map facets (facets_row d)
-    else None))))))))
+    else (if has (codes "open") d then option_map flight (open_row d)
+    else (if has (codes "turn") d then option_map flight (turn_row d)
+    else (if has (codes "close") d then option_map flight (close_row d)
+    else (if has (codes "drop") d then option_map flight (drop_row d)
+    else None))))))))))))
 
 -- The shape of a value, and none where it fits no row.
 abbrev pub row_shape : Data → Option Shape

@@ -37,6 +37,13 @@ pub record Counted : Type 0 where
   pub field : List ℕ
   pub size : ℕ
 
+-- What is asked of searches in flight, each of which has a number: one is opened, given turns, closed or dropped.
+pub data Flight : Type 0 where
+  opening : Wanted → Flight
+  turning : ℕ → ℕ → Flight
+  closing : ℕ → Flight
+  dropping : ℕ → Flight
+
 -- The rows. A schema has the number of parts beside it. A field and a text are those of `replace_by` and `delete_by`.
 pub data Shape : Type 0 where
   schema : Schema → ℕ → Shape
@@ -48,3 +55,4 @@ pub data Shape : Type 0 where
   seek : Wanted → Shape
   show : List ℕ → Join → Shape
   facets : Counted → Shape
+  flight : Flight → Shape

@@ -9,9 +9,10 @@ use Rattle.sk_record.specs.declared.row.OrderRow.{OrderRow}
 use Rattle.sk_record.specs.declared.row.CollapseRow.{CollapseRow}
 use Rattle.sk_record.specs.declared.row.FindRow.{FindRow}
 use Rattle.sk_record.specs.declared.row.FacetRow.{FacetRow}
+use Rattle.sk_record.specs.declared.row.FlightRow.{FlightRow}
 use Rattle.sk_record.specs.declared.row.TextRow.{TextRow}
 use Rattle.sk_record.specs.declared.row.Row.{Row}
-use Rattle.sk_record.specs.Shapes.{Given, Sorted, by_relevance, by_field, CollapsedOn, Wanted, Counted, Shape, add, replace, replace_by, delete, delete_by, seek, show, facets}
+use Rattle.sk_record.specs.Shapes.{Given, Sorted, by_relevance, by_field, CollapsedOn, Wanted, Counted, Flight, opening, turning, closing, dropping, Shape, add, replace, replace_by, delete, delete_by, seek, show, facets, flight}
 
 -- A field's name and a text.
 abbrev pub pair_shown : TextRow → List ℕ × List ℕ
@@ -44,6 +45,13 @@ wanted_shown row =
 abbrev pub counted_shown : FacetRow → Counted
 counted_shown row = record { text = row.text.now; join = row.join; field = row.field.now; size = row.size }
 
+-- A row that asks something of searches in flight.
+abbrev pub flight_shown : FlightRow → Flight
+flight_shown (FlightRow.Open wanted) = opening (wanted_shown wanted)
+flight_shown (FlightRow.Turn number times) = turning number times
+flight_shown (FlightRow.Close number) = closing number
+flight_shown (FlightRow.Drop number) = dropping number
+
 -- A row.
 abbrev pub shape_shown : Row → Shape
 shape_shown (Row.Add given) = add (given_shown given)
@@ -54,3 +62,4 @@ shape_shown (Row.DeleteBy pair) = delete_by (pair_shown pair)
 shape_shown (Row.Find wanted) = seek (wanted_shown wanted)
 shape_shown (Row.Show text join) = show text.now join
 shape_shown (Row.Facets counted) = facets (counted_shown counted)
+shape_shown (Row.Flight asked) = flight (flight_shown asked)

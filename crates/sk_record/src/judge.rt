@@ -3,17 +3,19 @@ ghost use Rattle.std.specs.Prelude.{◌≡◌, true, [], ◌++◌, IfOk, OnOk, o
 ghost use Rattle.serde_json.specs.View.{view};
 ghost use Rattle.sk_base.specs.Fields.{are_fields};
 ghost use Rattle.sk_base.specs.Finds.{ask_over, find_over};
-ghost use Rattle.sk_base.specs.Commands.{command_over};
-ghost use Rattle.sk_record.specs.Shown.{pair_shown, given_shown, ask_shown, sorted_shown, collapsed_shown, wanted_shown, counted_shown, shape_shown};
-ghost use Rattle.sk_record.specs.FieldRules.{field_named, filter_texts, told_value, member_value, with_entry, record_entries, record_of, prefix_named, filter_prefix, term_by_filter, slot_named, slot_and_kind, valued_named, facets_of, keyed, order_of, collapse_of, paging_of, find_of, replaced_by, command_of};
+ghost use Rattle.sk_base.specs.Commands.{command_over, flight_over};
+ghost use Rattle.sk_record.specs.Shown.{pair_shown, given_shown, ask_shown, sorted_shown, collapsed_shown, wanted_shown, counted_shown, flight_shown, shape_shown};
+ghost use Rattle.sk_record.specs.FieldRules.{field_named, filter_texts, told_value, member_value, with_entry, record_entries, record_of, prefix_named, filter_prefix, term_by_filter, slot_named, slot_and_kind, valued_named, facets_of, keyed, order_of, collapse_of, paging_of, find_of, replaced_by, flight_of, command_of};
 
-use crate::row::{AskRow, CollapseRow, FacetRow, FindRow, OrderRow, RecordRow, Row, Sort, TextRow};
+use crate::row::{
+    AskRow, CollapseRow, FacetRow, FindRow, FlightRow, OrderRow, RecordRow, Row, Sort, TextRow,
+};
 use crate::taken::{into_texts, take_member, text_of};
 use serde_json::Value;
 use sk_base::{
     Ask, Collapse, Command, Edit, Entries, Entry, FacetQuery, Field, FieldKind, FieldValue, Find,
-    Items, Order, OrderBy, Paging, Question, Record, SortKey, Term, Text, Texts, ValueKind,
-    prefixed,
+    FlightCommand, Items, Order, OrderBy, Paging, Question, Record, SortKey, Term, Text, Texts,
+    ValueKind, prefixed,
 };
 use sk_json::{has_only, whole_number};
 use std::alloc::{AllocError, Global};
@@ -55,6 +57,10 @@ pub fn command_of(
         }
         Row::Facets(counted) => match facets_of(alloc, fields, counted)? {
             Some(facets) => Ok(Some(Command::Ask(Question::Facets(facets)))),
+            None => Ok(None),
+        },
+        Row::Flight(asked) => match flight_of(alloc, fields, asked)? {
+            Some(asked) => Ok(Some(Command::Flight(asked))),
             None => Ok(None),
         },
     }
@@ -217,6 +223,25 @@ fn facets_of(
         kind,
         size: counted.size,
     }))
+}
+
+/// What is asked of searches in flight.
+fn flight_of(
+    alloc: Global,
+    fields: &[Field],
+    asked: FlightRow<'_>,
+) -> Result<Option<FlightCommand<Value>>, AllocError>
+    ensures { IfOk result (λ c. option_map (flight_over view) c ≡ flight_of fields.now (flight_shown asked.entry)) }
+{
+    match asked {
+        FlightRow::Open(wanted) => match find_of(alloc, fields, wanted)? {
+            Some(find) => Ok(Some(FlightCommand::Open(find))),
+            None => Ok(None),
+        },
+        FlightRow::Turn(number, times) => Ok(Some(FlightCommand::Turn(number, times))),
+        FlightRow::Close(number) => Ok(Some(FlightCommand::Close(number))),
+        FlightRow::Drop(number) => Ok(Some(FlightCommand::Drop(number))),
+    }
 }
 
 /// The slot of the named number or word, and which of the two it is.

@@ -9,18 +9,18 @@ use serde_json::Value;
 use sk_base::{Join, MOST_HITS, MOST_TEXT, Options, Scheme, Weight, default_options};
 use sk_json::{between, has, has_only, optional_flag, optional_number, text_at};
 
-/// A find by text.
-pub fn find_row(line: &Value) -> Option<FindRow<'_>>
-    ensures { option_map wanted_shown result ≡ find_row (view line.entry.now) }
+/// A find by the text at a member.
+pub fn find_row<'a>(line: &'a Value, name: &str) -> Option<FindRow<'a>>
+    ensures { option_map wanted_shown result ≡ find_row name.now (view line.entry.now) }
 {
     let names = [
-        "find", "op", "scheme", "first", "size", "check", "order", "by", "reverse", "collapse",
+        name, "op", "scheme", "first", "size", "check", "order", "by", "reverse", "collapse",
         "max", "cutoff", "ids",
     ];
     if !has_only(line, &names) {
         return None;
     }
-    let text = query_at(line, "find")?;
+    let text = query_at(line, name)?;
     let join = join_at(line)?;
     wanted_at(line, AskRow::Text(text, join))
 }

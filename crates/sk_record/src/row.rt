@@ -65,6 +65,16 @@ pub struct FacetRow<'a> {
     pub size: u32,
 }
 
+/// What is asked of searches in flight.
+#[derive(Clone, Copy)]
+pub enum FlightRow<'a> {
+    Open(FindRow<'a>),
+    /// The number of a search, and how many turns it is given.
+    Turn(u64, u32),
+    Close(u64),
+    Drop(u64),
+}
+
 /// A line after the schema, by its row.
 #[derive(Drop)]
 pub enum Row<'a> {
@@ -76,4 +86,5 @@ pub enum Row<'a> {
     Find(FindRow<'a>),
     Show(&'a str, Join),
     Facets(FacetRow<'a>),
+    Flight(FlightRow<'a>),
 }

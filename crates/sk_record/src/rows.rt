@@ -2,12 +2,12 @@
 ghost use Rattle.std.specs.Prelude.{◌≡◌, OnSome, option_map, codes};
 ghost use Rattle.serde_json.specs.View.{view};
 ghost use Rattle.sk_json.specs.Values.{optional_text};
-ghost use Rattle.sk_record.specs.Rows.{values_object, given_at, id_member, pair_at, add_row, replace_row, replace_by_row, delete_row, delete_by_row, show_row, told_at, facets_row, later_shape};
-ghost use Rattle.sk_record.specs.Shown.{pair_shown, given_shown, counted_shown, shape_shown};
+ghost use Rattle.sk_record.specs.Rows.{values_object, given_at, id_member, pair_at, add_row, replace_row, replace_by_row, delete_row, delete_by_row, show_row, told_at, facets_row, number_at, times_at, open_row, turn_row, close_row, drop_row, later_shape};
+ghost use Rattle.sk_record.specs.Shown.{pair_shown, given_shown, counted_shown, flight_shown, shape_shown};
 ghost use Rattle.sk_record.specs.Taken.{without_member};
 
 use crate::options::{find_row, join_at, query_at, tree_row};
-use crate::row::{FacetRow, RecordRow, Row, TextRow};
+use crate::row::{FacetRow, FlightRow, RecordRow, Row, TextRow};
 use crate::taken::{take_member, text_of};
 use serde_json::Value;
 use sk_base::{MOST_HITS, MOST_TEXT, Text, default_options};
@@ -15,6 +15,9 @@ use sk_json::{
     between, has, has_only, is_within, optional_number, text_at, two_texts, whole_number,
 };
 use std::alloc::Global;
+
+/// How many turns a line asks for at most.
+const MOST_TURNS: u32 = 100_000;
 
 /// The row of a line that is no schema, by its first member. What a record is given is taken out of the line.
 pub fn later_row(alloc: Global, line: &mut Value) -> Option<Row<'_>>
@@ -31,7 +34,7 @@ pub fn later_row(alloc: Global, line: &mut Value) -> Option<Row<'_>>
     } else if has(line, "delete_by") {
         delete_by_row(line)
     } else if has(line, "find") {
-        let find = find_row(line)?;
+        let find = find_row(line, "find")?;
         Some(Row::Find(find))
     } else if has(line, "tree") {
         let find = tree_row(line)?;
@@ -41,6 +44,18 @@ pub fn later_row(alloc: Global, line: &mut Value) -> Option<Row<'_>>
     } else if has(line, "facets") {
         let facets = facets_row(line)?;
         Some(Row::Facets(facets))
+    } else if has(line, "open") {
+        let asked = open_row(line)?;
+        Some(Row::Flight(asked))
+    } else if has(line, "turn") {
+        let asked = turn_row(line)?;
+        Some(Row::Flight(asked))
+    } else if has(line, "close") {
+        let asked = close_row(line)?;
+        Some(Row::Flight(asked))
+    } else if has(line, "drop") {
+        let asked = drop_row(line)?;
+        Some(Row::Flight(asked))
     } else {
         None
     }
@@ -134,6 +149,58 @@ fn told_at(line: &Value) -> Option<u32>
 {
     let default = u64::from(default_options().size);
     between(0, MOST_HITS, optional_number(line, "size", default)?)
+}
+
+fn open_row(line: &Value) -> Option<FlightRow<'_>>
+    ensures { option_map flight_shown result ≡ open_row (view line.entry.now) }
+{
+    let find = find_row(line, "open")?;
+    Some(FlightRow::Open(find))
+}
+
+fn turn_row(line: &Value) -> Option<FlightRow<'_>>
+    ensures { option_map flight_shown result ≡ turn_row (view line.entry.now) }
+{
+    if !has_only(line, &["turn", "times"]) {
+        return None;
+    }
+    let number = number_at(line, "turn")?;
+    let times = times_at(line)?;
+    Some(FlightRow::Turn(number, times))
+}
+
+fn close_row(line: &Value) -> Option<FlightRow<'_>>
+    ensures { option_map flight_shown result ≡ close_row (view line.entry.now) }
+{
+    if !has_only(line, &["close"]) {
+        return None;
+    }
+    let number = number_at(line, "close")?;
+    Some(FlightRow::Close(number))
+}
+
+fn drop_row(line: &Value) -> Option<FlightRow<'_>>
+    ensures { option_map flight_shown result ≡ drop_row (view line.entry.now) }
+{
+    if !has_only(line, &["drop"]) {
+        return None;
+    }
+    let number = number_at(line, "drop")?;
+    Some(FlightRow::Drop(number))
+}
+
+/// The number of a search.
+fn number_at(line: &Value, name: &str) -> Option<u64>
+    ensures { result ≡ number_at name.now (view line.now) }
+{
+    whole_number(line.get(name)?)
+}
+
+/// How many turns a search is given.
+fn times_at(line: &Value) -> Option<u32>
+    ensures { result ≡ times_at (view line.now) }
+{
+    between(1, MOST_TURNS, optional_number(line, "times", 1)?)
 }
 
 /// The values object at a member, and the payload. Both are taken out of the line.

@@ -1,0 +1,3 @@
+mod SearchLaws
+mod FlightLaws
+mod HeldLaws

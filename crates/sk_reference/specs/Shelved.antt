@@ -8,22 +8,30 @@ use Rattle.sk_query.specs.Trees.{Tree}
 use Rattle.sk_model.specs.Edits.{Live}
 use Rattle.sk_model.specs.Facets.{facet_allowance}
 use Rattle.sk_report.specs.Facets.{FacetsFor}
+use Rattle.sk_report.specs.Flights.{Flights}
 use Rattle.sk_plain.specs.Pages.{report_for, report_in_parts}
-use Rattle.sk_run.specs.Conducts.{Conduct, Held, nothing_held, are_in_parts, EditsHeld, ClosesSilently}
+use Rattle.sk_run.specs.Conducts.{Conduct}
+use Rattle.sk_run.specs.Held.{Held, nothing_held, are_in_parts, EditsHeld, FliesHeld, EndsHeld}
+use Rattle.sk_reference.specs.Searches.{Stands, Tells}
 
--- What a shelf holds: its schema, the live documents, and in how many parts they stand.
+-- What a shelf holds: its schema, the live documents, in how many parts they stand, and the searches in flight.
 pub record Shelved : Type 0 where
   pub schema : Schema
   pub live : Live
   pub parts : ℕ
+  pub flights : Flights
 
 -- The schema that a shelf is under.
 abbrev pub schema_of : Shelved → Schema
 schema_of shelf = shelf.schema
 
--- A shelf holds these live documents, in so many parts.
+-- Its live documents, in how many parts they stand, and its searches in flight.
+abbrev pub held_by : Shelved → Held
+held_by shelf = record { live = shelf.live; parts = shelf.parts; flights = shelf.flights }
+
+-- A shelf holds these.
 abbrev pub holds : Shelved → Held → Type 0
-holds shelf held = record { live = shelf.live; parts = shelf.parts } ≡ held
+holds shelf held = held_by shelf ≡ held
 
 -- The report of a find of a query over these live documents: one, and no other.
 abbrev pub Finds : Held → Paging → Tree → Report → Type 0
@@ -34,6 +42,14 @@ Finds held paging query report =
 abbrev pub Counts : Held → ℕ → ℕ → Tree → Facets → Type 0
 Counts held slot size query facets = FacetsFor query slot size held.live.documents facets × (facets.steps ≡ facet_allowance query held.live.documents)
 
--- What a shelf does: it begins without documents, and nothing is put at the end.
+-- What a shelf does: it begins without documents, its searches in flight read nothing, and at the end each that is open is told of.
 abbrev pub shelf_conduct : Conduct Held
-shelf_conduct = record { begun = nothing_held; in_parts = are_in_parts; edits = EditsHeld; finds = Finds; facets = Counts; closes = ClosesSilently }
+shelf_conduct = record {
+  begun = nothing_held;
+  in_parts = are_in_parts;
+  edits = EditsHeld;
+  finds = Finds;
+  facets = Counts;
+  flies = FliesHeld Stands Tells;
+  closes = EndsHeld Stands Tells;
+}

@@ -1,6 +1,9 @@
 //! Answers command lines by the definitions alone, slowly on purpose.
 #![tactic(auto)]
 
+mod flights;
+mod flying;
+mod search;
 mod shelf;
 mod store;
 

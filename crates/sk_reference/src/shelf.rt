@@ -1,4 +1,4 @@
-//! The live documents, as a plain map.
+//! The live documents, as a plain map, and the searches in flight.
 ghost use Rattle.std.specs.Prelude.{◌≡◌, ◌<◌, ◌^◌, [], length, All, IfOk};
 ghost use Rattle.sk_sorted.specs.Entries.{RiseAbove};
 ghost use Rattle.sk_base.specs.Commands.{FitsParts};
@@ -6,7 +6,9 @@ ghost use Rattle.sk_base.specs.Records.{FitsEdit};
 ghost use Rattle.sk_base.specs.Documents.{has_term};
 ghost use Rattle.sk_base.specs.Loads.{IsLight};
 ghost use Rattle.sk_model.specs.Edits.{nothing_live, edited, reply_to};
+ghost use Rattle.sk_report.specs.Flights.{none_open};
 
+use crate::flights::Flights;
 use sk_base::{Doc, DocId, Edit, Reply, Schema};
 use sk_documents::{Documents, Keeper};
 use std::alloc::{AllocError, Global};
@@ -57,21 +59,26 @@ impl Keeper for PlainMap {
     }
 }
 
-/// The live documents under one schema, as a plain map, and in how many parts they stand. Contracts see it as what it
-/// holds.
+/// The live documents under one schema, as a plain map, in how many parts they stand, and the searches in flight.
+/// Contracts see it as what it holds.
 #[derive(Debug, Drop)]
 pub struct Shelf {
     documents: Documents<PlainMap>,
     parts: u32,
+    pub(crate) flights: Flights,
 }
 
 impl Model for Shelf {
-    ghost use Rattle.sk_reference.specs.Shelved.{Shelved};
+    ghost use Rattle.std.specs.Coded.{codes};
     ghost use Rattle.sk_base.specs.Commands.{FitsParts};
+    ghost use Rattle.sk_codes.specs.Codes.{coded_tree};
+    ghost use Rattle.sk_reference.specs.Shelved.{Shelved};
 
     ghost Value = { Shelved };
 
-    ghost view = { λ s. record { schema = s.documents.schema; live = s.documents.live; parts = s.parts } };
+    ghost coded = { Prim.hlevel (codes, coded_tree) };
+
+    ghost view = { λ s. record { schema = s.documents.schema; live = s.documents.live; parts = s.parts; flights = s.flights } };
 
     ghost invariant = { λ s. FitsParts s.parts };
 }
@@ -80,11 +87,12 @@ impl Shelf {
     /// A shelf without documents.
     pub fn new(alloc: Global, schema: Schema, parts: u32) -> Shelf
         requires { FitsParts parts }
-        ensures { result ≡ record { schema = schema; live = nothing_live; parts = parts } }
+        ensures { result ≡ record { schema = schema; live = nothing_live; parts = parts; flights = none_open } }
     {
         Shelf {
             documents: Documents::new(alloc, schema, PlainMap::new(alloc)),
             parts,
+            flights: Flights::new(alloc),
         }
     }
 
@@ -117,17 +125,29 @@ impl Shelf {
         &self.documents.keeper().map
     }
 
-    /// Changes the documents. Where memory runs out the shelf is given up.
+    /// Changes the documents, and no search in flight. Where memory runs out the shelf is given up.
     pub fn apply(self, edit: Edit) -> Result<(Shelf, Reply), AllocError>
         requires fits { FitsEdit self.schema edit }
         ensures live { IfOk result (λ p. p.0.live ≡ edited self.schema self.live edit) }
         ensures reply { IfOk result (λ p. p.1 ≡ reply_to self.live edit) }
         ensures schema { IfOk result (λ p. p.0.schema ≡ self.schema) }
         ensures parts { IfOk result (λ p. p.0.parts ≡ self.parts) }
+        ensures flights { IfOk result (λ p. p.0.flights ≡ self.flights) }
     {
-        let Shelf { documents, parts } = self;
+        let Shelf {
+            documents,
+            parts,
+            flights,
+        } = self;
         let (documents, reply) = documents.apply(edit)?;
-        Ok((Shelf { documents, parts }, reply))
+        Ok((
+            Shelf {
+                documents,
+                parts,
+                flights,
+            },
+            reply,
+        ))
     }
 }
 

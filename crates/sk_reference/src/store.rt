@@ -2,11 +2,11 @@
 ghost use Rattle.std.specs.Prelude.{◌≡◌, ◌≤◌, ◌+◌, true, IfOk};
 ghost use Rattle.sk_query.specs.Trees.{query_view};
 ghost use Rattle.sk_query.specs.Fits.{is_sound, leaves_of};
-ghost use Rattle.sk_reference.specs.Shelved.{Finds};
+ghost use Rattle.sk_reference.specs.Shelved.{Finds, held_by};
 
 use crate::shelf::Shelf;
 use serde_json::Value;
-use sk_base::{Edit, FacetQuery, Facets, Find, Paging, Reply, Report, Schema};
+use sk_base::{Edit, FacetQuery, Facets, Find, FlightCommand, Paging, Reply, Report, Schema};
 use sk_parser::{AskError, query_of, text_query};
 use sk_query::Query;
 use sk_run::{Response, Store};
@@ -16,7 +16,7 @@ use std::alloc::{AllocError, Global};
 use std::sync::ledger::Ledger;
 
 impl Store for Shelf {
-    ghost use Rattle.sk_run.specs.Conducts.{Held};
+    ghost use Rattle.sk_run.specs.Held.{Held};
     ghost use Rattle.sk_reference.specs.Shelved.{holds, schema_of, shelf_conduct};
 
     ghost under = { schema_of };
@@ -78,8 +78,25 @@ impl Store for Shelf {
         }
     }
 
-    fn close(self, _alloc: Global) -> Result<Response, AllocError> {
-        Ok(Response::Skipped)
+    /// No search reads anything before its end.
+    #[tactic(auto, using(crate::proofs::HeldLaws::flies))]
+    fn fly<L: Ledger>(
+        &mut self,
+        command: FlightCommand<Value>,
+        steps: &mut Steps<L>,
+    ) -> Result<Response, AllocError> {
+        match command {
+            FlightCommand::Open(find) => self.open(&find),
+            FlightCommand::Turn(number, times) => Ok(self.turn(number, times)),
+            FlightCommand::Close(number) => self.close_search(number, steps),
+            FlightCommand::Drop(number) => Ok(self.drop_search(number)),
+        }
+    }
+
+    #[tactic(auto, using(crate::proofs::HeldLaws::ends))]
+    fn close(self, alloc: Global) -> Result<Response, AllocError> {
+        let readings = self.flights.readings(alloc)?;
+        Ok(Response::StillOpen(readings))
     }
 }
 
@@ -88,7 +105,7 @@ impl Shelf {
     fn report(&self, alloc: Global, query: &Query, paging: &Paging) -> Result<Report, AllocError>
         requires sound { is_sound 1 (query_view query.now) ≡ true }
         requires leaves { leaves_of (query_view query.now) ≤ 1024 }
-        ensures { IfOk result (λ report. Finds (record { live = self.now.live; parts = self.now.parts }) paging.now (query_view query.now) report) }
+        ensures { IfOk result (λ report. Finds (held_by self.now) paging.now (query_view query.now) report) }
     {
         let parts = self.parts();
         if parts == 1 {
@@ -99,7 +116,7 @@ impl Shelf {
 }
 
 /// Counts so many steps.
-fn count<L: Ledger>(all: u128, steps: &mut Steps<L>)
+pub(crate) fn count<L: Ledger>(all: u128, steps: &mut Steps<L>)
     ensures { steps.new ≡ steps.old + all }
 {
     'all: for _ in 0..all {

@@ -1,2 +1,4 @@
 pub mod Reports
 pub mod Facets
+pub mod Paces
+pub mod Flights

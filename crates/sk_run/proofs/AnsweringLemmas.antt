@@ -4,7 +4,7 @@ use Rattle.sk_io.specs.Causes.{Rose}
 use Rattle.sk_io.specs.Fronts.{AppendsPrefix}
 use Rattle.sk_run.specs.declared.response.Response.{Response}
 use Rattle.sk_run.specs.declared.response.Printing.{Printing}
-use Rattle.sk_run.specs.Responses.{text_under, is_refusal, steps_of}
+use Rattle.sk_run.specs.Responses.{text_under, is_refusal, reads_of}
 use Rattle.sk_run.specs.declared.status.Status.{Status}
 use Rattle.sk_run.specs.Outsides.{Output}
 use Rattle.sk_run.specs.Waiting.{MovesOut, PutsLast, Joins, LacksMemory, FailsBefore, FailsWithin, FailsToPut, JoinsNot}
@@ -71,7 +71,7 @@ module _ (printing : Printing) where
         rose = rose_since before.sink.faults middle.sink.faults after.sink.faults since e.2;
       }
 
-      within_it : (after : Output) (answer : Response) → Allowed answer → AppendsPrefix middle.sink.held after.sink.held (waiting' ++ text_under printing answer) → after.steps ≡ before.steps + steps_of answer → after.sink.finishes ≡ middle.sink.finishes → Rose middle.sink.faults after.sink.faults
+      within_it : (after : Output) (answer : Response) → Allowed answer → AppendsPrefix middle.sink.held after.sink.held (waiting' ++ text_under printing answer) → after.steps ≡ before.steps + reads_of answer → after.sink.finishes ≡ middle.sink.finishes → Rose middle.sink.faults after.sink.faults
           → FailsToPut printing Allowed waiting before after
       within_it after answer allowed prefix paid still rose = record {
         which = inr (record {
@@ -100,7 +100,7 @@ module _ (printing : Printing) where
       lacks_answer reads Status.TooMuch after empty still none later e = absurd e
 
       -- Memory ran out for the text of the answer.
-      pub lacks_text : (status : Status) (after : Output) (answer : Response) → Allowed answer → after.steps ≡ before.steps + steps_of answer → PutsLast waiting' status middle after → JoinsNot printing Allowed waiting status before after
+      pub lacks_text : (status : Status) (after : Output) (answer : Response) → Allowed answer → after.steps ≡ before.steps + reads_of answer → PutsLast waiting' status middle after → JoinsNot printing Allowed waiting status before after
       lacks_text Status.Done after answer allowed paid e = absurd e
       lacks_text Status.Refused after answer allowed paid e = absurd e
       lacks_text Status.Usage after answer allowed paid e = absurd e
@@ -110,13 +110,13 @@ module _ (printing : Printing) where
       lacks_text Status.TooMuch after answer allowed paid e = absurd e
 
       -- The sink failed when the text joined what waits.
-      pub fails_joined : (after : Output) (answer : Response) (piece : List ℕ) → Allowed answer → piece ≡ text_under printing answer → AppendsPrefix middle.sink.held after.sink.held (waiting' ++ piece) → after.steps ≡ before.steps + steps_of answer → after.sink.finishes ≡ middle.sink.finishes → Rose middle.sink.faults after.sink.faults
+      pub fails_joined : (after : Output) (answer : Response) (piece : List ℕ) → Allowed answer → piece ≡ text_under printing answer → AppendsPrefix middle.sink.held after.sink.held (waiting' ++ piece) → after.steps ≡ before.steps + reads_of answer → after.sink.finishes ≡ middle.sink.finishes → Rose middle.sink.faults after.sink.faults
           → FailsToPut printing Allowed waiting before after
       fails_joined after answer piece allowed is prefix paid still rose =
           within_it after answer allowed (subst (λ (w : List ℕ). AppendsPrefix middle.sink.held after.sink.held (waiting' ++ w)) is prefix) paid still rose
 
       -- The text joined what waits.
-      pub joined : (after : Output) (waiting'' : List ℕ) (answer : Response) (refused : Bool) (piece : List ℕ) → Allowed answer → piece ≡ text_under printing answer → refused ≡ is_refusal answer → MovesOut (waiting' ++ piece) waiting'' middle.sink.held after.sink.held → after.steps ≡ before.steps + steps_of answer
+      pub joined : (after : Output) (waiting'' : List ℕ) (answer : Response) (refused : Bool) (piece : List ℕ) → Allowed answer → piece ≡ text_under printing answer → refused ≡ is_refusal answer → MovesOut (waiting' ++ piece) waiting'' middle.sink.held after.sink.held → after.steps ≡ before.steps + reads_of answer
           → after.sink.finishes ≡ middle.sink.finishes → middle.sink.faults ≤ after.sink.faults → Joins printing Allowed waiting waiting'' refused before after
       joined after waiting'' answer refused piece allowed is refusal more paid still later = record {
         answer = answer;

@@ -7,21 +7,23 @@ use Rattle.std.proofs.lemmas.List.Sums.{sum_by-append}
 use Rattle.std.proofs.lemmas.Bool.Decides.{nat_tests}
 use Rattle.serde_json.specs.Data.{Data}
 use Rattle.sk_base.specs.declared.command.Command.{Command}
+use Rattle.sk_base.specs.declared.command.FlightCommand.{FlightCommand}
 use Rattle.sk_base.specs.declared.command.Question.{Question}
 use Rattle.sk_base.specs.declared.find.Ask.{Ask}
-use Rattle.sk_base.specs.Commands.{FitsQuestion, question_over, command_over}
+use Rattle.sk_base.specs.declared.find.Find.{Find}
+use Rattle.sk_base.specs.Commands.{FitsFlight, FitsQuestion, flight_over, question_over, command_over}
 use Rattle.sk_base.specs.declared.record.Edit.TheVariants as Edit
 use Rattle.sk_base.specs.declared.record.Entry.{Entry}
 use Rattle.sk_base.specs.declared.schema.Schema.{Schema}
 use Rattle.sk_base.specs.Fields.{IsSchema}
-use Rattle.sk_base.specs.Finds.{FitsAsk, FitsFind, ask_over}
+use Rattle.sk_base.specs.Finds.{FitsAsk, FitsFind, ask_over, find_over}
 use Rattle.sk_base.specs.Records.{FitsValues}
 use Rattle.sk_record.specs.Outcome.{MayCome}
 use Rattle.sk_io.specs.Causes.{Rose}
 use Rattle.sk_io.specs.Fronts.{AppendsPrefix}
 use Rattle.sk_run.specs.declared.response.Response.{Response}
 use Rattle.sk_run.specs.declared.response.Printing.{Printing}
-use Rattle.sk_run.specs.Responses.{text_under, steps_of}
+use Rattle.sk_run.specs.Responses.{text_under, reads_of}
 use Rattle.sk_run.specs.declared.status.Status.{Status}
 use Rattle.sk_run.specs.Lines.{IsReached}
 use Rattle.sk_run.specs.Machines.{schema_behind}
@@ -110,25 +112,37 @@ ask_fits : {A B : Type 0} (f : A → B) (ask : Ask A) → FitsAsk (ask_over f as
 ask_fits f (Ask.Text text join) fits = fits
 ask_fits f (Ask.Tree tree) fits = tt
 
+find_as : {A B : Type 0} (f : A → B) (find : Find A) → FitsFind (find_over f find) → FitsFind find
+find_as f find fits = record { ask = ask_fits f find.ask fits.ask; paging = fits.paging }
+
 question_fits : {A B : Type 0} (f : A → B) (question : Question A) → FitsQuestion (question_over f question) → FitsQuestion question
-question_fits f (Question.Find find) fits = record { ask = ask_fits f find.ask fits.ask; paging = fits.paging }
+question_fits f (Question.Find find) fits = find_as f find fits
 question_fits f (Question.Show text join) fits = fits
 question_fits f (Question.Facets facets) fits = fits
+
+flight_fits : {A B : Type 0} (f : A → B) (command : FlightCommand A) → FitsFlight (flight_over f command) → FitsFlight command
+flight_fits f (FlightCommand.Open find) fits = find_as f find fits
+flight_fits f (FlightCommand.Turn number times) fits = fits
+flight_fits f (FlightCommand.Close number) fits = tt
+flight_fits f (FlightCommand.Drop number) fits = tt
 
 -- A command may come where what it stands for may.
 pub comes_as : {A B : Type 0} (f : A → B) (schema : Option Schema) (command : Command A) → MayCome schema (command_over f command) → MayCome schema command
 comes_as f None (Command.Schema given parts) may = may
 comes_as f None (Command.Edit edit) may = may
 comes_as f None (Command.Ask question) may = may
+comes_as f None (Command.Flight asked) may = may
 comes_as f (Some schema) (Command.Schema given parts) may = may
 comes_as f (Some schema) (Command.Edit edit) may = may
 comes_as f (Some schema) (Command.Ask question) may = question_fits f question may
+comes_as f (Some schema) (Command.Flight asked) may = flight_fits f asked may
 
 -- It leaves the schema that what it stands for leaves.
 pub behind_as : {A B : Type 0} (f : A → B) (schema : Option Schema) (command : Command A) → schema_behind schema command ≡ schema_behind schema (command_over f command)
 behind_as f None (Command.Schema given parts) = refl
 behind_as f None (Command.Edit edit) = refl
 behind_as f None (Command.Ask question) = refl
+behind_as f None (Command.Flight asked) = refl
 behind_as f (Some schema) command = refl
 
 -- The schema behind each command is that before the next.
@@ -246,7 +260,7 @@ module _ {W S : Type 0} (printing : Printing) (Stands : W → S → Type 0) (Obe
           record {
             answers = so.answers ++ fails.answer ∷ [];
             put = put_in_part printing so.answers waiting before.sink.held middle.sink.held after.sink.held fails.answer so.put.put fails.put;
-            steps = omega (arith, fails.paid, so.put.paid, sum_by-append steps_of so.answers (fails.answer ∷ []));
+            steps = omega (arith, fails.paid, so.put.paid, sum_by-append reads_of so.answers (fails.answer ∷ []));
             finishes = inl (still ∙ same);
             lines = record {
               last = met.next;

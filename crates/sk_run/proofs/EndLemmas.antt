@@ -9,7 +9,7 @@ use Rattle.sk_io.specs.Reading.{Reader, line_outcome}
 use Rattle.sk_io.specs.Answers.{Ends, Stops, ReadsOn}
 use Rattle.sk_run.specs.declared.response.Response.{Response}
 use Rattle.sk_run.specs.declared.response.Printing.{Printing}
-use Rattle.sk_run.specs.Responses.{text_under, steps_of}
+use Rattle.sk_run.specs.Responses.{text_under, reads_of}
 use Rattle.sk_run.specs.declared.status.Status.{Status}
 use Rattle.sk_run.specs.Lines.{AnsweredLine, stop}
 use Rattle.sk_io.specs.Seen.{Seen}
@@ -129,7 +129,7 @@ module _ {W S : Type 0} (printing : Printing) (Stands : W → S → Type 0) (Ans
     breaks_within fails still = record {
       answers = so.answers ++ fails.answer ∷ [];
       put = put_in_part printing so.answers waiting before.sink.held middle.sink.held after.sink.held fails.answer so.put.put fails.put;
-      steps = omega (arith, fails.paid, so.put.paid, sum_by-append steps_of so.answers (fails.answer ∷ []));
+      steps = omega (arith, fails.paid, so.put.paid, sum_by-append reads_of so.answers (fails.answer ∷ []));
       finishes = inl (still ∙ same);
       lines = λ bytes told s at.
           let more = reach_more Stands Answers s bytes so.answers reader reader' left seen'.left answerer fails.allowed.0 fails.answer l (so.reached bytes told s at) reads fails.allowed.1 in

@@ -10,7 +10,7 @@ use Rattle.sk_io.specs.Causes.{counted}
 use Rattle.sk_io.specs.Fronts.{AppendsPrefix}
 use Rattle.sk_run.specs.declared.response.Response.{Response}
 use Rattle.sk_run.specs.declared.response.Printing.{Printing}
-use Rattle.sk_run.specs.Responses.{text_under, is_refusal, steps_of}
+use Rattle.sk_run.specs.Responses.{text_under, is_refusal, reads_of}
 use Rattle.sk_run.specs.declared.status.Status.{Status}
 use Rattle.sk_run.specs.Outsides.{Output}
 use Rattle.sk_run.specs.Ends.{PutsFront}
@@ -44,8 +44,8 @@ module _ (printing : Printing) where
     put = Appends-trans h0 h1 h2 (flat_map (text_under printing) a) f.shown p f.put;
   }
 
-  both_paid : (a b : List Response) (n0 n1 n2 : ℕ) → n1 ≡ n0 + sum_by steps_of a → n2 ≡ n1 + sum_by steps_of b → n2 ≡ n0 + sum_by steps_of (a ++ b)
-  both_paid a b n0 n1 n2 p q = omega (arith, p, q, sum_by-append steps_of a b)
+  both_paid : (a b : List Response) (n0 n1 n2 : ℕ) → n1 ≡ n0 + sum_by reads_of a → n2 ≡ n1 + sum_by reads_of b → n2 ≡ n0 + sum_by reads_of (a ++ b)
+  both_paid a b n0 n1 n2 p q = omega (arith, p, q, sum_by-append reads_of a b)
 
   both_refuse : (a b : List Response) (r0 r1 : Bool) → r1 ≡ (r0 || list_any is_refusal a) → finished_status r1 b ≡ finished_status r0 (a ++ b)
   both_refuse a b r0 r1 e =
@@ -89,7 +89,7 @@ module _ (printing : Printing) where
     runs_out_after e = record {
       answers = c.answers ++ e.answers;
       put = both_put c.answers e.answers before.sink.held middle.sink.held after.sink.held c.put e.put;
-      steps = omega (arith, c.steps, e.steps, sum_by-append steps_of c.answers e.answers);
+      steps = omega (arith, c.steps, e.steps, sum_by-append reads_of c.answers e.answers);
       finishes = e.finishes ∙ c.finishes;
       lines = f c.answers e.answers c.lines e.lines;
     }
@@ -128,7 +128,7 @@ module _ {Whole S : Type 0} (printing : Printing) (Stands : Whole → S → Type
   }
 
   -- It was put whole, and the sink settled.
-  pub closes_whole : (answer : Response) (piece : List ℕ) (status : Status) (before after : Output) (held : Option (List ℕ)) → ((s : S) → Stands now s → Closes s answer) → steps_of answer ≡ 0 → piece ≡ text_under printing answer
+  pub closes_whole : (answer : Response) (piece : List ℕ) (status : Status) (before after : Output) (held : Option (List ℕ)) → ((s : S) → Stands now s → Closes s answer) → reads_of answer ≡ 0 → piece ≡ text_under printing answer
       → Appends before.sink.held held piece → Keeps held after.sink.held → status ≡ (if refused || is_refusal answer then Status.Refused else Status.Done) → after.sink.settled ≡ true → after.sink.finishes ≡ counted before.sink.finishes
       → after.steps ≡ before.steps → Finishes printing (ClosedBy Stands Closes now) refused status before after
   closes_whole answer piece status before after held closes free is put keeps status_is settled finishes steps = record {
@@ -142,7 +142,7 @@ module _ {Whole S : Type 0} (printing : Printing) (Stands : Whole → S → Type
   }
 
   -- The sink failed.
-  pub closes_in_part : (answer : Response) (piece : List ℕ) (before after : Output) → ((s : S) → Stands now s → Closes s answer) → steps_of answer ≡ 0 → piece ≡ text_under printing answer → AppendsPrefix before.sink.held after.sink.held piece
+  pub closes_in_part : (answer : Response) (piece : List ℕ) (before after : Output) → ((s : S) → Stands now s → Closes s answer) → reads_of answer ≡ 0 → piece ≡ text_under printing answer → AppendsPrefix before.sink.held after.sink.held piece
       → (after.sink.finishes ≡ before.sink.finishes) ⊎ (after.sink.finishes ≡ counted before.sink.finishes) → after.steps ≡ before.steps → BreaksOff printing (ClosedOrNot Stands Closes now) before after
   closes_in_part answer piece before after closes free is put finishes steps = record {
     answers = answer ∷ [];

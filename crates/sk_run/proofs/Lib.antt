@@ -10,6 +10,8 @@ mod DemoLemmas
 mod FormLemmas
 mod Examples
 mod RanLemmas
+mod PayingLemmas
 pub mod AskLemmas
+pub mod HeldLaws
 pub mod FacetLemmas
 pub mod ProgramLemmas

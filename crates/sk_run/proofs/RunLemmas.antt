@@ -14,7 +14,7 @@ use Rattle.sk_io.specs.Reading.{Reader, pending, StreamIs, line_outcome}
 use Rattle.sk_io.specs.Answers.{Charged, Ends, LineOf, LongLineOf, OpenLineOf, Stops, ReadsOn}
 use Rattle.sk_run.specs.declared.response.Response.{Response}
 use Rattle.sk_run.specs.declared.response.Printing.{Printing}
-use Rattle.sk_run.specs.Responses.{text_under, is_refusal, steps_of}
+use Rattle.sk_run.specs.Responses.{text_under, is_refusal, reads_of}
 use Rattle.sk_run.specs.Lines.{LineByLine, stop, line, IsReached, Answered, AnsweredLine}
 use Rattle.sk_run.specs.Ends.{EndsLine, PutsFront, AnswersTaken, AnswersFirst, AnswersThrough, TakesAll}
 use Rattle.sk_run.specs.Waiting.{MovesOut}
@@ -148,14 +148,14 @@ module _ (printing : Printing) where
   pub record IsPut (answers : List Response) (waiting : List ℕ) (held held_now : Option (List ℕ)) (refused_before refused : Bool) (begun now : ℕ) : Type 0 where
     pub put : MovesOut (flat_map (text_under printing) answers) waiting held held_now
     pub refusals : refused ≡ (refused_before || list_any is_refusal answers)
-    pub paid : now ≡ begun + sum_by steps_of answers
+    pub paid : now ≡ begun + sum_by reads_of answers
 
   pub none_put : (waiting : List ℕ) (held : Option (List ℕ)) (refused : Bool) (begun : ℕ) → waiting ≡ [] → IsPut [] waiting held held refused refused begun begun
   none_put waiting held refused begun none = record { put = moves_all [] waiting held held (Appends-nil held) none; refusals = sym (or-false refused); paid = omega arith }
 
   -- One answer more joined what waits.
   pub put_more : (answers : List Response) (waiting waiting' : List ℕ) (held held_now held' : Option (List ℕ)) (refused_before refused refused' : Bool) (begun now now' : ℕ) (answer : Response)
-      → IsPut answers waiting held held_now refused_before refused begun now → MovesOut (waiting ++ text_under printing answer) waiting' held_now held' → refused' ≡ (refused || is_refusal answer) → now' ≡ now + steps_of answer
+      → IsPut answers waiting held held_now refused_before refused begun now → MovesOut (waiting ++ text_under printing answer) waiting' held_now held' → refused' ≡ (refused || is_refusal answer) → now' ≡ now + reads_of answer
       → IsPut (answers ++ answer ∷ []) waiting' held held' refused_before refused' begun now'
   put_more answers waiting waiting' held held_now held' refused_before refused refused' begun now now' answer so moves refusal paid = record {
     put =
@@ -164,7 +164,7 @@ module _ (printing : Printing) where
     refusals =
         refusal ∙ ap (λ b. b || is_refusal answer) so.refusals ∙ or-assoc refused_before (list_any is_refusal answers) (is_refusal answer)
         ∙ ap (λ b. refused_before || b) (sym (list_any-append is_refusal answers (answer ∷ []) ∙ ap (λ b. list_any is_refusal answers || b) (or-false (is_refusal answer))));
-    paid = omega (arith, paid, so.paid, sum_by-append steps_of answers (answer ∷ []));
+    paid = omega (arith, paid, so.paid, sum_by-append reads_of answers (answer ∷ []));
   }
 
   -- A front of what waits and of one answer more was put.

@@ -6,7 +6,7 @@ use Rattle.sk_run.specs.declared.response.Response.{Response}
 use Rattle.sk_run.specs.declared.response.Printing.{Printing}
 use Rattle.sk_run.specs.declared.response.Printing.TheVariants.{All, WithoutOk}
 use Rattle.sk_run.specs.declared.status.Status.{Status}
-use Rattle.sk_run.specs.Outsides.{Outside, WhereTold}
+use Rattle.sk_run.specs.Outsides.{Outside, WhereTold, IsTold}
 use Rattle.sk_run.specs.Lines.{LineByLine}
 use Rattle.sk_run.specs.Ends.{Stopped, AnswersAll, AnswersTaken, AnswersFirst, AnswersSome}
 use Rattle.sk_run.specs.Ended.{Ended}
@@ -70,3 +70,9 @@ abbrev pub LeavesAlone : Form → Outside → Outside → Type 0
 LeavesAlone Run before after = after.records ≡ before.records
 LeavesAlone (Search join) before after = Unit {0}
 LeavesAlone (Demo documents) before after = (after.input ≡ before.input) × (after.records ≡ before.records)
+
+-- The sources that the words read tell their bytes: the input under `run`, and both under `search`. A demonstration reads none.
+abbrev pub ReadsTold : Form → Outside → Type 0
+ReadsTold Run before = IsTold before.input
+ReadsTold (Search join) before = IsTold before.records × IsTold before.input
+ReadsTold (Demo documents) before = Unit {0}

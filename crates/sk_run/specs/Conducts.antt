@@ -1,9 +1,10 @@
 -- What a command and a line may be answered, over a store of some conduct.
-use Rattle.std.specs.Prelude.{◌≡◌, ◌⊎◌, ℕ, Bool, true, false, nat_lt, List, length, Option, Some, None}
+use Rattle.std.specs.Prelude.{◌≡◌, ◌⊎◌, ℕ, Bool, true, false, List, length, Option, Some, None}
 use Rattle.std.specs.Option.{option_map}
 use Rattle.serde_json.specs.Data.{Data}
 use Rattle.sk_base.specs.declared.command.Command.{Command}
 use Rattle.sk_base.specs.declared.command.Question.{Question}
+use Rattle.sk_base.specs.declared.command.FlightCommand.{FlightCommand}
 use Rattle.sk_base.specs.declared.facets.Facets.{Facets}
 use Rattle.sk_base.specs.declared.facets.FacetQuery.{FacetQuery}
 use Rattle.sk_base.specs.declared.find.Paging.{Paging}
@@ -13,7 +14,6 @@ use Rattle.sk_base.specs.declared.record.Reply.{Reply}
 use Rattle.sk_base.specs.declared.report.Report.{Report}
 use Rattle.sk_base.specs.declared.schema.Schema.{Schema}
 use Rattle.sk_query.specs.Trees.{Tree}
-use Rattle.sk_model.specs.Edits.{Live, nothing_live, edited, reply_to}
 use Rattle.sk_parser.specs.Asked.{asked, text_asked}
 use Rattle.sk_run.specs.declared.refusal.Refusal.TheVariants as Refusal
 use Rattle.sk_run.specs.declared.response.Response.{Response}
@@ -24,13 +24,14 @@ use Rattle.sk_run.specs.declared.machine.Reading.TheVariants.{Commands, Queries}
 use Rattle.sk_run.specs.Meaning.{Meaning, blank, refusal, asks, unread, meaning}
 use Rattle.sk_run.specs.Queries.{query_meaning}
 
--- A store's conduct, by its states under a schema: the state that a schema begins with so many parts, whether the documents stand in several, what an edit is replied and the state that it leaves, the reports that a find of a query may have, the facets of a slot that so many may be told of for a query, and what may close a run.
+-- A store's conduct, by its states under a schema: the state that a schema begins with so many parts, whether the documents stand in several, what an edit is replied and the state that it leaves, the reports that a find of a query may have, the facets of a slot that so many may be told of for a query, what is answered where searches in flight are asked for and the state that it leaves, and what may close a run.
 pub record Conduct (S : Type 0) : Type 1 where
   pub begun : ℕ → S
   pub in_parts : S → Bool
   pub edits : Schema → S → Edit → Reply → S → Type 0
   pub finds : S → Paging → Tree → Report → Type 0
   pub facets : S → ℕ → ℕ → Tree → Facets → Type 0
+  pub flies : Schema → S → FlightCommand Data → Response → S → Type 0
   pub closes : Schema → S → Response → Type 0
 
 -- The state of a run over a store with states of its own: nothing yet, or the schema that was accepted and the state under it.
@@ -60,17 +61,25 @@ module _ {S : Type 0} (conduct : Conduct S) where
   AnswersQuestion schema (Question.Show text join) s answer = AnswersAsk IsShown (text_asked schema join text) answer
   AnswersQuestion schema (Question.Facets facets) s answer = AnswersFacets schema facets s answer
 
+  -- What is answered where searches in flight are asked for, and the state that it leaves. Over documents in several parts they are refused, whatever is asked.
+  abbrev pub AnswersFlight : Schema → S → FlightCommand Data → Response → S → Type 0
+  AnswersFlight schema s command answer next =
+      ((conduct.in_parts s ≡ true) × (answer ≡ Response.Refused Refusal.InParts) × (next ≡ s))
+      ⊎ ((conduct.in_parts s ≡ false) × conduct.flies schema s command answer next)
+
   -- What a command is answered by a store in a state, and the state that it leaves: an edit its reply, and a question its answer, which leaves the state as it was.
   abbrev pub Does : Schema → S → Command Data → Response → S → Type 0
   Does schema s (Command.Schema given parts) answer next = ⊥
   Does schema s (Command.Edit edit) answer next = (reply : Reply) × conduct.edits schema s edit reply next × (answer ≡ response_to reply)
   Does schema s (Command.Ask question) answer next = AnswersQuestion schema question s answer × (next ≡ s)
+  Does schema s (Command.Flight command) answer next = AnswersFlight schema s command answer next
 
   -- What a command is answered, and the state that it leaves: a schema begins a store, and every other command is the store's.
   abbrev pub Obeys : State S → Command Data → Response → State S → Type 0
   Obeys None (Command.Schema schema parts) answer next = (answer ≡ Response.Schema (length schema.fields)) × (next ≡ Some (schema, conduct.begun parts))
   Obeys None (Command.Edit edit) answer next = ⊥
   Obeys None (Command.Ask question) answer next = ⊥
+  Obeys None (Command.Flight command) answer next = ⊥
   Obeys (Some s) command answer next = (after : S) × Does s.0 s.1 command answer after × (next ≡ Some (s.0, after))
 
   -- What a line of this meaning is answered. A blank line and a refused one leave the state as it was. A command is obeyed.
@@ -97,28 +106,3 @@ module _ {S : Type 0} (conduct : Conduct S) where
   abbrev pub Closes : State S → Response → Type 0
   Closes None answer = answer ≡ Response.Skipped
   Closes (Some s) answer = conduct.closes s.0 s.1 answer
-
--- The live documents, and in how many parts they stand.
-pub record Held : Type 0 where
-  pub live : Live
-  pub parts : ℕ
-
--- At first there are none.
-abbrev pub nothing_held : ℕ → Held
-nothing_held parts = record { live = nothing_live; parts = parts }
-
--- They stand in several parts.
-abbrev pub are_in_parts : Held → Bool
-are_in_parts held = nat_lt 1 held.parts
-
--- What an edit leaves, under a schema.
-abbrev pub edited_held : Schema → Held → Edit → Held
-edited_held schema held edit = record { live = edited schema held.live edit; parts = held.parts }
-
--- What an edit is replied over live documents, and the documents that it leaves.
-abbrev pub EditsHeld : Schema → Held → Edit → Reply → Held → Type 0
-EditsHeld schema held edit reply next = (reply ≡ reply_to held.live edit) × (next ≡ edited_held schema held edit)
-
--- Nothing is put at the end.
-abbrev pub ClosesSilently : {S : Type 0} → Schema → S → Response → Type 0
-ClosesSilently schema s answer = answer ≡ Response.Skipped

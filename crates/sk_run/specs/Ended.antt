@@ -7,7 +7,7 @@ use Rattle.sk_run.specs.declared.status.Status.{Status}
 use Rattle.sk_run.specs.declared.status.Status.TheVariants.{Done, Refused, Usage, ReadFault, WriteFault, Memory, TooMuch}
 use Rattle.sk_run.specs.declared.response.Response.{Response}
 use Rattle.sk_run.specs.declared.response.Printing.{Printing}
-use Rattle.sk_run.specs.Responses.{text_under, is_refusal, steps_of}
+use Rattle.sk_run.specs.Responses.{text_under, is_refusal, reads_of}
 use Rattle.sk_run.specs.Outsides.{Output}
 use Rattle.sk_run.specs.Ends.{PutsFront}
 
@@ -22,7 +22,7 @@ module _ (printing : Printing) where
     pub answers : List Response
     pub put : Appends before.sink.held after.sink.held (flat_map (text_under printing) answers)
     pub status_is : status ≡ finished_status refused answers
-    pub steps : after.steps ≡ before.steps + sum_by steps_of answers
+    pub steps : after.steps ≡ before.steps + sum_by reads_of answers
     pub settled : after.sink.settled ≡ true
     pub finishes : after.sink.finishes ≡ counted before.sink.finishes
     pub lines : Whole answers
@@ -31,7 +31,7 @@ module _ (printing : Printing) where
   pub record CutsShort (Taken : List Response → Type 0) (before after : Output) : Type 0 where
     pub answers : List Response
     pub put : Appends before.sink.held after.sink.held (flat_map (text_under printing) answers)
-    pub steps : after.steps ≡ before.steps + sum_by steps_of answers
+    pub steps : after.steps ≡ before.steps + sum_by reads_of answers
     pub finishes : after.sink.finishes ≡ before.sink.finishes
     pub lines : Taken answers
 
@@ -39,7 +39,7 @@ module _ (printing : Printing) where
   pub record BreaksOff (First : List Response → Type 0) (before after : Output) : Type 0 where
     pub answers : List Response
     pub put : PutsFront (text_under printing) answers before.sink.held after.sink.held
-    pub steps : after.steps ≡ before.steps + sum_by steps_of answers
+    pub steps : after.steps ≡ before.steps + sum_by reads_of answers
     pub finishes : (after.sink.finishes ≡ before.sink.finishes) ⊎ (after.sink.finishes ≡ counted before.sink.finishes)
     pub lines : First answers
 
@@ -47,7 +47,7 @@ module _ (printing : Printing) where
   pub record RunsOut (First : List Response → Type 0) (before after : Output) : Type 0 where
     pub answers : List Response
     pub put : Appends before.sink.held after.sink.held (flat_map (text_under printing) answers)
-    pub steps : before.steps + sum_by steps_of answers ≤ after.steps
+    pub steps : before.steps + sum_by reads_of answers ≤ after.steps
     pub finishes : after.sink.finishes ≡ before.sink.finishes
     pub lines : First answers
 
@@ -66,7 +66,7 @@ module _ (printing : Printing) where
     pub answers : List Response
     pub put : Appends before.sink.held after.sink.held (flat_map (text_under printing) answers)
     pub refusals : refused_after ≡ (refused || list_any is_refusal answers)
-    pub steps : after.steps ≡ before.steps + sum_by steps_of answers
+    pub steps : after.steps ≡ before.steps + sum_by reads_of answers
     pub finishes : after.sink.finishes ≡ before.sink.finishes
     pub later : before.sink.faults ≤ after.sink.faults
     pub lines : Through answers

@@ -11,6 +11,8 @@ pub mod Queries
 pub mod Lines
 pub mod Outsides
 pub mod Conducts
+pub mod Held
+pub mod Paying
 pub mod Machines
 pub mod Requests
 pub mod Waiting

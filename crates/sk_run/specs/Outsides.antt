@@ -22,3 +22,7 @@ outside_at input records sink steps = record { input = input; records = records;
 -- Where the source tells its bytes.
 abbrev pub WhereTold : Seen → (List ℕ → Type 0) → Type 0
 WhereTold before P = (bytes : List ℕ) → before.left ≡ Some bytes → P bytes
+
+-- The source tells its bytes.
+abbrev pub IsTold : Seen → Type 0
+IsTold before = (bytes : List ℕ) × (before.left ≡ Some bytes)

@@ -2,7 +2,7 @@
 use Rattle.std.specs.Prelude.{ℕ, List, [], ◌++◌, codes, decimal}
 use Rattle.sk_grammar.specs.declared.fault.FaultKind.{FaultKind}
 use Rattle.sk_run.specs.declared.refusal.Refusal.{Refusal}
-use Rattle.sk_run.specs.declared.refusal.Refusal.TheVariants.{TooLong, NotJson, NoSchema, SchemaAgain, BadShape, BadField, NoIdLeft, NotFound, BadQuery, BadTree, InParts}
+use Rattle.sk_run.specs.declared.refusal.Refusal.TheVariants.{TooLong, NotJson, NoSchema, SchemaAgain, BadShape, BadField, NoIdLeft, NotFound, BadQuery, BadTree, InParts, TooManyOpen, NotOpen, NotDone}
 
 -- The number that is printed behind `refused`.
 abbrev pub refusal_number : Refusal → ℕ
@@ -17,6 +17,9 @@ refusal_number NotFound = 8
 refusal_number (BadQuery kind place) = 9
 refusal_number BadTree = 10
 refusal_number InParts = 11
+refusal_number TooManyOpen = 12
+refusal_number NotOpen = 13
+refusal_number NotDone = 14
 
 -- The name that is printed behind the number.
 abbrev pub refusal_name : Refusal → List ℕ
@@ -31,6 +34,9 @@ refusal_name NotFound = codes "NotFound"
 refusal_name (BadQuery kind place) = codes "BadQuery"
 refusal_name BadTree = codes "BadTree"
 refusal_name InParts = codes "InParts"
+refusal_name TooManyOpen = codes "TooManyOpen"
+refusal_name NotOpen = codes "NotOpen"
+refusal_name NotDone = codes "NotDone"
 
 -- The name of a fault of a query text.
 abbrev pub fault_name : FaultKind → List ℕ
@@ -55,6 +61,9 @@ detail_of NotFound = []
 detail_of (BadQuery kind place) = codes " " ++ (fault_name kind ++ (codes " at " ++ decimal place))
 detail_of BadTree = []
 detail_of InParts = []
+detail_of TooManyOpen = []
+detail_of NotOpen = []
+detail_of NotDone = []
 
 -- `refused`, the number, the name, and what stands behind it.
 abbrev pub refusal_line : Refusal → List ℕ

@@ -1,5 +1,5 @@
 -- What a line asks for, and how that is answered.
-use Rattle.std.specs.Prelude.{◌≡◌, ℕ, ◌<◌, Bool, false, List, length, Option}
+use Rattle.std.specs.Prelude.{◌≡◌, ℕ, ◌<◌, Bool, true, false, List, length, Option}
 use Rattle.sk_base.specs.declared.command.Command.{Command}
 use Rattle.sk_base.specs.declared.schema.Schema.{Schema}
 use Rattle.sk_io.specs.declared.line.Line.{Line}
@@ -42,13 +42,14 @@ MayBeAsked schema Blank = Unit {0}
 MayBeAsked schema (Refused why) = Unit {0}
 MayBeAsked schema (Asks command) = MayCome schema command
 
--- Whether this is a question that reads.
+-- Whether readings may be made or told for it: a question that reads, and what asks for searches in flight.
 abbrev pub may_read : Request → Bool
 may_read Blank = false
 may_read (Refused why) = false
 may_read (Asks (Command.Schema schema parts)) = false
 may_read (Asks (Command.Edit edit)) = false
 may_read (Asks (Command.Ask question)) = reads question
+may_read (Asks (Command.Flight command)) = true
 
 -- What is answered to a request, and the state that it leaves.
 abbrev pub AnswersRequest : {S : Type 0} → Conduct S → State S → Request → Response → State S → Type 0

@@ -7,7 +7,7 @@ use Rattle.sk_run.specs.declared.status.Status.{Status}
 use Rattle.sk_run.specs.declared.status.Status.TheVariants.{Done, Refused, Usage, ReadFault, WriteFault, Memory, TooMuch}
 use Rattle.sk_run.specs.declared.response.Response.{Response}
 use Rattle.sk_run.specs.declared.response.Printing.{Printing}
-use Rattle.sk_run.specs.Responses.{text_under, is_refusal, steps_of}
+use Rattle.sk_run.specs.Responses.{text_under, is_refusal, reads_of}
 use Rattle.sk_run.specs.Outsides.{Output}
 
 -- A front of these bytes was put, and the others wait.
@@ -34,7 +34,7 @@ module _ (printing : Printing) (Allowed : Response → Type 0) (waiting : List �
     pub allowed : Allowed answer
     pub refusal : refused ≡ is_refusal answer
     pub moves : MovesOut (waiting ++ text_under printing answer) waiting_after before.sink.held after.sink.held
-    pub paid : after.steps ≡ before.steps + steps_of answer
+    pub paid : after.steps ≡ before.steps + reads_of answer
     pub finishes : after.sink.finishes ≡ before.sink.finishes
     pub later : before.sink.faults ≤ after.sink.faults
 
@@ -54,7 +54,7 @@ module _ (printing : Printing) (Allowed : Response → Type 0) (waiting : List �
     pub answer : Response
     pub allowed : Allowed answer
     pub put : AppendsPrefix before.sink.held after.sink.held (waiting ++ text_under printing answer)
-    pub paid : after.steps ≡ before.steps + steps_of answer
+    pub paid : after.steps ≡ before.steps + reads_of answer
 
   pub record FailsToPut (before after : Output) : Type 0 where
     pub which : FailsBefore before after ⊎ FailsWithin before after

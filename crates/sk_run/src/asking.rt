@@ -5,7 +5,7 @@ ghost use Rattle.sk_base.specs.declared.command.Question.TheVariants as Question
 ghost use Rattle.sk_base.specs.Commands.{FitsFacets, FitsQuestion, question_over};
 ghost use Rattle.sk_base.specs.Finds.{FitsFind, find_over};
 ghost use Rattle.sk_parser.specs.Asked.{text_asked};
-ghost use Rattle.sk_run.specs.Responses.{steps_of};
+ghost use Rattle.sk_run.specs.Responses.{reads_of};
 ghost use Rattle.sk_run.specs.Asking.{RefusedFor, AnswersAsk, IsCounted, IsShown};
 ghost use Rattle.sk_run.specs.Conducts.{reads, AnswersQuestion};
 
@@ -19,9 +19,9 @@ use std::alloc::{AllocError, Global};
 use std::sync::ledger::Ledger;
 
 /// What is answered where no query was read, with its cause.
-fn refused(why: AskError) -> Result<Response, AllocError>
+pub fn refused(why: AskError) -> Result<Response, AllocError>
     ensures answer { IfOk result (RefusedFor why) }
-    ensures free { IfOk result (λ answer. steps_of answer ≡ 0) }
+    ensures free { IfOk result (λ answer. reads_of answer ≡ 0) }
 {
     match why {
         AskError::BadQuery(kind, place) => Ok(Response::Refused(Refusal::BadQuery(kind, place))),
@@ -39,7 +39,7 @@ pub(crate) fn answer_question<M: Store, L: Ledger>(
 ) -> Result<Response, AllocError>
     requires { FitsQuestion question.now }
     ensures answer { IfOk result (λ answer. (s : M.State) → M.holds store.now s → AnswersQuestion M.conduct (M.under store.now) (question_over view question.now) s answer) }
-    ensures cost { IfOk result (λ answer. steps.new ≡ steps.old + steps_of answer) }
+    ensures cost { IfOk result (λ answer. steps.new ≡ steps.old + reads_of answer) }
     ensures later { steps.old ≤ steps.new }
     ensures still { reads question.now ≡ false → steps.new ≡ steps.old }
 {
@@ -70,7 +70,7 @@ fn found<M: Store, L: Ledger>(
 ) -> Result<Response, AllocError>
     requires { FitsFind find.now }
     ensures answer { IfOk result (λ answer. (s : M.State) → M.holds store.now s → AnswersQuestion M.conduct (M.under store.now) (Question.Find (find_over view find.now)) s answer) }
-    ensures cost { IfOk result (λ answer. steps.new ≡ steps.old + steps_of answer) }
+    ensures cost { IfOk result (λ answer. steps.new ≡ steps.old + reads_of answer) }
     ensures later { steps.old ≤ steps.new }
 {
     match store.find(find, steps) {
@@ -87,7 +87,7 @@ fn faceted<M: Store, L: Ledger>(
 ) -> Result<Response, AllocError>
     requires { FitsFacets wanted.now }
     ensures answer { IfOk result (λ answer. (s : M.State) → M.holds store.now s → AnswersQuestion M.conduct (M.under store.now) (Question.Facets wanted.now) s answer) }
-    ensures cost { IfOk result (λ answer. steps.new ≡ steps.old + steps_of answer) }
+    ensures cost { IfOk result (λ answer. steps.new ≡ steps.old + reads_of answer) }
     ensures later { steps.old ≤ steps.new }
 {
     if store.is_in_parts() {
@@ -107,7 +107,7 @@ fn counted<M: Store, L: Ledger>(
     requires whole { (s : M.State) → M.holds store.now s → M.conduct.in_parts s ≡ false }
     ensures answer { IfOk result (λ answer. (s : M.State) → M.holds store.now s
         → AnswersAsk (λ query found. IsCounted (M.conduct.facets s wanted.now.slot wanted.now.size query) wanted.now.kind found) (text_asked (M.under store.now) wanted.now.join wanted.now.text) answer) }
-    ensures cost { IfOk result (λ answer. steps.new ≡ steps.old + steps_of answer) }
+    ensures cost { IfOk result (λ answer. steps.new ≡ steps.old + reads_of answer) }
     ensures later { steps.old ≤ steps.new }
 {
     match store.facets(wanted, steps) {
@@ -121,7 +121,7 @@ fn counted<M: Store, L: Ledger>(
 fn shown(alloc: Global, schema: &Schema, join: Join, text: &str) -> Result<Response, AllocError>
     requires { length text.now ≤ 1048576 }
     ensures answer { IfOk result (AnswersAsk IsShown (text_asked schema.now join text.now)) }
-    ensures free { IfOk result (λ answer. steps_of answer ≡ 0) }
+    ensures free { IfOk result (λ answer. reads_of answer ≡ 0) }
 {
     match text_query(alloc, schema, join, text) {
         Ok(query) => {

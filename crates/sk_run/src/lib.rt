@@ -22,11 +22,12 @@ mod store;
 mod waiting;
 mod words;
 
+pub use asking::refused;
 pub use by_form::run;
 pub use conclusion::conclude;
 pub use demo::demo_command;
 pub use form::{Form, form_of};
-pub use laws::{comes_to_its_end, counter_never_falls};
+pub use laws::{comes_to_its_end, counter_never_falls, readings_are_told};
 pub use machine::{Machine, Reading};
 pub use program::start;
 pub use refusal::Refusal;

@@ -1,13 +1,13 @@
 //! The state of a run: a store, once a schema was accepted.
-ghost use Rattle.std.specs.Prelude.{◌≡◌, ◌≤◌, ◌+◌, false, IfOk, OnErr, Some, None};
+ghost use Rattle.std.specs.Prelude.{◌≡◌, ◌≤◌, ◌+◌, false, IfOk, OnOk, OnErr, Some, None};
 ghost use Rattle.std.specs.Option.{option_copied};
 ghost use Rattle.sk_base.specs.declared.command.Command.TheVariants as Command;
 ghost use Rattle.serde_json.specs.View.{view};
-ghost use Rattle.sk_base.specs.Commands.{FitsParts, command_over};
+ghost use Rattle.sk_base.specs.Commands.{FitsFlight, FitsParts, command_over, flight_over};
 ghost use Rattle.sk_record.specs.Outcome.{MayCome};
 ghost use Rattle.sk_run.specs.declared.request.Request.TheVariants as Request;
 ghost use Rattle.sk_base.specs.Records.{FitsEdit};
-ghost use Rattle.sk_run.specs.Responses.{steps_of};
+ghost use Rattle.sk_run.specs.Responses.{reads_of};
 ghost use Rattle.sk_run.specs.Conducts.{State, Closes};
 ghost use Rattle.sk_run.specs.Machines.{MachineStands, schema_in, schema_behind, Did, Obeyed};
 ghost use Rattle.sk_run.specs.Requests.{MayBeAsked, AnsweredRequest, may_read, schema_after};
@@ -15,9 +15,9 @@ ghost use Rattle.sk_run.specs.Requests.{MayBeAsked, AnsweredRequest, may_read, s
 use crate::asking::answer_question;
 use crate::request::Request;
 use crate::response::response_to;
-use crate::{Response, Store};
+use crate::{Refusal, Response, Store};
 use serde_json::Value;
-use sk_base::{Command, Edit, Join, Schema};
+use sk_base::{Command, Edit, FlightCommand, Join, Schema};
 use sk_steps::Steps;
 use std::alloc::{AllocError, Global};
 use std::sync::ledger::Ledger;
@@ -55,7 +55,7 @@ impl<M: Store> Machine<M> {
         requires { MayBeAsked (schema_in M.under self) request }
         ensures answered { IfOk result (λ p. AnsweredRequest M.under M.holds M.conduct self request p.1 p.0) }
         ensures schema { IfOk result (λ p. schema_in M.under p.0 ≡ schema_after (schema_in M.under self) request) }
-        ensures cost { IfOk result (λ p. steps.new ≡ steps.old + steps_of p.1) }
+        ensures cost { IfOk result (λ p. steps.new ≡ steps.old + reads_of p.1) }
         ensures later { steps.old ≤ steps.new }
         ensures still { OnErr result (may_read request ≡ false → steps.new ≡ steps.old) }
     {
@@ -72,7 +72,7 @@ impl<M: Store> Machine<M> {
     /// What is put behind the answers of all lines. It is no reading.
     pub(crate) fn close(self, alloc: Global) -> Result<Response, AllocError>
         ensures closes { IfOk result (λ answer. (s : State M.State) → MachineStands M.under M.holds self s → Closes M.conduct s answer) }
-        ensures free { IfOk result (λ answer. steps_of answer ≡ 0) }
+        ensures free { IfOk result (λ answer. reads_of answer ≡ 0) }
     {
         match self.store {
             Some(store) => store.close(alloc),
@@ -99,7 +99,7 @@ impl<M: Store> Machine<M> {
         requires { MayCome (schema_in M.under self) command }
         ensures obeyed { IfOk result (λ p. Obeyed M.under M.holds M.conduct self.store (command_over view command) p.1 p.0) }
         ensures schema { IfOk result (λ p. schema_in M.under p.0 ≡ schema_behind (schema_in M.under self) command) }
-        ensures cost { IfOk result (λ p. steps.new ≡ steps.old + steps_of p.1) }
+        ensures cost { IfOk result (λ p. steps.new ≡ steps.old + reads_of p.1) }
         ensures later { steps.old ≤ steps.new }
         ensures still { OnErr result (may_read (Request.Asks command) ≡ false → steps.new ≡ steps.old) }
     {
@@ -126,7 +126,7 @@ fn accept_schema<M: Store>(
     requires { FitsParts parts }
     ensures obeyed { IfOk result (λ p. Obeyed M.under M.holds M.conduct None (Command.Schema schema parts) p.1 p.0) }
     ensures schema { IfOk result (λ p. schema_in M.under p.0 ≡ Some schema) }
-    ensures cost { IfOk result (λ p. steps_of p.1 ≡ 0) }
+    ensures cost { IfOk result (λ p. reads_of p.1 ≡ 0) }
 {
     let fields = schema.fields().len();
     let store = M::new(alloc, schema, parts)?;
@@ -143,7 +143,7 @@ fn obey<M: Store, L: Ledger>(
     requires { MayCome (Some (M.under store)) command }
     ensures did { IfOk result (λ p. Did M.under M.holds M.conduct store (command_over view command) p.1 p.0) }
     ensures schema { IfOk result (λ p. M.under p.0 ≡ M.under store) }
-    ensures cost { IfOk result (λ p. steps.new ≡ steps.old + steps_of p.1) }
+    ensures cost { IfOk result (λ p. steps.new ≡ steps.old + reads_of p.1) }
     ensures later { steps.old ≤ steps.new }
     ensures still { OnErr result (may_read (Request.Asks command) ≡ false → steps.new ≡ steps.old) }
 {
@@ -154,6 +154,11 @@ fn obey<M: Store, L: Ledger>(
             let response = answer_question(alloc, &store, &question, steps)?;
             Ok((store, response))
         }
+        Command::Flight(command) => {
+            let mut store = store;
+            let response = fly(&mut store, command, steps)?;
+            Ok((store, response))
+        }
     }
 }
 
@@ -162,8 +167,26 @@ fn apply<M: Store>(store: M, edit: Edit) -> Result<(M, Response), AllocError>
     requires { FitsEdit (M.under store) edit }
     ensures did { IfOk result (λ p. Did M.under M.holds M.conduct store (Command.Edit edit) p.1 p.0) }
     ensures schema { IfOk result (λ p. M.under p.0 ≡ M.under store) }
-    ensures cost { IfOk result (λ p. steps_of p.1 ≡ 0) }
+    ensures cost { IfOk result (λ p. reads_of p.1 ≡ 0) }
 {
     let (store, reply) = store.apply(edit)?;
     Ok((store, response_to(reply)))
+}
+
+/// What is answered where searches in flight are asked for: where documents stand in several parts it is refused.
+fn fly<M: Store, L: Ledger>(
+    store: &mut M,
+    command: FlightCommand<Value>,
+    steps: &mut Steps<L>,
+) -> Result<Response, AllocError>
+    requires { FitsFlight command }
+    ensures did { IfOk result (λ answer. Did M.under M.holds M.conduct store.old (Command.Flight (flight_over view command)) answer store.new) }
+    ensures schema { OnOk result (M.under store.new ≡ M.under store.old) }
+    ensures cost { IfOk result (λ answer. steps.new ≡ steps.old + reads_of answer) }
+    ensures later { steps.old ≤ steps.new }
+{
+    if store.is_in_parts() {
+        return Ok(Response::Refused(Refusal::InParts));
+    }
+    store.fly(command, steps)
 }

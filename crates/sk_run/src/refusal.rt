@@ -31,6 +31,12 @@ pub enum Refusal {
     BadTree,
     /// What is asked for is not there where documents stand in several parts. It is tested before the query.
     InParts,
+    /// As many searches are open as may be.
+    TooManyOpen,
+    /// No search with this number is open.
+    NotOpen,
+    /// The last turn of the search was not done, or it had none.
+    NotDone,
 }
 
 impl Refusal {
@@ -49,6 +55,9 @@ impl Refusal {
             Refusal::BadQuery(_, _) => 9,
             Refusal::BadTree => 10,
             Refusal::InParts => 11,
+            Refusal::TooManyOpen => 12,
+            Refusal::NotOpen => 13,
+            Refusal::NotDone => 14,
         }
     }
 
@@ -67,6 +76,9 @@ impl Refusal {
             Refusal::BadQuery(_, _) => "BadQuery",
             Refusal::BadTree => "BadTree",
             Refusal::InParts => "InParts",
+            Refusal::TooManyOpen => "TooManyOpen",
+            Refusal::NotOpen => "NotOpen",
+            Refusal::NotDone => "NotDone",
         }
     }
 

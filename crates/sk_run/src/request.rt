@@ -27,12 +27,13 @@ pub(crate) enum Request {
 }
 
 impl Request {
-    /// Whether it is a question that reads.
+    /// Whether readings may be made or told for it: a question that reads, and what asks for searches in flight.
     pub(crate) fn may_read(&self) -> bool
         ensures { result ≡ may_read self.now }
     {
         match self {
             Request::Asks(Command::Ask(question)) => reads(question),
+            Request::Asks(Command::Flight(_)) => true,
             _ => false,
         }
     }

@@ -1,11 +1,11 @@
 //! What a line is answered, and its text.
-ghost use Rattle.std.specs.Prelude.{◌≡◌, ◌++◌, codes, IfOk, string_bytes};
-ghost use Rattle.sk_run.specs.Responses.{response_to};
+ghost use Rattle.std.specs.Prelude.{◌≡◌, ◌++◌, codes, decimal, flat_map, IfOk, string_bytes};
+ghost use Rattle.sk_run.specs.Responses.{response_to, turn_name, open_line};
 
 use crate::facets::facets_lines;
 use crate::found::found_lines;
 use crate::refusal::Refusal;
-use sk_base::{DocId, Facets, Reply, Report, Text, ValueKind};
+use sk_base::{DocId, Facets, Items, Reply, Report, Text, ValueKind};
 use std::alloc::{AllocError, Global};
 
 /// What one line is answered.
@@ -26,6 +26,16 @@ pub enum Response {
     Query(Text),
     /// What the values are, and how often each stands.
     Facets(ValueKind, Facets),
+    /// A search in flight has this number. Its opening took so many readings.
+    Opened(u64, u128),
+    /// The search with this number was turned, and is done or not. The turns took so many readings.
+    Turned(u64, bool, u128),
+    /// The rank of the first hit, and the report of a search that ends here. The end took so many readings.
+    Closed(u32, Report, u128),
+    /// The search with this number ends here, after so many readings in all.
+    Dropped(u64, u128),
+    /// At the end of a run: each search that is still open, by its number, with its readings in all.
+    StillOpen(Items<(u64, u128)>),
 }
 
 /// Which answers are printed.
@@ -46,7 +56,11 @@ impl Response {
     {
         matches!(
             self,
-            Response::Schema(_) | Response::Id(_) | Response::Deleted(_)
+            Response::Schema(_)
+                | Response::Id(_)
+                | Response::Deleted(_)
+                | Response::Opened(_, _)
+                | Response::Turned(_, _, _)
         )
     }
 
@@ -70,6 +84,13 @@ impl Response {
             Response::Found(first, report) => found_lines(alloc, *first, report),
             Response::Query(text) => query_line(alloc, text),
             Response::Facets(kind, facets) => facets_lines(alloc, *kind, facets),
+            Response::Opened(number, _) => format!(in alloc; "ok open {number}\n"),
+            Response::Turned(number, done, _) => turned_line(alloc, *number, *done),
+            Response::Closed(first, report, _) => found_lines(alloc, *first, report),
+            Response::Dropped(number, spent) => {
+                format!(in alloc; "dropped {number} steps={spent}\n")
+            }
+            Response::StillOpen(readings) => open_lines(alloc, readings.as_slice()),
         }
     }
 
@@ -94,6 +115,25 @@ fn query_line(alloc: Global, text: &Text) -> Result<String, AllocError>
 {
     let text = text.as_str();
     format!(in alloc; "query {text}\n")
+}
+
+fn turned_line(alloc: Global, number: u64, done: bool) -> Result<String, AllocError>
+    ensures { IfOk result (λ s. string_bytes s ≡ codes "ok turn " ++ (decimal number ++ (codes " " ++ (turn_name done ++ codes "\n")))) }
+{
+    let turn = if done { "done" } else { "more" };
+    format!(in alloc; "ok turn {number} {turn}\n")
+}
+
+/// The lines of the searches that are still open.
+fn open_lines(alloc: Global, readings: &[(u64, u128)]) -> Result<String, AllocError>
+    ensures { IfOk result (λ s. string_bytes s ≡ flat_map open_line readings.now) }
+{
+    let mut text = String::new(alloc);
+    'searches: for (number, spent) in readings {
+        let line = format!(in alloc; "open {number} steps={spent}\n")?;
+        text.push_str(line.as_str())?;
+    }
+    Ok(text)
 }
 
 /// What an edit's reply is answered.

@@ -1,21 +1,21 @@
 //! What a run changes and searches.
-ghost use Rattle.std.specs.Prelude.{◌≡◌, false, IfOk};
+ghost use Rattle.std.specs.Prelude.{◌≡◌, ◌≤◌, ◌+◌, false, IfOk, OnOk};
 ghost use Rattle.sk_base.specs.declared.schema.Schema.{Schema};
 ghost use Rattle.serde_json.specs.View.{view};
 ghost use Rattle.sk_base.specs.declared.facets.Facets.{Facets};
 ghost use Rattle.sk_base.specs.declared.report.Report.{Report};
-ghost use Rattle.sk_base.specs.Commands.{FitsFacets, FitsParts};
+ghost use Rattle.sk_base.specs.Commands.{FitsFacets, FitsFlight, FitsParts, flight_over};
 ghost use Rattle.sk_base.specs.Finds.{FitsFind, ask_over};
 ghost use Rattle.sk_base.specs.Records.{FitsEdit};
 ghost use Rattle.sk_parser.specs.Asked.{asked, text_asked};
 ghost use Rattle.sk_run.specs.Conducts.{Conduct};
 ghost use Rattle.sk_run.specs.Asking.{TellsOfQuestion, CountsSteps};
 ghost use Rattle.sk_run.specs.Lines.{IsReached};
-ghost use Rattle.sk_run.specs.Responses.{steps_of};
+ghost use Rattle.sk_run.specs.Responses.{reads_of};
 
 use crate::Response;
 use serde_json::Value;
-use sk_base::{Edit, FacetQuery, Facets, Find, Reply, Report, Schema};
+use sk_base::{Edit, FacetQuery, Facets, Find, FlightCommand, Reply, Report, Schema};
 use sk_parser::AskError;
 use sk_steps::Steps;
 use std::alloc::{AllocError, Global};
@@ -72,8 +72,21 @@ pub trait Store: Drop {
         ensures tells { (s : State) → holds self.now s → TellsOfQuestion (conduct.facets s wanted.now.slot wanted.now.size) (text_asked (under self.now) wanted.now.join wanted.now.text) result }
         ensures counts { CountsSteps (λ (facets : Facets). facets.steps) result steps.old steps.new };
 
+    /// What is answered where searches in flight are asked for. The documents stand in one part.
+    fn fly<L: Ledger>(
+        &mut self,
+        command: FlightCommand<Value>,
+        steps: &mut Steps<L>,
+    ) -> Result<Response, AllocError>
+        requires fits { FitsFlight command }
+        requires whole { (s : State) → holds self.old s → conduct.in_parts s ≡ false }
+        ensures flies { IfOk result (λ answer. (s : State) → holds self.old s → IsReached holds (conduct.flies (under self.old) s (flight_over view command) answer) self.new) }
+        ensures schema { OnOk result (under self.new ≡ under self.old) }
+        ensures cost { IfOk result (λ answer. steps.new ≡ steps.old + reads_of answer) }
+        ensures later { steps.old ≤ steps.new };
+
     /// What is put at the end of a run. It is no reading.
     fn close(self, alloc: Global) -> Result<Response, AllocError>
         ensures closes { IfOk result (λ answer. (s : State) → holds self s → conduct.closes (under self) s answer) }
-        ensures free { IfOk result (λ answer. steps_of answer ≡ 0) };
+        ensures free { IfOk result (λ answer. reads_of answer ≡ 0) };
 }

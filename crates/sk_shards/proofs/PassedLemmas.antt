@@ -65,6 +65,11 @@ pub asked_more : (pruned : Bool) (before after ask : ℕ) → (after ≡ before)
 asked_more pruned before after ask (inl e) = omega (arith, e)
 asked_more pruned before after ask (inr e) = let most = e.1 in omega (arith, most)
 
+-- what is asked for behind a head is what was asked for before, or more where the search is pruned
+pub asked_behind : (pruned : Bool) (old need n : ℕ) → n ≡ cond pruned (max old need) old → (n ≡ old) ⊎ ((pruned ≡ true) × (n ≡ max old need))
+asked_behind true old need n is = inr (refl, is)
+asked_behind false old need n is = inl is
+
 -- no tree was asked for more than the greatest need
 pub asked_at : (trees : List Tree) (k most : ℕ) (t : Tree) → k < length trees → t ≡ slice_index_or trees k t → AllByRecursion (λ (u : Tree). u.need ≤ most) trees → t.need ≤ most
 asked_at [] k most t l is all = absurd (omega (arith, l))

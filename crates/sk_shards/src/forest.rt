@@ -1,5 +1,5 @@
 //! The trees of a query over several indexes, searched as one.
-ghost use Rattle.std.specs.Prelude.{◌≡◌, ◌≤◌, ◌<◌, ◌+◌, ◌^◌, ℕ, true, false, not, length, map, sum_by, is_some, nat_lt, unwrap_or, List, Some, IfOk, MatchOption};
+ghost use Rattle.std.specs.Prelude.{◌≡◌, ◌≤◌, ◌<◌, ◌+◌, ◌^◌, ℕ, true, false, not, max, length, map, sum_by, is_some, nat_lt, unwrap_or, List, Some, IfOk, MatchOption, if◌then◌else◌};
 ghost use Rattle.std.specs.List.{AllByRecursion, list_all};
 ghost use Rattle.sk_base.specs.Finds.{FitsPaging};
 ghost use Rattle.sk_base.specs.declared.find.Paging.{Paging};
@@ -14,6 +14,7 @@ ghost use Rattle.sk_report.specs.Reports.{ReportsOver};
 ghost use Rattle.sk_documents.specs.Documented.{HasTerms};
 ghost use Rattle.sk_documents.specs.Turned.{AreTurns};
 ghost use Rattle.sk_index.specs.Indexed.{Indexed};
+ghost use Rattle.sk_page.specs.Needs.{need_for};
 ghost use Rattle.sk_shards.specs.Forests.{Stands, IsOver, AreBuilt, AreOpened, IsFirst, PassesUnseen, AreOver, ahead, ceiling_in, gives_all, docs_of, is_done, spent_by, spent_in, is_term};
 
 use crate::reader::PartsReader;
@@ -141,10 +142,21 @@ impl Forest {
             self.trees[part].close();
             return;
         }
+        let need = self.need_behind(ceiling);
+        self.trees[part].seek(&indexes[part], head.own + 1, need, steps);
+        self.need = need;
+    }
+
+    /// What a tree is asked for behind a head.
+    fn need_behind(&self, ceiling: Weight) -> Weight
+        requires { ceiling < 2 ^ 127 }
+        ensures { result ≡ (if self.now.is_pruned then max self.now.need (need_for self.now.page.options self.now.page.seen self.now.page.heap ceiling) else self.now.need) }
+    {
         if self.is_pruned {
-            self.need = self.need.max(self.page.need(ceiling));
+            self.need.max(self.page.need(ceiling))
+        } else {
+            self.need
         }
-        self.trees[part].seek(&indexes[part], head.own + 1, self.need, steps);
     }
 
     /// The report of a search that is done.

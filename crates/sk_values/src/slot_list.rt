@@ -1,5 +1,5 @@
 //! The values of one slot, in order of the documents' ids, in pieces.
-ghost use Rattle.std.specs.Prelude.{◌≡◌, ◌+◌, ◌≤◌, ◌<◌, [], length, get_or, true, IsOk, OnOk, OnErr};
+ghost use Rattle.std.specs.Prelude.{◌≡◌, ◌+◌, ◌≤◌, ◌<◌, [], length, get_or, true, IfOk, IsOk, OnOk, OnErr};
 ghost use Rattle.std.specs.Option.{option_map};
 ghost use Rattle.sk_sorted.specs.Entries.{put, without, found, has};
 ghost use Rattle.sk_sorted.specs.Places.{id_at};
@@ -8,7 +8,7 @@ ghost use Rattle.sk_values.specs.SlotValues.{AreSlotValues, found_value, value_a
 
 use crate::range_cursor::entry;
 use sk_base::{Bytes, DocId};
-use sk_pieces::{Piece, Pieces};
+use sk_pieces::{Copier, Piece, Pieces};
 use sk_steps::Steps;
 use std::alloc::{AllocError, Global};
 use std::fmt::{Debug, Error, Formatter, Write};
@@ -41,6 +41,14 @@ impl SlotList {
         SlotList {
             entries: Pieces::new(alloc),
         }
+    }
+
+    /// The same values in the same pieces, in memory of their own. It is no reading: it shows none of them.
+    pub fn copy(&self, alloc: Global) -> Result<SlotList, AllocError>
+        ensures { IfOk result (λ copy. copy ≡ self.now) }
+    {
+        let entries = self.entries.copy(&ByteCopier { alloc })?;
+        Ok(SlotList { entries })
     }
 
     /// Gives the document this value. Only a new entry takes memory, and only entries of a few pieces move.
@@ -120,6 +128,18 @@ fn piece_at(pieces: &[Piece<Bytes>], i: u32) -> (usize, u32)
         at += 1;
     }
     (at, passed)
+}
+
+/// Copies values.
+#[derive(Drop)]
+struct ByteCopier {
+    alloc: Global,
+}
+
+impl Copier<Bytes> for ByteCopier {
+    fn copy(&self, x: &Bytes) -> Result<Bytes, AllocError> {
+        Bytes::new(self.alloc, x.as_slice())
+    }
 }
 
 impl Debug for SlotList {

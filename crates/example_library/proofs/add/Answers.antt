@@ -1,6 +1,6 @@
 use Rattle.std.proofs.Common.{IfOk, subst}
 use Rattle.sk_base.specs.declared.record.Edit.{Edit}
-use Rattle.sk_run.specs.Conducts.{Held, edited_held}
+use Rattle.sk_run.specs.Held.{Held, edited_held}
 use Rattle.sk_engine.specs.Sessions.{SessionHolds}
 use Rattle.example_library.specs.Example.{bodies}
 use Rattle.example_library.proofs.add.Goals as goal

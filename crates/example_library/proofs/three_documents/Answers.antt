@@ -1,6 +1,6 @@
 use Rattle.std.proofs.Common.{IfOk}
 use Rattle.std.proofs.lemmas.Result.{IfOk-weaker}
-use Rattle.sk_run.specs.Conducts.{nothing_held}
+use Rattle.sk_run.specs.Held.{nothing_held}
 use Rattle.sk_engine.specs.Sessions.{SessionHolds}
 use Rattle.example_library.specs.Example.{one, two, three}
 use Rattle.example_library.proofs.three_documents.Goals as goal

@@ -4,7 +4,7 @@ use Rattle.sk_page.proofs.SharpLaws.{plain_free}
 use Rattle.sk_page.proofs.SpentLaws.{spent_sharp}
 use Rattle.sk_model.specs.Matches.{found_by}
 use Rattle.sk_model.specs.Sharp.{ups}
-use Rattle.sk_page.specs.Paces.{reached_by}
+use Rattle.sk_report.specs.Paces.{reached_by}
 use Rattle.sk_tree.specs.Built.{gives}
 use Rattle.sk_match.proofs.FinishLemmas.{lists_spent}
 use Rattle.sk_match.proofs.open_search.Search.spent.Goals as goal

@@ -1,0 +1,5 @@
+mod FlightLemmas
+mod FreshLemmas
+mod TurnLemmas
+mod EntryLemmas
+mod OpenLemmas

@@ -1,0 +1,3 @@
+pub mod Flying
+pub mod Told
+pub mod Kept
