@@ -67,6 +67,33 @@ EDITS = """
 {"add":{"title":"red"}}
 
 """
+# Searches that are opened, turned, closed and dropped among edits; some are refused, and two are open at the end.
+FLIGHTS = r"""
+{"open":"red fox"}
+{"open":"red fox","collapse":"site"}
+{"delete":1}
+{"close":1}
+{"turn":1}
+{"open":"red fox","order":"value","by":"year","reverse":true}
+{"replace_by":["lang","en"],"with":{"body":"owl","lang":["fr","de"],"year":1},"data":"four"}
+{"turn":1,"times":100}
+{"turn":2,"times":100}
+{"turn":3,"times":2}
+{"close":1}
+{"close":1}
+{"add":{"body":"red"}}
+{"open":"\"red fox\" OR year:1995..","op":"and","first":1,"size":2,"check":3}
+{"open":"red AND"}
+{"turn":4}
+{"close":2}
+{"drop":3}
+{"drop":3}
+{"turn":0}
+{"open":"r* hen"}
+{"delete_by":["lang","fr"]}
+"""
+# As many are open as may be, one more is refused, and another takes the place of one that is dropped.
+MANY_OPEN = '{"open":"hen"}\n' * 64 + '{"add":{"body":"hen"}}\n{"open":"hen"}\n{"drop":64}\n{"open":"hen"}\n'
 # A list of more than 128 entries is cut into two, and joined again when many are gone.
 MANY = '{"schema":[{"name":"body","kind":"text"}]}\n' + '{"add":{"body":"a"}}\n' * 140
 GONE = "".join(f'{{"delete":{number}}}\n' for number in range(20, 130))
@@ -92,6 +119,9 @@ ROWS = [
     ("facets", ["run"], "", DOCUMENTS + FACETS),
     ("trees", ["run"], "", DOCUMENTS + TREES),
     ("edits", ["run"], "", DOCUMENTS + EDITS),
+    ("searches in flight", ["run"], "", DOCUMENTS + FLIGHTS),
+    ("as many as may be open", ["run"], "", DOCUMENTS + MANY_OPEN),
+    ("searches that records open", ["search", "FILE"], DOCUMENTS + FLIGHTS, "red fox\n"),
     ("query texts", ["search", "FILE"], DOCUMENTS + '{"find":"hen"}\n', "red fox\n\nred AND\n"),
     ("joined by and", ["search", "FILE", "and"], DOCUMENTS, "red fox\n"),
     ("a demonstration", ["demo", "20"], "", ""),
@@ -120,8 +150,11 @@ class Runs:
 
 
 def is_front(put, whole):
-    """Whether whole answers were put, to first lines: no hit, or value, of the last one is missing."""
-    return whole.startswith(put) and put[-1:] in (b"", b"\n") and not whole[len(put) :].startswith((b"hit ", b"facet "))
+    """Whether whole answers were put, to first lines: no hit, or value, of the last one is missing, nor a search of those
+    that are told of at the end."""
+    rest = whole[len(put) :]
+    is_cut = rest.startswith((b"hit ", b"facet ")) or rest.startswith(b"open ") and b"\nopen " in put
+    return whole.startswith(put) and put[-1:] in (b"", b"\n") and not is_cut
 
 
 def came_to(ended, whole):

@@ -1,10 +1,15 @@
 #!/usr/bin/env python3
 """Holds the built sk_tool against the built sk_reference over hostile streams of lines, made from a seed: schemas,
-edits by id and by filter, finds by text and by tree with options, facets, shows, query texts behind records, numbers at
-their bounds, and lines that are cut, doubled, flipped or too long. Answer by answer: hits, order, weights and payloads
-equal, counts enclosed, facets and refusals equal, and no more steps than the rules allow, which is what sk_reference
-prints; the status and the errors equal. A stream that differs is told by its seed, and cut down to few lines that
-differ; then it ends with 1.
+edits by id and by filter, finds by text and by tree with options, facets, shows, searches that stay open among edits,
+query texts behind records, numbers at their bounds, and lines that are cut, doubled, flipped or too long. Answer by
+answer: hits, order, weights and payloads equal, counts enclosed, facets and refusals equal, and no more steps than the
+rules allow, which is what sk_reference prints; the status and the errors equal. A stream that differs is told by its
+seed, and cut down to few lines that differ; then it ends with 1.
+
+Of searches in flight sk_reference is done as soon as one may be, and sk_tool may turn longer: it may say more where
+sk_reference says done, and may refuse a close as not done where it said no done. What both close is compared as a find;
+of what sk_tool drops, or leaves open to the end, the steps are to be no more than a close would tell, less its hits. And
+what sk_reference closes is what it finds at the opening.
 
 Wants both programs: (cd crates/sk_tool && rt run; cd ../sk_reference && rt run). Run it at the top of the repository:
 python3 bench/streams.py [STREAMS [FIRST [FOLDER]]], FIRST being the first seed and FOLDER where crates/ is."""
@@ -16,7 +21,7 @@ import sys
 import tempfile
 from collections import Counter
 
-from random_finds import HERE, agree, answers, options, wanted
+from random_finds import HERE, agree, answers, numbers_in, options, wanted
 
 LONGEST = 1_048_576
 BOUNDS = [0, 1, 2, 127, 128, 255, 256, 2**31, 2**32 - 2, 2**32 - 1, 2**32, 2**53 + 1, 2**63, 2**64 - 1, 2**64]
@@ -41,7 +46,7 @@ FIELDS = [
 DISTANCES = ["", "/0", "/1", "/2", "/10000", "/10001", "/70000"]
 TERMS = ["a", "a", "b", "b", "c", "d", "en", "fr", "fox", "café", ":x", "Dog", "Zfox", "Za", "ZSfish"]
 SIGNS = [b'"', b"{", b"}", b"[", b"]", b",", b":", b"\\", b" ", b"\0", b"\\u0000", b"\\ud800"]
-MEMBERS = [b'"data":"x"', b'"max":2', b'"op":"and"', b'"size":3', b'"x":0']
+MEMBERS = [b'"data":"x"', b'"max":2', b'"op":"and"', b'"size":3', b'"times":2', b'"x":0']
 FILTERS = ["en", "fr", "En", ":x", "", "Dog", "dog", "a b", "é"]
 SITES = ["x", "y", "z", "", "xx", "\0", "é"]
 
@@ -62,6 +67,11 @@ class Stream:
         self.fields = [{"name": "body", "kind": "text"}] + self.picks.sample(FIELDS, self.picks.randint(0, 6))
         self.picks.shuffle(self.fields)
         self.made = 0
+        # As the lines before leave them, where none is changed or refused.
+        self.opened = 0
+        self.open = []
+        # Whether each search is turned to its end before it is closed.
+        self.finishes = False
         # A chunk of a list has 128 entries at the most, so lists of about that many are halved and joined.
         self.sizes = self.picks.choice([0, 3, 12, 40, 90, 127, 130, 256, 300, 700])
 
@@ -201,6 +211,62 @@ class Stream:
             line["size"] = picks.choice([0, 1, 2, 3, 100, 100_000]) if picks.random() < 0.9 else picks.choice(BOUNDS)
         return line
 
+    def opening(self):
+        """A line that opens a search, mostly by a text without a fault."""
+        picks = self.picks
+        if picks.random() < 0.08:
+            return {"open": picks.choice(["a AND", "(", ")", "year:x..", 7]), **self.options()}
+        if len(self.open) < 64:
+            self.opened += 1
+            self.open.append(self.opened)
+        between = picks.choice([" ", " ", " ", " AND ", " XOR ", " NOT ", "-"])
+        words = picks.choices(["a", "b", "c", "fox", "a*", '"a b"', "(a c)", "e"], [5, 4, 3, 1, 2, 1, 1, 1], k=picks.randint(1, 3))
+        text = between.join(words) if picks.random() < 0.8 else self.text()
+        return {"open": text, **({"op": "and"} if picks.random() < 0.3 else {}), **self.options()}
+
+    def in_flight(self):
+        """The number of a search, mostly of an open one."""
+        picks = self.picks
+        if picks.random() < 0.03:
+            return picks.choice([0, 2**32, 2**63, 2**64 - 1, 2**64, self.opened + 1])
+        return picks.choice(self.open) if self.open and picks.random() < 0.93 else picks.randint(0, self.opened + 1)
+
+    def times(self):
+        """How many turns are asked for."""
+        picks = self.picks
+        chance = picks.random()
+        if chance < 0.4:
+            return {}
+        if chance < 0.75:
+            return {"times": picks.randint(1, 6)}
+        return {"times": picks.choice([10, 100, 1_000, 100_000]) if chance < 0.97 else picks.choice([100_001, *BOUNDS])}
+
+    def gone(self, number):
+        """The number of a search that is dropped or closed."""
+        self.open = [other for other in self.open if other != number]
+        return number
+
+    def closing(self, number):
+        """Lines that close a search, mostly one that was turned to its end."""
+        is_finished = self.finishes or self.picks.random() < 0.85
+        if is_finished:
+            yield {"turn": number, "times": 100_000}
+        if self.picks.random() < 0.3:
+            yield self.edit()
+        yield {"close": self.gone(number) if is_finished else number}
+
+    def flight(self):
+        """Lines on a search in flight."""
+        kind = self.picks.random()
+        if kind < 0.35 or not self.open:
+            yield self.opening()
+        elif kind < 0.7:
+            yield {"turn": self.in_flight(), **self.times()}
+        elif kind < 0.9:
+            yield from self.closing(self.in_flight())
+        else:
+            yield {"drop": self.gone(self.in_flight())}
+
     def mutated(self, line):
         """The line with one thing or two changed."""
         picks = self.picks
@@ -245,12 +311,24 @@ class Stream:
         for _ in range(self.sizes):
             self.made += 1
             yield {"add": self.record(), **self.data()}
-        for _ in range(picks.randint(5, 60)):
-            yield self.edit() if picks.random() < 0.5 else self.ask()
+        # Over several parts each line on a search in flight is refused.
+        flying = picks.random() < (0.8 if schema.get("parts") in (None, 1) else 0.3)
+        for _ in range(picks.randint(15, 90) if flying else picks.randint(5, 60)):
+            if flying and picks.random() < 0.6:
+                yield from self.flight()
+            else:
+                yield self.edit() if picks.random() < 0.5 else self.ask()
+        for _ in range(picks.choice([1, 20, 63, 66]) if flying and picks.random() < 0.15 else 0):
+            yield self.opening()
         for _ in range(picks.choice([0, 0, 3])):
             for _ in range(picks.randint(0, self.sizes)):
                 yield {"delete": picks.randint(1, self.made + 1)}
             yield self.ask()
+            if flying:
+                yield from self.flight()
+        for number in list(self.open):
+            if picks.random() < 0.4:
+                yield from self.closing(number)
         if picks.random() < 0.05:
             yield schema
 
@@ -273,8 +351,9 @@ def of_seed(seed):
     """The words, the lines of the records and those of the input; the last one may lack its end."""
     stream = Stream(seed)
     picks = stream.picks
-    lines = [stream.bytes_of(line) for line in stream.lines()]
     form = picks.random()
+    stream.finishes = form >= 0.75
+    lines = [stream.bytes_of(line) for line in stream.lines()]
     if form < 0.75:
         return ["run"], [], lines, picks.random() < 0.8
     texts = [stream.text().encode(errors="replace") for _ in range(picks.randint(0, 40))]
@@ -292,37 +371,188 @@ def told_by(programs, words, records, lines, is_ended):
         return [answers(program, text, words) for program in programs]
 
 
-def few(words, lines):
-    """For each line that has an answer, how many matches are counted exactly at the least."""
-    if words != ["run"]:
-        return []
-    most = []
+def answered(lines):
+    """The lines that have an answer, each with its object where it is one."""
     for line in b"\n".join(lines).split(b"\n"):
         if len(line) > LONGEST or line.strip(b" \t\r"):
             try:
-                find = json.loads(line)
-                most.append(wanted(find) if "find" in find or "tree" in find else 0)
-            except (ValueError, TypeError, RecursionError):
-                most.append(0)
-    return most
+                told = json.loads(line)
+            except (ValueError, RecursionError):
+                told = None
+            yield line, told if isinstance(told, dict) else {}
 
 
-def difference(told, most):
-    """The first answer that differs, of each program, or nothing."""
+def counted_to(line):
+    """How many matches are counted exactly at the least."""
+    try:
+        return wanted(line) if "find" in line or "tree" in line or "open" in line else 0
+    except TypeError:
+        return 0
+
+
+def number_in(line, name):
+    """The number of a search in flight that a line names so."""
+    number = line.get(name)
+    return number if type(number) is int else None
+
+
+def steps_told(answer):
+    return int(answer.rsplit("steps=", 1)[1])
+
+
+class Otherwise:
+    """What the plain program answers to the same lines where each opening has its find behind it, and what is dropped or
+    left open is turned to its end and closed: of each search by its number what it finds at its opening, and how many
+    readings it may have taken before a close."""
+
+    def __init__(self, program, lines, plain):
+        self.found = {}
+        self.most = {}
+        asked, marks = [], []
+
+        def ask(line, mark=None):
+            asked.append(line)
+            marks.append(mark)
+
+        def closed(number):
+            ask(b'{"turn":%d,"times":100000}' % number)
+            ask(b'{"close":%d}' % number, (self.most, number))
+
+        lines = list(answered(lines))
+        for (line, told), (answer, *_) in zip(lines, plain):
+            if answer.startswith("dropped "):
+                closed(int(answer.split(" ")[1]))
+            ask(line)
+            if answer.startswith("ok open "):
+                find = {"find": told["open"], **{name: value for name, value in told.items() if name != "open"}}
+                ask(json.dumps(find).encode(), (self.found, int(answer.split(" ")[2])))
+        for answer, *_ in plain[len(lines) :]:
+            closed(int(answer.split(" ")[1]))
+        if any(marks):
+            self.take(marks, answers(program, b"\n".join(asked))[0])
+
+    def take(self, marks, told):
+        for mark, answer in zip(marks, told):
+            if mark:
+                place, number = mark
+                readings = numbers_in(answer[0])
+                place[number] = answer if place is self.found else readings["steps"] - readings["hits"]
+
+
+class Flights:
+    """What is known of the searches in flight of both programs while their answers are compared."""
+
+    def __init__(self, otherwise):
+        self.otherwise = otherwise
+        self.wanted = {}
+        # Those that sk_tool said to be done, and those that sk_reference alone closed, with what it told.
+        self.done = set()
+        self.ended = {}
+        self.seen = Counter()
+
+    def few_steps(self, number, steps):
+        """Whether a search that was not closed took no more readings than it may, where that is known."""
+        most = self.otherwise.most.get(number)
+        if number in self.ended:
+            told = numbers_in(self.ended[number][0])
+            most = told["steps"] - told["hits"]
+        self.seen["known to have few steps"] += most is not None
+        return most is None or steps <= most
+
+    def turned(self, line, mine, true):
+        """Whether a turn of sk_tool is one that it may make."""
+        *same, told = mine.split(" ")
+        number = int(same[2])
+        is_right = told in ("more", "done") and (told == "done" or number not in self.done and line.get("times", 1) < 10_000)
+        if true.startswith("ok "):
+            is_right = is_right and true.split(" ")[:3] == same and (told == "more" or true.endswith("done"))
+            self.seen["turns longer"] += told not in true
+        if told == "done":
+            self.done.add(number)
+        return is_right
+
+    def agree(self, line, mine, true):
+        """Whether an answer is one that the plain program's allows."""
+        if mine[0].startswith("ok turn ") and (true[0].startswith("ok turn ") or number_in(line, "turn") in self.ended):
+            return self.turned(line, mine[0], true[0])
+        if mine[0].startswith("dropped ") and (true[0].startswith("dropped ") or number_in(line, "drop") in self.ended):
+            number = int(mine[0].split(" ")[1])
+            is_right = self.few_steps(number, steps_told(mine[0]))
+            if self.ended.pop(number, None):
+                return is_right
+            return is_right and true[0] == f"dropped {number} steps=0"
+        number = number_in(line, "close")
+        if number is not None and (number in self.ended or "found " in mine[0] + true[0]):
+            return self.closed(number, mine, true)
+        if true[0].startswith("ok open "):
+            self.wanted[int(true[0].split(" ")[2])] = counted_to(line)
+        return agree(mine, true, counted_to(line))
+
+    def closed(self, number, mine, true):
+        """Whether a close is answered as it may be."""
+        if mine[0] == "refused 14 NotDone":
+            if true[0].startswith("found "):
+                self.ended[number] = true
+                self.seen["closes too early for sk_tool alone"] += 1
+            return number not in self.done
+        true = self.ended.pop(number, true)
+        self.seen["closes compared"] += 1
+        return self.otherwise.found.get(number, true) == true and agree(mine, true, self.wanted.get(number, 0))
+
+    def left(self, mine, true):
+        """Whether what is told at the end is what may be open."""
+        numbers = [int(answer.split(" ")[1]) for answer in mine]
+        plain = [f"open {number} steps=0" for number in numbers if number not in self.ended]
+        few = all(self.few_steps(number, steps_told(answer)) for number, answer in zip(numbers, mine))
+        return few and numbers == sorted(set(numbers)) and set(self.ended) <= set(numbers) and plain == true
+
+
+def parted(told):
+    """The answers to lines, and what is told at the end."""
+    lines = [answer for answer in told if not answer[0].startswith("open ")]
+    return lines, [answer[0] for answer in told[len(lines) :]]
+
+
+def compared(programs, words, records, lines, is_ended):
+    """What each program answers, the first answers that differ, or nothing, and what was seen of searches in flight."""
+    told = told_by(programs, words, records, lines, is_ended)
     (ours, code, said), (plain, true_code, true_said) = told
+    commands = lines
+    asked = []
+    if words == ["run"]:
+        otherwise = Otherwise(programs[1], lines, plain)
+        asked = [line for _, line in answered(lines)]
+    else:
+        alone = answers(programs[1], b"\n".join(records))[0]
+        otherwise = Otherwise(programs[1], records, alone)
+    flights = Flights(otherwise)
+    (ours, our_end), (plain, true_end) = parted(ours), parted(plain)
     for place, (mine, true) in enumerate(zip(ours, plain)):
-        if not agree(mine, true, most[place] if place < len(most) else 0):
-            return [mine, true]
-    if (len(ours), code, said) != (len(plain), true_code, true_said):
-        return [[len(ours), code, said], [len(plain), true_code, true_said]]
-    return []
+        line = asked[place] if place < len(asked) else {}
+        # What sk_tool alone has open counts: from there on the numbers may differ. Nor is it known of records which were closed.
+        if mine[0] == "refused 12 TooManyOpen" != true[0] and flights.ended:
+            flights.seen["no more compared"] += 1
+            return told, [], flights.seen
+        if not asked and mine[0] == "refused 14 NotDone" and true[0].startswith("found "):
+            flights.seen["no more compared"] += 1
+            return told, [], flights.seen
+        if not asked and mine[0].startswith("dropped ") and true[0].startswith("dropped "):
+            line = {"drop": int(true[0].split(" ")[1])}
+        if not flights.agree(line, mine, true):
+            return told, [mine, true], flights.seen
+    if len(ours) != len(plain) or not flights.left(our_end, true_end):
+        return told, [[len(ours), *our_end], [len(plain), *true_end]], flights.seen
+    early = flights.seen["closes too early for sk_tool alone"] > 0
+    if (1 if early and true_code == 0 else true_code, true_said) != (code, said):
+        return told, [[code, said], [true_code, true_said]], flights.seen
+    return told, [], flights.seen
 
 
 def cut_down(programs, words, records, lines, is_ended):
     """Fewer lines that differ still, and how."""
 
     def differs(records, lines):
-        return difference(told_by(programs, words, records, lines, is_ended), few(words, lines))
+        return compared(programs, words, records, lines, is_ended)[1]
 
     tries = 0
     for which in (0, 1):
@@ -351,20 +581,21 @@ def main():
     for seed in range(first, first + count):
         words, records, lines, is_ended = of_seed(seed)
         seen["lines"] += len(records) + len(lines)
-        told = told_by(programs, words, records, lines, is_ended)
+        told, how, flown = compared(programs, words, records, lines, is_ended)
+        seen += flown
         for answer in told[1][0]:
             kind, number, *_ = answer[0].split(" ")
             seen[f"{kind} {number}" if kind in ("refused", "ok") else kind] += 1
             seen["values" if kind == "facets" else "hits"] += len(answer) - 1
             seen["facets with values" if kind == "facets" else "finds with hits"] += len(answer) > 1
         seen[f"status {told[1][1]}"] += 1
-        if difference(told, few(words, lines)):
+        if how:
             wrong += 1
             records, lines, how = cut_down(programs, words, records, lines, is_ended)
             print(f"seed {seed} differs, under {words}:")
             for line in records + [b"--"] + lines:
                 print("   ", line[:2000])
-            print(*(f"    {answer}" for answer in how), sep="\n")
+            print(*(f"    {answer}" for answer in how), sep="\n", flush=True)
     print(", ".join(f"{name}: {seen[name]}" for name in sorted(seen)))
     print(f"{count} streams from seed {first}, {wrong} differ")
     sys.exit(1 if wrong else 0)

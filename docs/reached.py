@@ -9,7 +9,7 @@ import re
 import sys
 
 top = pathlib.Path(__file__).resolve().parent.parent
-ROOTS = ["sk_engine/specs/SessionRan:SessionRan", "sk_run/specs/Started:Started"]
+ROOTS = ["sk_engine/specs/SessionRan:SessionRan", "sk_engine/specs/SessionRan:ReadingsTold", "sk_run/specs/Started:Started"]
 IMPORT = re.compile(r"^use\s+Rattle\.(\S+?)(?:\.\{([^}]*)\})?(?:\s+as\s+(\S+))?\s*$", re.M)
 HEADER = re.compile(r" *(abbrev |unfoldable )?pub (record |data )?([^\s:(){]+)")
 WORD = re.compile(r"[^\s(){},;λ.]+")

@@ -12,7 +12,8 @@ An Index starts `sk_tool run`, writes command lines to it and reads their answer
 
 Fields, values and options are those of docs/FORMATS.md, by the same names; query texts are those of docs/QUERIES.md.
 Additions and replacements do not wait for their answers. All else does, and so does `flush`. The documents live in the
-memory of the process, and end with it.
+memory of the process, and end with it. A search that `open` opens stays on the documents as they were, whatever is added,
+replaced or deleted before it is closed.
 
 Errors: Refused (the program refuses a line), RefusedLines (it refused additions whose answers were not waited for),
 NotSent (what JSON cannot hold, which never reaches the program), Fault (the process failed). All are Errors.
@@ -20,6 +21,7 @@ NotSent (what JSON cannot hold, which never reaches the program), Fault (the pro
 
 from __future__ import annotations
 
+import contextlib
 import errno
 import json
 import math
@@ -61,6 +63,7 @@ __all__ = [
     "Refused",
     "RefusedLines",
     "Reply",
+    "Search",
 ]
 
 Values = Mapping[str, Any]
@@ -73,6 +76,7 @@ EVERY = 4_294_967_295
 _PIECE = 1 << 16  # Bytes that are read or written at once.
 _MOST_WAITING = 1 << 18  # Bytes of lines that may wait before an addition writes.
 _LONGEST_ANSWER = 1 << 26  # No answer line is as long; a program that puts one is no sk_tool.
+_MOST_TURNS = 100_000  # That a line may ask for.
 _MOST_KEPT = 1000  # Refusals that are kept with their documents until they are reported.
 _END_SECONDS = 5.0  # What a process has to end by itself once its output has ended.
 _STATUSES = {
@@ -100,7 +104,7 @@ class Refused(Error):
 
     number, name: of the refusal, as docs/FORMATS.md has them.
     kind, byte: of a query text's fault the kind and the byte at which it stands; None otherwise.
-    query: the query's text or tree where it was a find, a show or facets; None otherwise.
+    query: the query's text or tree where it was a find, a show, facets or an opening; None otherwise.
     document, data: what was to be added; None otherwise.
     hint: what the client sees to be wrong with the document; empty where it sees nothing.
     """
@@ -333,6 +337,62 @@ class Reply:
         return self._value
 
 
+class Search:
+    """A search in flight, on the documents as they were when `Index.open` opened it. Up to 64 are open at once.
+
+    number: by which the program knows it; no other search of the Index has it.
+    is_open: whether it was neither closed nor dropped.
+    is_done: whether its last turn was done, so that it can be closed.
+
+    Calls of a search that is gone raise Refused (13 NotOpen). As a context it is dropped at the end, where it is open.
+    """
+
+    __slots__ = ("number", "is_open", "is_done", "_index")
+
+    def __init__(self, index: "Index", number: int) -> None:
+        self._index = index
+        self.number = number
+        self.is_open = True
+        self.is_done = False
+
+    def turn(self, times: int = 1) -> bool:
+        """Makes so many turns, 1 to 100,000, or fewer where one of them is done; whether the last one was. A turn moves
+        past one document. Behind one that is done none moves."""
+        line = {"turn": self.number, "times": operator.index(times)}
+        self.is_done = self._index._call(line, f"ok turn {self.number}")
+        return self.is_done
+
+    def close(self) -> Found:
+        """Its page, as a find had it at the opening; the search is gone. Refused (14 NotDone) where its last turn was
+        not done, or it had none."""
+        found: Found = self._index._call({"close": self.number}, "found")
+        self.is_open = False
+        return found
+
+    def drop(self) -> int:
+        """Gives it up, done or not; how many readings it made in the index."""
+        steps: int = self._index._call({"drop": self.number}, f"dropped {self.number}")
+        self.is_open = False
+        return steps
+
+    def finish(self) -> Found:
+        """Turns it to its end and closes it."""
+        while not self.turn(_MOST_TURNS):
+            pass
+        return self.close()
+
+    def __enter__(self) -> "Search":
+        return self
+
+    def __exit__(self, kind: object, *_: object) -> None:
+        if self.is_open:
+            with contextlib.suppress(*([] if kind is None else [Error])):
+                self.drop()
+
+    def __repr__(self) -> str:
+        return f"<Search {self.number}: {'gone' if not self.is_open else 'done' if self.is_done else 'more'}>"
+
+
 # The process.
 
 
@@ -502,11 +562,15 @@ class Index:
     path: the program; a name without a slash is looked up in PATH.
     fields: the schema, 1 to 64 objects as docs/FORMATS.md has them.
     stem: whether words are found by their stems too, as docs/QUERIES.md has it.
-    parts: in how many parts the documents stand, 1 to 16; over several there are no facets.
+    parts: in how many parts the documents stand, 1 to 16; over several there are no facets, and no search is opened.
     timeout: for how many seconds the process may do nothing that is seen while something waits for it, before it is
         taken for stuck, ended, and reported as a Fault; None waits for ever.
     on_refused: is called with each Refused of an addition or a replacement that nobody waited for; without it these
         are gathered, and raised as RefusedLines by the next call that waits.
+
+    status: with what the process ended; None before it is closed.
+    still_open: once it is closed, the numbers of the searches that were open to the end, each with how many readings it
+        made in the index.
 
     Any thread may call it; one call is done at a time.
     """
@@ -527,6 +591,7 @@ class Index:
         self.fields: Tuple[Mapping[str, Any], ...] = tuple(schema)
         self.path = os.fspath(path)
         self.status: Optional[int] = None
+        self.still_open: Dict[int, int] = {}
         self._on_refused = on_refused
         self._lock = threading.RLock()
         self._waiting: Deque[Reply] = deque()
@@ -630,22 +695,63 @@ class Index:
         cutoff: the least weight of a match.
         ids: "rising" or "falling", of matches that are equal otherwise.
         """
-        options = {
-            "op": op,
-            "scheme": scheme,
-            "first": first,
-            "size": size,
-            "check": check,
-            "order": "value" if order is None and by is not None else order,
-            "by": by,
-            "reverse": reverse,
-            "collapse": collapse,
-            "max": max,
-            "cutoff": cutoff,
-            "ids": ids,
-        }
+        options = _options(
+            order,
+            by,
+            op=op,
+            scheme=scheme,
+            first=first,
+            size=size,
+            check=check,
+            reverse=reverse,
+            collapse=collapse,
+            max=max,
+            cutoff=cutoff,
+            ids=ids,
+        )
         found: Found = self._call(_find(query, options), "found", query)
         return found
+
+    def open(
+        self,
+        text: str,
+        *,
+        op: Optional[str] = None,
+        scheme: Optional[str] = None,
+        first: Optional[int] = None,
+        size: Optional[int] = None,
+        check: Optional[int] = None,
+        order: Optional[str] = None,
+        by: Optional[str] = None,
+        reverse: Optional[bool] = None,
+        collapse: Optional[str] = None,
+        max: Optional[int] = None,
+        cutoff: Optional[int] = None,
+        ids: Optional[str] = None,
+    ) -> Search:
+        """Opens a search for what a query text matches among the documents as they are now. It is turned to its end, a
+        turn or more at a time, and then closed, and sees nothing of what is edited meanwhile. The options are those of
+        `find`. Refused (12 TooManyOpen) where 64 are open.
+
+        The first edit behind an opening copies all documents, which takes a part of the time of loading them; a copy
+        is held until the last search on it is gone."""
+        if not isinstance(text, str):
+            raise TypeError(f"a query text is wanted, not {type(text).__name__}")
+        options = _options(
+            order,
+            by,
+            op=op,
+            scheme=scheme,
+            first=first,
+            size=size,
+            check=check,
+            reverse=reverse,
+            collapse=collapse,
+            max=max,
+            cutoff=cutoff,
+            ids=ids,
+        )
+        return Search(self, self._call(_with({"open": text}, options), "ok open", text))
 
     def count(self, query: Query, *, op: Optional[str] = None) -> int:
         """How many documents match, exactly. `count({"all": []})` is how many there are."""
@@ -821,7 +927,8 @@ class Index:
                 self._take_more(text)
                 return
             if not self._waiting:
-                raise ValueError("no line asks for it")
+                self._take_left(text)
+                return
             reply = self._waiting[0]
             if text.startswith("refused "):
                 self._answer(None, self._refusal(text, reply))
@@ -833,10 +940,21 @@ class Index:
                 self._take_facets(text, reply._most)
             elif reply._reads == "query":
                 self._answer(text[len("query ") :])
+            elif reply._reads.startswith("ok turn "):
+                self._answer({"more": False, "done": True}[text[len(reply._reads) + 1 :]])
+            elif reply._reads.startswith("dropped "):
+                self._answer(_numbers(text[len("dropped ") :])["steps"])
             else:
                 self._answer(int(text[len(reply._reads) + 1 :]))
         except (ValueError, KeyError, IndexError, RecursionError) as error:
             raise _Stopped(f"{self.path} is no sk_tool that this client knows: it answered {_short(line)} ({error})")
+
+    def _take_left(self, text: str) -> None:
+        """Takes a line that tells, at the end, of a search that is still open."""
+        if not (self._pipes.is_closing and text.startswith("open ")):
+            raise ValueError("no line asks for it")
+        told = text[len("open ") :]
+        self.still_open[int(told.split(" ")[0])] = _numbers(told)["steps"]
 
     def _take_found(self, text: str) -> None:
         told = _numbers(text)
@@ -1142,6 +1260,11 @@ def _checked(values: Values) -> Dict[str, Any]:
 def _with(line: Dict[str, Any], options: Mapping[str, Any]) -> Dict[str, Any]:
     line.update((name, value) for name, value in options.items() if value is not None)
     return line
+
+
+def _options(order: Optional[str], by: Optional[str], **others: Any) -> Dict[str, Any]:
+    """The options of a find: where a field alone is said, its values order."""
+    return {"order": "value" if order is None and by is not None else order, "by": by, **others}
 
 
 def _find(query: Query, options: Mapping[str, Any]) -> Dict[str, Any]:

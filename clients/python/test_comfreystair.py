@@ -17,7 +17,7 @@ import time
 import unittest
 from unittest import mock
 
-from comfreystair import EVERY, Error, Facets, Fault, Index, NotSent, Refused, RefusedLines
+from comfreystair import EVERY, Error, Facets, Fault, Found, Index, NotSent, Refused, RefusedLines, Search
 
 HERE = os.path.dirname(os.path.realpath(__file__))
 PROGRAM = os.environ.get("SK_TOOL") or os.path.join(HERE, "..", "..", "crates", "sk_tool", "out", "sk_tool")
@@ -171,8 +171,9 @@ class Sessions(unittest.TestCase):
                 is_number = isinstance(value, int)
                 mine.append(form.format(value) if is_number else value)
             hand, status = by_hand(lines)
-            self.assertEqual(["ok schema 5", *mine], hand, f"seed {seed}")
             self.assertEqual(index.close(), status, f"seed {seed}")
+            left = [f"open {number} steps={steps}" for number, steps in index.still_open.items()]
+            self.assertEqual(["ok schema 5", *mine, *left], hand, f"seed {seed}")
 
     def random_call(self, picks, index):
         """A line, the call that stands for it, which gives a second call for its answer, and the form of that answer."""
@@ -253,7 +254,20 @@ class Sessions(unittest.TestCase):
             options["order"] = picks.choice(["value", "value_relevance", "relevance_value", "relevance"])
             options["by"] = picks.choice(["year", "site"])
             options["reverse"] = picks.random() < 0.5
-        if form < 0.85:
+        if form < 0.76:
+            return {"open": asked, **options}, now(lambda: f"ok open {index.open(asked, **options).number}"), ""
+        if form < 0.84:
+            search = Search(index, picks.choice([0, 1, 1, 1, 2, 2, 3, 4]))
+            number, times = search.number, picks.choice([0, 1, 2, 5, 100_000, 100_000])
+            turned = lambda: f"ok turn {number} {'done' if search.turn(times) else 'more'}"
+            return picks.choice(
+                [
+                    ({"turn": number, "times": times}, now(turned), ""),
+                    ({"close": number}, now(search.close), ""),
+                    ({"drop": number}, now(lambda: f"dropped {number} steps={search.drop()}"), ""),
+                ]
+            )
+        if form < 0.92:
             op = picks.choice(["or", "and"])
             return {"find": asked, "op": op, **options}, now(lambda: index.find(asked, op=op, **options)), ""
         form = picks.choice(["and", "or", "xor", "max", "and_not"])
@@ -413,6 +427,140 @@ class Parts(unittest.TestCase):
         with self.assertRaises(Refused) as refused:
             Index(PROGRAM, BODY, parts=17)
         self.assertEqual(refused.exception.name, "BadShape")
+
+
+class Searches(unittest.TestCase):
+    def setUp(self):
+        self.index = Index(PROGRAM, FIELDS)
+        self.addCleanup(self.index._abandon)
+        for body, year, site in (("red fox red", 1990, "a"), ("red hen", 2000, "a"), ("fox den", 2010, "b")):
+            self.index.add({"body": body, "year": year, "site": site}, data=body)
+
+    def refused(self, call):
+        with self.assertRaises(Refused) as caught:
+            call()
+        return caught.exception
+
+    def rows(self, found):
+        return [(hit.id, hit.weight, hit.data) for hit in found]
+
+    def test_sees_the_documents_of_its_opening(self):
+        search = self.index.open("red fox")
+        before = self.rows(self.index.find("red fox"))
+        self.assertEqual((search.number, search.is_open, search.is_done, repr(search)), (1, True, False, "<Search 1: more>"))
+        self.index.replace(1, {"body": "owl"})
+        self.assertFalse(search.turn())
+        self.index.add({"body": "red red red red"})
+        self.assertEqual(self.index.delete(2), 1)
+        self.assertEqual(self.refused(search.close).name, "NotDone")
+        self.assertFalse(search.turn(2))
+        self.assertTrue(search.turn(100))
+        self.assertTrue(search.turn())
+        self.index.delete(3)
+        self.assertEqual((search.is_done, repr(search)), (True, "<Search 1: done>"))
+        found = search.close()
+        self.assertIsInstance(found, Found)
+        self.assertEqual(self.rows(found), before)
+        self.assertEqual((found.count, found.max, search.is_open, repr(search)), ((3, 3, 3), 3, False, "<Search 1: gone>"))
+        self.assertEqual(self.rows(self.index.find("red fox")), [(4, 4, "")])
+
+    def test_options_are_those_of_a_find(self):
+        for options in (
+            {"by": "year", "reverse": True},
+            {"order": "value_relevance", "by": "site"},
+            {"collapse": "site"},
+            {"collapse": "site", "max": 2, "ids": "falling"},
+            {"op": "and"},
+            {"scheme": "snn", "cutoff": 2},
+            {"first": 1, "size": 1, "check": EVERY},
+        ):
+            found, then = self.index.find("red fox", **options), self.index.open("red fox", **options).finish()
+            self.assertEqual((then.hits, then.max), (found.hits, found.max), options)
+            self.assertLessEqual(then.count.lower, then.count.upper)
+
+    def test_up_to_64_are_open(self):
+        searches = [self.index.open("hen") for _ in range(64)]
+        self.assertEqual([search.number for search in searches], list(range(1, 65)))
+        refused = self.refused(lambda: self.index.open("hen"))
+        self.assertEqual((refused.number, refused.name, refused.query, str(refused)), (12, "TooManyOpen", "hen", "refused 12 TooManyOpen\n'hen'"))
+        self.assertEqual(self.refused(lambda: self.index.open("hen AND")).byte, 4)
+        self.assertLessEqual(searches[9].drop(), 1)
+        self.assertEqual(self.index.open("owl").number, 65)
+        self.assertEqual(len(searches[63].finish()), 1)
+        self.assertEqual(self.index.open("owl").number, 66)
+
+    def test_of_one_that_is_gone_nothing_is_told(self):
+        closed, dropped = self.index.open("red"), self.index.open("red")
+        self.assertEqual(len(closed.finish()), 2)
+        dropped.drop()
+        for search in (closed, dropped, Search(self.index, 3), Search(self.index, 0), Search(self.index, (1 << 64) - 1)):
+            for call in (search.turn, search.close, search.drop, search.finish):
+                refused = self.refused(call)
+                self.assertEqual((refused.number, refused.name, str(refused)), (13, "NotOpen", "refused 13 NotOpen"))
+        self.assertEqual(self.refused(Search(self.index, 1 << 64).drop).name, "BadShape")
+
+    def test_other_refusals(self):
+        search = self.index.open("red")
+        refused = self.refused(search.close)
+        self.assertEqual((refused.number, str(refused)), (14, "refused 14 NotDone"))
+        for times in (0, 100_001, -1):
+            self.assertEqual(self.refused(lambda: search.turn(times)).name, "BadShape")
+        self.assertEqual(self.refused(lambda: self.index.open("red", size=-1)).name, "BadShape")
+        self.assertEqual(self.refused(lambda: self.index.open("red", by="body")).name, "BadField")
+        with self.assertRaises(TypeError):
+            self.index.open({"term": "red"})
+        with self.assertRaises(TypeError):
+            search.turn(1.0)
+        self.assertEqual(self.refused(search.close).name, "NotDone")
+        self.assertEqual(self.index.open("red").number, 2)
+        with Index(PROGRAM, BODY, parts=2) as index:
+            for call in (lambda: index.open("("), Search(index, 1).turn, Search(index, 1).close, Search(index, 1).drop):
+                self.assertEqual(str(self.refused(call)).split("\n")[0], "refused 11 InParts")
+
+    def test_what_is_open_at_the_end_is_told(self):
+        hen, red, owl = (self.index.open(text) for text in ("hen", "red", "owl"))
+        red.turn()
+        self.index.open("fox").drop()
+        self.assertEqual((self.index.still_open, hen.is_open), ({}, True))
+        self.assertEqual(self.index.close(), 0)
+        self.assertEqual(list(self.index.still_open), [1, 2, 3])
+        self.assertTrue(all(steps <= most for steps, most in zip(self.index.still_open.values(), (1, 2, 0))))
+        with self.assertRaisesRegex(Error, "closed"):
+            owl.turn()
+        with Index(PROGRAM, BODY) as index:
+            self.assertEqual(index.open("fox").finish().hits, [])
+        self.assertEqual(index.still_open, {})
+
+    def test_a_context_drops_it(self):
+        with self.index.open("red") as search:
+            self.assertEqual(len(search.finish()), 2)
+        with self.index.open("red") as search:
+            search.turn()
+        self.assertFalse(search.is_open)
+        with self.assertRaises(ZeroDivisionError):
+            with self.index.open("red") as other:
+                1 / 0
+        self.assertFalse(other.is_open)
+        with self.assertRaises(Fault):
+            with self.index.open("red") as search:
+                self.index._pipes.process.kill()
+                search.turn()
+
+    def test_a_refused_addition_is_told_first(self):
+        search = self.index.open("red")
+        self.index.add({"nope": 1})
+        with self.assertRaises(RefusedLines):
+            search.turn()
+        self.assertEqual(len(search.finish()), 2)
+
+    def test_a_program_that_tells_of_a_search_too_early(self):
+        file, path = tempfile.mkstemp()
+        self.addCleanup(os.remove, path)
+        with os.fdopen(file, "w") as out:
+            out.write("#!/bin/sh\nread line; echo ok schema 1; echo open 1 steps=0; read line; read line\n")
+        os.chmod(path, stat.S_IRWXU)
+        with self.assertRaises(Fault):
+            Index(path, BODY).find("fox")
 
 
 class Loads(unittest.TestCase):
