@@ -1,5 +1,5 @@
 -- The order of two strings of bytes, by a loop over both, and by the numbers that they spell.
-use Rattle.std.proofs.Common.{◌≡◌, ℕ, zero, suc, ◌+◌, ◌*◌, ◌<◌, ◌≤◌, min, nat_le, true, false, List, [], ◌∷◌, length, drop, get_or, Fits, w8, Ordering, refl, sym, ap, ◌∙◌, arith}
+use Rattle.std.proofs.Common.{◌≡◌, ℕ, zero, suc, ◌+◌, ◌*◌, ◌<◌, ◌≤◌, min, nat_le, true, false, List, [], ◌∷◌, length, drop, get_or, Ordering, refl, sym, ap, ◌∙◌, arith}
 use Rattle.std.proofs.lemmas.Bool.Decides.{nat_tests}
 use Rattle.std.specs.Ordering.{nat_cmp, is_le, ordering_then, MatchOrdering}
 use Rattle.std.specs.declared.cmp.Ordering.TheVariants.{Less, Equal, Greater}
@@ -20,7 +20,7 @@ lengths_decide (suc i) (x ∷ xs) (y ∷ ys) first second ended =
     shorter ∙ lengths_decide i xs ys (omega arith) (omega arith) (omega arith)
 
 abbrev Bytes : List ℕ → Type 0
-Bytes xs = (k : ℕ) → Fits w8 (get_or xs k 0)
+Bytes xs = (k : ℕ) → get_or xs k 0 < 256
 
 -- what begins with less spells less
 spells_less : (a b : ℕ) (xs ys : List ℕ) → length xs ≡ length ys → Bytes xs → a < b → big_endian a xs < big_endian b ys
@@ -28,7 +28,7 @@ spells_less a b [] [] long small lt = lt
 spells_less a b [] (y ∷ ys) long small lt = absurd (omega arith)
 spells_less a b (x ∷ xs) [] long small lt = absurd (omega arith)
 spells_less a b (x ∷ xs) (y ∷ ys) long small lt =
-    let byte : x < 256 = (small 0).fits in
+    let byte : x < 256 = small 0 in
     spells_less (a * 256 + x) (b * 256 + y) xs ys (omega arith) (λ k. small (suc k)) (omega arith)
 
 -- where they are as long, the numbers that they spell decide

@@ -1,8 +1,10 @@
 -- The words on the values of a slot, computed.
-use Rattle.std.proofs.Common.{◌≡◌, [], ◌∷◌, None, Some, refl}
+use Rattle.std.proofs.Common.{◌≡◌, ℕ, List, [], ◌∷◌, None, Some, refl}
 use Rattle.sk_sorted.specs.Entries.{put, without}
 use Rattle.sk_sorted.specs.Places.{id_at}
 use Rattle.sk_values.specs.declared.range_cursor.RangeCursor.{RangeCursor}
+use Rattle.sk_values.specs.declared.value.Held.TheVariants.{Short}
+use Rattle.sk_values.specs.Held.{held_bytes}
 use Rattle.sk_values.specs.SlotValues.{SlotValues, found_value, value_at_place}
 use Rattle.sk_values.specs.RangeCursor.{in_range, unread, left}
 
@@ -39,6 +41,21 @@ second_value = refl
 past_the_end : value_at_place two 2 ≡ []
 past_the_end = refl
 
+-- ---- a value as it is kept
+
+abbrev zeros : List ℕ
+zeros = 0 ∷ 0 ∷ 0 ∷ 0 ∷ 0 ∷ 0 ∷ 0 ∷ 0 ∷ []
+
+-- behind its length a short value says nothing: no byte, one and eight differ
+no_byte : held_bytes (Short zeros 0) ≡ []
+no_byte = refl
+
+one_byte : held_bytes (Short zeros 1) ≡ 0 ∷ []
+one_byte = refl
+
+eight_bytes : held_bytes (Short zeros 8) ≡ zeros
+eight_bytes = refl
+
 -- ---- ranges
 
 -- three documents with a value
@@ -58,7 +75,7 @@ open_ends = refl
 
 -- on the second entry, in a range from its value on
 abbrev second : RangeCursor
-second = record { place = record { piece = 0; read = 2; passed = 2 }; head = Some 4; lo = Some (98 ∷ []); hi = None }
+second = record { place = record { piece = 0; read = 2; passed = 2 }; head = Some 4; bounds = record { lo = Some (98 ∷ []); hi = None } }
 
 left_to_second : left second three ≡ (4, 98 ∷ 0 ∷ []) ∷ (7, 99 ∷ []) ∷ []
 left_to_second = refl
@@ -67,5 +84,5 @@ unread_to_second : unread second three ≡ (7, 99 ∷ []) ∷ []
 unread_to_second = refl
 
 -- ended
-nothing_left : left (record { place = record { piece = 1; read = 0; passed = 3 }; head = None; lo = None; hi = Some [] }) three ≡ []
+nothing_left : left (record { place = record { piece = 1; read = 0; passed = 3 }; head = None; bounds = record { lo = None; hi = Some [] } }) three ≡ []
 nothing_left = refl

@@ -1,5 +1,6 @@
 pub mod ValueLaws
 pub mod RangeLaws
 mod ByteLaws
+mod NumberLaws
 mod CursorLemmas
 mod Examples

@@ -124,7 +124,7 @@ ended_unread lo hi (Some id) read list on e = cc
 
 -- where there is no head, nothing is unread
 pub unread-ended : (c : RangeCursor) (runs : SlotRuns) → IsOn c runs → None ≡ first_id (left c (flat runs)) → unread c (flat runs) ≡ []
-unread-ended c runs on e = ended_unread c.lo c.hi c.head c.place.passed (flat runs) on.head (e ∙ sym (head_is c.lo c.hi c.head c.place.passed (flat runs) on.head))
+unread-ended c runs on e = ended_unread c.bounds.lo c.bounds.hi c.head c.place.passed (flat runs) on.head (e ∙ sym (head_is c.bounds.lo c.bounds.hi c.head c.place.passed (flat runs) on.head))
 
 -- a head, and then the unread in the range, by cases
 head_split : (lo hi : Option (List ℕ)) (head : Option ℕ) (read id : ℕ) (list : SlotValues) → IsHeadAt lo hi head read list → Some id ≡ head
@@ -134,23 +134,23 @@ head_split lo hi (Some at) read id list on e = let same : at ≡ id = cc in stop
 
 -- the head's entry, and then the unread in the range
 pub left-split : (c : RangeCursor) (runs : SlotRuns) (id : ℕ) → IsOn c runs → Some id ≡ first_id (left c (flat runs))
-    → left c (flat runs) ≡ (id, value_at_place (flat runs) (c.place.passed - 1)) ∷ in_range c.lo c.hi (unread c (flat runs))
-left-split c runs id on e = head_split c.lo c.hi c.head c.place.passed id (flat runs) on.head (e ∙ sym (head_is c.lo c.hi c.head c.place.passed (flat runs) on.head))
+    → left c (flat runs) ≡ (id, value_at_place (flat runs) (c.place.passed - 1)) ∷ in_range c.bounds.lo c.bounds.hi (unread c (flat runs))
+left-split c runs id on e = head_split c.bounds.lo c.bounds.hi c.head c.place.passed id (flat runs) on.head (e ∙ sym (head_is c.bounds.lo c.bounds.hi c.head c.place.passed (flat runs) on.head))
 
 -- what is left rises
 pub RiseAbove-left : (c : RangeCursor) (list : SlotValues) → AreSorted list → RiseAbove 0 (left c list)
-RiseAbove-left c list sound = RiseAbove-in_range c.lo c.hi 0 (ahead c.head c.place.passed list) (by c.head)
+RiseAbove-left c list sound = RiseAbove-in_range c.bounds.lo c.bounds.hi 0 (ahead c.head c.place.passed list) (by c.head)
   where
     by : (head : Option ℕ) → RiseAbove 0 (ahead head c.place.passed list)
     by None = tt
     by (Some id) = RiseAbove-drop 0 (c.place.passed - 1) list sound.rise
 
 -- behind the head's id stands the unread in the range
-pub from-left : (c : RangeCursor) (runs : SlotRuns) (id : ℕ) → AreSorted (flat runs) → IsOn c runs → Some id ≡ first_id (left c (flat runs)) → from (id + 1) (left c (flat runs)) ≡ in_range c.lo c.hi (unread c (flat runs))
+pub from-left : (c : RangeCursor) (runs : SlotRuns) (id : ℕ) → AreSorted (flat runs) → IsOn c runs → Some id ≡ first_id (left c (flat runs)) → from (id + 1) (left c (flat runs)) ≡ in_range c.bounds.lo c.bounds.hi (unread c (flat runs))
 from-left c runs id sound on e =
     let list : SlotValues = flat runs in
     let split = left-split c runs id on e in
     let entry : ℕ × List ℕ = (id, value_at_place list (c.place.passed - 1)) in
-    let rest : SlotValues = in_range c.lo c.hi (unread c list) in
+    let rest : SlotValues = in_range c.bounds.lo c.bounds.hi (unread c list) in
     let up : RiseAbove 0 (entry ∷ rest) = subst (RiseAbove 0) split (RiseAbove-left c list sound) in
     ap (from (id + 1)) split ∙ from-below (id + 1) entry rest (omega arith) ∙ from-above id (id + 1) rest up.1 (omega arith)

@@ -1,2 +1,4 @@
 pub mod SlotValues
+pub mod Held
+pub mod Numbers
 pub mod RangeCursor

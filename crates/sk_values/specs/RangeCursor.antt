@@ -22,7 +22,7 @@ ahead (Some id) read list = drop (read - 1) list
 
 -- What is left to a cursor: of the entries from its head on, those in the range.
 abbrev pub left : RangeCursor → SlotValues → SlotValues
-left c list = in_range c.lo c.hi (ahead c.head c.place.passed list)
+left c list = in_range c.bounds.lo c.bounds.hi (ahead c.head c.place.passed list)
 
 -- The head is the id of the entry that was read last, and its value lies in the range.
 pub record IsStop (lo hi : Option (List ℕ)) (id read : ℕ) (list : SlotValues) : Type 0 where
@@ -43,7 +43,7 @@ IsPlaceIn p runs = IsPlace runs p.piece p.read p.passed
 -- A cursor's place and head are those of this list.
 pub record IsOn (c : RangeCursor) (runs : SlotRuns) : Type 0 where
   pub place : IsPlaceIn c.place runs
-  pub head : IsHeadAt c.lo c.hi c.head c.place.passed (flat runs)
+  pub head : IsHeadAt c.bounds.lo c.bounds.hi c.head c.place.passed (flat runs)
 
 -- Whether there is a head below the target.
 abbrev pub is_head_below : ℕ → Option ℕ → Bool

@@ -1,9 +1,11 @@
 //! The values of one slot, by document, and a cursor over those in a range; every reading of one is counted.
 #![tactic(auto)]
 
+mod bounds;
 mod range;
 mod range_cursor;
 mod slot_list;
+mod value;
 
 pub use range_cursor::RangeCursor;
 pub use slot_list::SlotList;

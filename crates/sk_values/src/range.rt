@@ -1,9 +1,10 @@
 //! Which values lie in a range.
-ghost use Rattle.std.specs.Prelude.{◌≡◌, length};
+ghost use Rattle.std.specs.Prelude.{◌≡◌, length, IfSome};
 ghost use Rattle.std.specs.Ordering.{nat_cmp, is_le};
 ghost use Rattle.std.specs.Cmp.Lexicographic.{slice_cmp};
 ghost use Rattle.std.specs.Slice.Scan.{big_endian};
 ghost use Rattle.sk_model.specs.Ranges.{is_from, is_to, is_within};
+ghost use Rattle.sk_values.specs.Numbers.{IsNumber};
 
 use sk_base::Bytes;
 
@@ -49,6 +50,17 @@ fn is_at_most(a: &[u8], b: &[u8]) -> bool
         i += 1;
     }
     a.len() <= b.len()
+}
+
+/// The number of eight bytes; none of fewer or more.
+pub(crate) fn number_of(bytes: &[u8]) -> Option<u64>
+    ensures { IfSome result (λ n. IsNumber n bytes.now) }
+{
+    if bytes.len() == 8 {
+        Some(number(bytes))
+    } else {
+        None
+    }
 }
 
 /// The number of eight bytes, the highest of them first.

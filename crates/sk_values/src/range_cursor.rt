@@ -7,7 +7,8 @@ ghost use Rattle.sk_values.specs.SlotValues.{SlotRuns, value_at_place};
 ghost use Rattle.sk_values.specs.RangeCursor.{in_range, unread, ahead, left, IsHeadAt, IsPlaceIn, IsOn, is_head_below};
 
 use crate::SlotList;
-use crate::range::is_within;
+use crate::bounds::Bounds;
+use crate::value::Value;
 use sk_base::{Bytes, DocId};
 use sk_pieces::Piece;
 use sk_sorted::first_reaching;
@@ -19,8 +20,7 @@ use std::sync::ledger::Ledger;
 pub struct RangeCursor {
     place: Place,
     head: Option<DocId>,
-    lo: Option<Bytes>,
-    hi: Option<Bytes>,
+    bounds: Bounds,
 }
 
 /// A place in a list, behind so many entries of a piece. It keeps how many of all entries it is behind.
@@ -51,12 +51,12 @@ impl RangeCursor {
             read: 0,
             passed: 0,
         };
-        let (place, head) = stop_from(list, front, &lo, &hi, steps);
+        let bounds = Bounds::new(lo, hi);
+        let (place, head) = stop_from(list, front, &bounds, steps);
         RangeCursor {
             place,
             head,
-            lo,
-            hi,
+            bounds,
         }
     }
 
@@ -84,7 +84,7 @@ impl RangeCursor {
             return 0;
         }
         let place = place_from(list, self.place, target);
-        let (stop, head) = stop_from(list, place, &self.lo, &self.hi, steps);
+        let (stop, head) = stop_from(list, place, &self.bounds, steps);
         self.place = stop;
         self.head = head;
         stop.passed - place.passed
@@ -143,7 +143,7 @@ fn place_from(list: &SlotList, start: Place, target: DocId) -> Place
 }
 
 /// Whether the next entry of the piece has an id that is at least the target. It looks at the id alone.
-fn stands_at(pieces: &[Piece<Bytes>], place: Place, target: DocId) -> bool
+fn stands_at(pieces: &[Piece<Value>], place: Place, target: DocId) -> bool
     requires { IsPlaceIn place pieces.now }
     ensures { result ≡ true → drop place.passed (flat pieces.now) ≡ from target (drop place.passed (flat pieces.now)) }
 {
@@ -159,15 +159,14 @@ fn stands_at(pieces: &[Piece<Bytes>], place: Place, target: DocId) -> bool
 fn stop_from<L: Ledger>(
     list: &SlotList,
     start: Place,
-    lo: &Option<Bytes>,
-    hi: &Option<Bytes>,
+    bounds: &Bounds,
     steps: &mut Steps<L>,
 ) -> (Place, Option<DocId>)
     requires { IsPlaceIn start list.now }
     ensures at { IsPlaceIn result.0 list.now }
-    ensures head { IsHeadAt lo.now hi.now result.1 result.0.passed (flat list.now) }
-    ensures left { in_range lo.now hi.now (ahead result.1 result.0.passed (flat list.now))
-        ≡ in_range lo.now hi.now (drop start.passed (flat list.now)) }
+    ensures head { IsHeadAt bounds.now.lo bounds.now.hi result.1 result.0.passed (flat list.now) }
+    ensures left { in_range bounds.now.lo bounds.now.hi (ahead result.1 result.0.passed (flat list.now))
+        ≡ in_range bounds.now.lo bounds.now.hi (drop start.passed (flat list.now)) }
     ensures behind { start.passed ≤ result.0.passed }
     ensures cost { steps.new + start.passed ≡ steps.old + result.0.passed }
 {
@@ -175,7 +174,7 @@ fn stop_from<L: Ledger>(
     let pieces = list.pieces();
     let mut place = start;
     'pieces: while place.piece < pieces.len() {
-        let (read, head) = stop_in(&pieces[place.piece], place.read, lo, hi, steps);
+        let (read, head) = stop_in(&pieces[place.piece], place.read, bounds, steps);
         place.passed += read - place.read;
         place.read = read;
         if head.is_some() {
@@ -189,16 +188,15 @@ fn stop_from<L: Ledger>(
 
 /// The same within a piece.
 fn stop_in<L: Ledger>(
-    piece: &Piece<Bytes>,
+    piece: &Piece<Value>,
     place: u32,
-    lo: &Option<Bytes>,
-    hi: &Option<Bytes>,
+    bounds: &Bounds,
     steps: &mut Steps<L>,
 ) -> (u32, Option<DocId>)
     requires { place ≤ length piece.now }
-    ensures head { IsHeadAt lo.now hi.now result.1 result.0 piece.now }
-    ensures left { in_range lo.now hi.now (ahead result.1 result.0 piece.now)
-        ≡ in_range lo.now hi.now (drop place piece.now) }
+    ensures head { IsHeadAt bounds.now.lo bounds.now.hi result.1 result.0 piece.now }
+    ensures left { in_range bounds.now.lo bounds.now.hi (ahead result.1 result.0 piece.now)
+        ≡ in_range bounds.now.lo bounds.now.hi (drop place piece.now) }
     ensures behind { place ≤ result.0 }
     ensures cost { steps.new + place ≡ steps.old + result.0 }
 {
@@ -207,7 +205,7 @@ fn stop_in<L: Ledger>(
     'entries: while read < end {
         let (id, value) = entry(piece, read, steps);
         read += 1;
-        if is_within(lo, hi, value) {
+        if bounds.contains(value) {
             return (read, Some(id));
         }
     }
@@ -216,10 +214,10 @@ fn stop_in<L: Ledger>(
 
 /// Reads the entry at this place of a piece, counted from 0. All that a cursor reads it reads by this.
 pub(crate) fn entry<'a, L: Ledger>(
-    piece: &'a Piece<Bytes>,
+    piece: &'a Piece<Value>,
     i: u32,
     steps: &mut Steps<L>,
-) -> (DocId, &'a [u8])
+) -> (DocId, &'a Value)
     requires { i < length piece.now }
     ensures id { result.0 ≡ id_at piece.now i }
     ensures value { result.1.now ≡ value_at_place piece.now i }
@@ -227,5 +225,5 @@ pub(crate) fn entry<'a, L: Ledger>(
 {
     let entry = &piece.as_slice()[i as usize];
     steps.tick();
-    (entry.0, entry.1.as_slice())
+    (entry.0, &entry.1)
 }

@@ -7,6 +7,7 @@ ghost use Rattle.sk_sorted.specs.Runs.{flat, AreRuns, IsPlace};
 ghost use Rattle.sk_values.specs.SlotValues.{AreSlotValues, found_value, value_at_place};
 
 use crate::range_cursor::entry;
+use crate::value::Value;
 use sk_base::{Bytes, DocId};
 use sk_pieces::{Copier, Piece, Pieces};
 use sk_steps::Steps;
@@ -19,7 +20,7 @@ use std::sync::ledger::Ledger;
 /// a value.
 #[derive(Drop)]
 pub struct SlotList {
-    entries: Pieces<Bytes>,
+    entries: Pieces<Value>,
 }
 
 impl Model for SlotList {
@@ -47,7 +48,7 @@ impl SlotList {
     pub fn copy(&self, alloc: Global) -> Result<SlotList, AllocError>
         ensures { IfOk result (λ copy. copy ≡ self.now) }
     {
-        let entries = self.entries.copy(&ByteCopier { alloc })?;
+        let entries = self.entries.copy(&ValueCopier { alloc })?;
         Ok(SlotList { entries })
     }
 
@@ -59,6 +60,7 @@ impl SlotList {
         ensures err { OnErr result (self.new ≡ self.old) }
         ensures succeeds { has id (flat self.old) ≡ true → IsOk result }
     {
+        let value = Value::new(value);
         self.entries.put(id, value)
     }
 
@@ -101,11 +103,12 @@ impl SlotList {
     {
         let pieces = self.pieces();
         let (at, passed) = piece_at(pieces, i);
-        entry(&pieces[at], i - passed, steps)
+        let (id, value) = entry(&pieces[at], i - passed, steps);
+        (id, value.as_slice())
     }
 
     /// The pieces.
-    pub(crate) fn pieces(&self) -> &[Piece<Bytes>]
+    pub(crate) fn pieces(&self) -> &[Piece<Value>]
         ensures value { result.now ≡ self.now }
         ensures sound { AreRuns self.now }
     {
@@ -114,7 +117,7 @@ impl SlotList {
 }
 
 /// The piece that has the entry at the place, and how many entries stand before that piece.
-fn piece_at(pieces: &[Piece<Bytes>], i: u32) -> (usize, u32)
+fn piece_at(pieces: &[Piece<Value>], i: u32) -> (usize, u32)
     requires { i < length (flat pieces.now) }
     ensures there { result.0 < length pieces.now }
     ensures place { IsPlace pieces.now result.0 0 result.1 }
@@ -132,13 +135,13 @@ fn piece_at(pieces: &[Piece<Bytes>], i: u32) -> (usize, u32)
 
 /// Copies values.
 #[derive(Drop)]
-struct ByteCopier {
+struct ValueCopier {
     alloc: Global,
 }
 
-impl Copier<Bytes> for ByteCopier {
-    fn copy(&self, x: &Bytes) -> Result<Bytes, AllocError> {
-        Bytes::new(self.alloc, x.as_slice())
+impl Copier<Value> for ValueCopier {
+    fn copy(&self, x: &Value) -> Result<Value, AllocError> {
+        x.copy(self.alloc)
     }
 }
 

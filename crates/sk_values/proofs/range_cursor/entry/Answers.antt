@@ -1,5 +1,4 @@
 -- What is read is the entry at the place.
-use Rattle.std.proofs.Common.{◌∙◌}
 use Rattle.sk_values.proofs.ValueLaws.{entry_read}
 use Rattle.sk_values.proofs.range_cursor.entry.Goals as goal
 
@@ -9,4 +8,4 @@ returns-clause-id g c =
 
 pub returns-clause-value : goal.returns-clause-value
 returns-clause-value g c =
-    c.as_slice-2.ensures ∙ (entry_read c.args.piece.now c.as_slice.result.now c.args.i c.index-as_slice-i.result c.as_slice.ensures.value c.requires c.index-as_slice-i.is).value
+    (entry_read c.args.piece.now c.as_slice.result.now c.args.i c.index-as_slice-i.result c.as_slice.ensures.value c.requires c.index-as_slice-i.is).value

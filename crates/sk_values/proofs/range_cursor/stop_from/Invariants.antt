@@ -8,7 +8,7 @@ abbrev pub invariant-pieces : goal.invariant-pieces
 invariant-pieces g l = record {
   at : IsPlaceIn l.place l.list;
   behind : l.fn.start.passed ≤ l.place.passed;
-  left : in_range l.lo l.hi (drop l.place.passed (flat l.list)) ≡ in_range l.lo l.hi (drop l.fn.start.passed (flat l.list));
+  left : in_range l.bounds.lo l.bounds.hi (drop l.place.passed (flat l.list)) ≡ in_range l.bounds.lo l.bounds.hi (drop l.fn.start.passed (flat l.list));
   cost : l.steps + l.fn.start.passed ≡ l.fn.steps + l.place.passed;
 }
 

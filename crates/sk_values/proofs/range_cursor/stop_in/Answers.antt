@@ -7,7 +7,7 @@ pub entries-preserved : goal.entries-preserved
 entries-preserved g c = record {
   behind = omega arith;
   within = omega arith;
-  left = in_range-past c.args.lo.now c.args.hi.now c.args.piece.now c.entries.read (omega (arith, c.count-end.ensures.value))
-      (ap (is_within c.args.lo.now c.args.hi.now) (sym c.entry-id.ensures.value) ∙ sym c.is_within.ensures ∙ c.if-is_within.false) ∙ c.entries.invariant.left;
+  left = in_range-past c.args.bounds.now.lo c.args.bounds.now.hi c.args.piece.now c.entries.read (omega (arith, c.count-end.ensures.value))
+      (ap (is_within c.args.bounds.now.lo c.args.bounds.now.hi) (sym c.entry-id.ensures.value) ∙ sym c.contains.ensures ∙ c.if-contains.false) ∙ c.entries.invariant.left;
   cost = omega arith;
 }

@@ -6,7 +6,7 @@ abbrev pub invariant-entries : goal.invariant-entries
 invariant-entries g l = record {
   behind : l.place ≤ l.read;
   within : l.read ≤ l.end;
-  left : in_range l.lo l.hi (drop l.read l.piece) ≡ in_range l.lo l.hi (drop l.place l.piece);
+  left : in_range l.bounds.lo l.bounds.hi (drop l.read l.piece) ≡ in_range l.bounds.lo l.bounds.hi (drop l.place l.piece);
   cost : l.steps + l.place ≡ l.fn.steps + l.read;
 }
 

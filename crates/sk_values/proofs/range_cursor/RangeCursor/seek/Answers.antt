@@ -6,17 +6,17 @@ use Rattle.sk_values.proofs.range_cursor.RangeCursor.seek.Goals as goal
 
 pub returns-then-not-is_below-clause-left : goal.returns-then-not-is_below-clause-left
 returns-then-not-is_below-clause-left g c =
-    stays_left c.args.self.now.lo c.args.self.now.hi c.args.self.now.head c.args.self.now.place.passed c.args.target (flat c.args.list.now) c.requires.on.head (sym c.if-not-is_below.ensures)
+    stays_left c.args.self.now.bounds.lo c.args.self.now.bounds.hi c.args.self.now.head c.args.self.now.place.passed c.args.target (flat c.args.list.now) c.requires.on.head (sym c.if-not-is_below.ensures)
 
 pub returns-then-not-is_below-clause-unread : goal.returns-then-not-is_below-clause-unread
 returns-then-not-is_below-clause-unread g c =
-    stays_unread c.args.self.now.lo c.args.self.now.hi c.args.self.now.head c.args.self.now.place.passed c.args.target (flat c.args.list.now) c.length-sound.ensures.sound.sorted c.requires.on.head (sym c.if-not-is_below.ensures)
+    stays_unread c.args.self.now.bounds.lo c.args.self.now.bounds.hi c.args.self.now.head c.args.self.now.place.passed c.args.target (flat c.args.list.now) c.length-sound.ensures.sound.sorted c.requires.on.head (sym c.if-not-is_below.ensures)
 
 pub returns-clause-left : goal.returns-clause-left
 returns-clause-left g c =
     c.stop_from-head.ensures.left
-    ∙ ap (in_range c.args.self.now.lo c.args.self.now.hi) c.place_from-place.ensures.left
-    ∙ moves_left c.args.self.now.lo c.args.self.now.hi c.args.self.now.head c.args.self.now.place.passed c.args.target (flat c.args.list.now) c.length-sound.ensures.sound.sorted c.requires.on.head (sym c.if-not-is_below.ensures)
+    ∙ ap (in_range c.args.self.now.bounds.lo c.args.self.now.bounds.hi) c.place_from-place.ensures.left
+    ∙ moves_left c.args.self.now.bounds.lo c.args.self.now.bounds.hi c.args.self.now.head c.args.self.now.place.passed c.args.target (flat c.args.list.now) c.length-sound.ensures.sound.sorted c.requires.on.head (sym c.if-not-is_below.ensures)
 
 pub returns-clause-stays : goal.returns-clause-stays
-returns-clause-stays g c above = absurd (moves_on c.args.self.now.lo c.args.self.now.hi c.args.self.now.head c.args.self.now.place.passed c.args.target (flat c.args.list.now) c.requires.on.head (sym c.if-not-is_below.ensures) above)
+returns-clause-stays g c above = absurd (moves_on c.args.self.now.bounds.lo c.args.self.now.bounds.hi c.args.self.now.head c.args.self.now.place.passed c.args.target (flat c.args.list.now) c.requires.on.head (sym c.if-not-is_below.ensures) above)
