@@ -1,3 +1,4 @@
 mod SoonestLemmas
 mod PhraseLemmas
+mod RunLemmas
 mod WindowLemmas

@@ -8,7 +8,7 @@ use Rattle.std.specs.Option.{option_and_then}
 use Rattle.sk_base.proofs.Tests.{first_so, second_so}
 use Rattle.sk_model.specs.Positions.{phrase_from, is_phrase}
 use Rattle.sk_near.specs.Soonest.{first_from, soonest_end}
-use Rattle.sk_near.proofs.SoonestLemmas.{any_at, any_none, first_is_one, first_is_least, first_none}
+use Rattle.sk_near.proofs.SoonestLemmas.{any_at, any_none, first_is_one, first_is_least}
 
 -- the phrases that begin at a position of the first operand begin here or behind
 pub record BeginFrom (window low : ℕ) (places : List (List ℕ)) : Type 0 where
@@ -43,43 +43,37 @@ module _ (window : ℕ) (wide : 1 ≤ window) where
       let rest = soonest_within first p (least.0 + 1) more (omega (arith, least.2)) (second_so (nat_lt last p) (phrase_from window first p more) one.2) in
       (rest.0, ap (option_and_then (λ r. soonest_end (r + 1) more)) least.1 ∙ rest.1, rest.2)
 
-  -- the first operand has no position left
-  pub no_start : (places : List (List ℕ)) (low : ℕ) → 1 ≤ length places → BeginFrom window low places → first_from low (get_or places 0 []) ≡ None → is_phrase window places ≡ false
-  no_start [] low some begins none = absurd (omega arith)
-  no_start (positions ∷ more) low some begins none =
-      any_none (λ p. phrase_from window p p more) positions
-      (λ k lt e. let above : low ≤ get_or positions k 0 = begins.from k lt e in let below : get_or positions k 0 < low = first_none low positions k none lt in absurd (omega arith))
+  -- where a phrase begins from here on, all operands can be taken, and end within its window
+  all_taken : (positions : List ℕ) (more : List (List ℕ)) (low k : ℕ) → k < length positions → low ≤ get_or positions k 0 → phrase_from window (get_or positions k 0) (get_or positions k 0) more ≡ true
+      → (end : ℕ) × (soonest_end low (positions ∷ more) ≡ Some end) × (end ≤ get_or positions k 0 + window)
+  all_taken positions more low k lt from e =
+      let least = first_is_least low positions k lt from in
+      let rest = soonest_within (get_or positions k 0) (get_or positions k 0) (least.0 + 1) more (omega (arith, least.2)) e in
+      (rest.0, ap (option_and_then (λ p. soonest_end (p + 1) more)) least.1 ∙ rest.1, rest.2)
 
-  -- another has none
-  pub no_end : (places : List (List ℕ)) (low first : ℕ) → 1 ≤ length places → BeginFrom window low places → first_from low (get_or places 0 []) ≡ Some first
-      → soonest_end (first + 1) (drop 1 places) ≡ None → is_phrase window places ≡ false
-  no_end [] low first some begins is none = absurd (omega arith)
-  no_end (positions ∷ more) low first some begins is none =
+  -- not all can be taken
+  pub no_phrase : (places : List (List ℕ)) (low : ℕ) → 1 ≤ length places → BeginFrom window low places → soonest_end low places ≡ None → is_phrase window places ≡ false
+  no_phrase [] low some begins none = absurd (omega arith)
+  no_phrase (positions ∷ more) low some begins none =
       any_none (λ p. phrase_from window p p more) positions
-      (λ k lt e.
-      let least = first_is_least low positions k lt (begins.from k lt e) in
-      let same : first ≡ least.0 = same_Some first least.0 (sym is ∙ least.1) in
-      let rest = soonest_within (get_or positions k 0) (get_or positions k 0) (first + 1) more (omega (arith, least.2)) e in
-      none-some rest.0 (sym none ∙ rest.1))
+      (λ k lt e. let taken = all_taken positions more low k lt (begins.from k lt e) e in none-some taken.0 (sym none ∙ taken.1))
 
   -- they end within the window
   pub is_found : (places : List (List ℕ)) (low first end : ℕ) → 1 ≤ length places → first_from low (get_or places 0 []) ≡ Some first
-      → soonest_end (first + 1) (drop 1 places) ≡ Some end → end ≤ first + window → is_phrase window places ≡ true
+      → soonest_end low places ≡ Some end → end ≤ first + window → is_phrase window places ≡ true
   is_found [] low first end some is ends le = absurd (omega arith)
   is_found (positions ∷ more) low first end some is ends le =
       let one = first_is_one low first positions is in
+      let rest = sym (ap (option_and_then (λ p. soonest_end (p + 1) more)) is) ∙ ends in
       list_any_at (λ p. phrase_from window p p more) positions one.0 0 one.1
-      (subst (λ (p : ℕ). phrase_from window p p more ≡ true) (sym one.2) (ends_within first first end more ends le))
+      (subst (λ (p : ℕ). phrase_from window p p more ≡ true) (sym one.2) (ends_within first first end more rest le))
 
   -- they do not, and no phrase that begins later ends earlier
-  pub begin_later : (places : List (List ℕ)) (low first end : ℕ) → 1 ≤ length places → BeginFrom window low places → first_from low (get_or places 0 []) ≡ Some first
-      → soonest_end (first + 1) (drop 1 places) ≡ Some end → BeginFrom window (end - window) places
-  begin_later [] low first end some begins is ends = absurd (omega arith)
-  begin_later (positions ∷ more) low first end some begins is ends = record {
+  pub begin_later : (places : List (List ℕ)) (low end : ℕ) → 1 ≤ length places → BeginFrom window low places → soonest_end low places ≡ Some end → BeginFrom window (end - window) places
+  begin_later [] low end some begins ends = absurd (omega arith)
+  begin_later (positions ∷ more) low end some begins ends = record {
     from = λ k lt e.
-        let least = first_is_least low positions k lt (begins.from k lt e) in
-        let same : first ≡ least.0 = same_Some first least.0 (sym is ∙ least.1) in
-        let rest = soonest_within (get_or positions k 0) (get_or positions k 0) (first + 1) more (omega (arith, least.2)) e in
-        let last : end ≡ rest.0 = same_Some end rest.0 (sym ends ∙ rest.1) in
-        omega (arith, rest.2);
+        let taken = all_taken positions more low k lt (begins.from k lt e) e in
+        let last : end ≡ taken.0 = same_Some end taken.0 (sym ends ∙ taken.1) in
+        omega (arith, taken.2);
   }

@@ -1,6 +1,7 @@
 -- Positions that are taken as soon as can be.
-use Rattle.std.specs.Prelude.{ℕ, ◌+◌, min, nat_lt, List, [], ◌∷◌, Option, None, Some, if◌then◌else◌}
+use Rattle.std.specs.Prelude.{◌≡◌, ℕ, ◌+◌, min, nat_lt, List, [], ◌∷◌, drop, slice_index_or, Option, None, Some, if◌then◌else◌}
 use Rattle.std.specs.Option.{option_and_then}
+use Rattle.sk_near.specs.declared.phrases.Taken.{Taken}
 
 -- The lesser of a position and one that may be missing.
 abbrev pub lesser : ℕ → Option ℕ → ℕ
@@ -16,3 +17,8 @@ first_from bound (p ∷ positions) = if nat_lt p bound then first_from bound pos
 abbrev pub soonest_end : ℕ → List (List ℕ) → Option ℕ
 soonest_end bound [] = Some bound
 soonest_end bound (positions ∷ more) = option_and_then (λ p. soonest_end (p + 1) more) (first_from bound positions)
+
+-- Operands from one on are taken, up to another that is none of them: the first has its least position, and all end where the others go on.
+pub record AreTaken (bound : ℕ) (places : List (List ℕ)) (i run_end : ℕ) (taken : Taken) : Type 0 where
+  pub first : first_from bound (slice_index_or places i []) ≡ Some taken.first
+  pub rest : soonest_end bound (drop i places) ≡ soonest_end taken.end (drop run_end places)

@@ -4,7 +4,9 @@
 mod operands;
 mod phrases;
 mod places;
+mod runs;
 mod windows;
 
 pub use phrases::phrase;
+pub use runs::Runs;
 pub use windows::near;

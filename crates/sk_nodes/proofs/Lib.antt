@@ -5,9 +5,11 @@ pub mod BlockLaws
 pub mod RangeLaws
 pub mod SumLaws
 pub mod ManyLaws
+pub mod RepeatLaws
 pub mod ProximityLaws
 pub mod StopLaws
 pub mod OrManyLaws
+pub mod MergeLaws
 pub mod OrderLaws
 pub mod RareLaws
 pub mod WalkLaws

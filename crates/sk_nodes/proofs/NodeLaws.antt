@@ -5,6 +5,7 @@ use Rattle.std.proofs.lemmas.Bool.{cases_lt}
 use Rattle.std.proofs.lemmas.List.{with_items_is}
 use Rattle.sk_base.specs.declared.find.Scheme.{Scheme}
 use Rattle.sk_query.specs.declared.form.Form.{Form}
+use Rattle.sk_buckets.specs.declared.mark.Mark.{Mark}
 use Rattle.sk_model.specs.Covers.{CoversAt, Covers, first_need, second_need}
 use Rattle.sk_model.proofs.CoverLaws.{covers_itself, covers_then}
 use Rattle.sk_index.specs.Indexed.{Indexed}
@@ -19,7 +20,7 @@ use Rattle.sk_nodes.specs.declared.node.Node.TheVariants as Node
 use Rattle.sk_nodes.specs.Leaves.{AtMost}
 use Rattle.sk_nodes.specs.declared.proximity.Proximity.{Proximity}
 use Rattle.sk_nodes.specs.declared.leaf.Leaf.{Leaf}
-use Rattle.sk_nodes.specs.Shapes.{Shape, ended, leaf, range, pair, xor_many, or_many, positional, synonym, shape_of, size_of, sides_on}
+use Rattle.sk_nodes.specs.Shapes.{Shape, ended, leaf, range, pair, xor_many, or_many, positional, synonym, shape_of, size_of, sides_on, merged}
 use Rattle.sk_nodes.specs.Decayed.{changed_pair, decayed, SidesFit}
 use Rattle.sk_nodes.specs.Left.{rest, from_on, unread_of, greatest_held}
 use Rattle.sk_nodes.specs.Skips.{WeighsBelow}
@@ -43,6 +44,9 @@ shape_of-XorMany tops nodes = search (rules, the_lemmas)
 
 pub shape_of-OrMany : (tops : Vec Top Global) (nodes : Vec Node Global) → shape_of (Node.OrMany tops nodes) ≡ or_many (sides_on tops.items nodes.items)
 shape_of-OrMany tops nodes = search (rules, the_lemmas)
+
+pub shape_of-Merge : (queue : List Mark) (leaves : Vec Leaf Global) → shape_of (Node.Merge queue leaves) ≡ or_many (merged queue leaves.items)
+shape_of-Merge queue leaves = search (rules, the_lemmas)
 
 pub shape_of-Positional : (p : Proximity) (t : Top) (b : Box Node Global) → shape_of (Node.Positional p t b) ≡ positional p t (shape_of b.value)
 shape_of-Positional p t b = search (rules, the_lemmas)
@@ -357,6 +361,13 @@ or_many_shape node tops nodes ts ns e f g = ap shape_of e ∙ shape_of-OrMany to
 
 pub or_many_written : (v : Vec Top Global) (w : Vec Node Global) (ts : List Top) (ns : List Node) → length ts ≡ v.len → length ns ≡ w.len → shape_of (Node.OrMany (with_items v ts) (with_items w ns)) ≡ or_many (sides_on ts ns)
 or_many_written v w ts ns e f = shape_of-OrMany (with_items v ts) (with_items w ns) ∙ (λ i. or_many (sides_on (with_items_is v ts e i) (with_items_is w ns f i)))
+
+-- many lists
+pub merge_shape : (node : Node) (queue : List Mark) (leaves : Vec Leaf Global) (ms : List Mark) (ls : List Leaf) → node ≡ Node.Merge queue leaves → ms ≡ queue → ls ≡ leaves.items → shape_of node ≡ or_many (merged ms ls)
+merge_shape node queue leaves ms ls e f g = ap shape_of e ∙ shape_of-Merge queue leaves ∙ (λ i. or_many (merged (sym f i) (sym g i)))
+
+pub merge_written : (ms : List Mark) (w : Vec Leaf Global) (ls : List Leaf) → length ls ≡ w.len → shape_of (Node.Merge ms (with_items w ls)) ≡ or_many (merged ms ls)
+merge_written ms w ls e = shape_of-Merge ms (with_items w ls) ∙ (λ i. or_many (merged ms (with_items_is w ls e i)))
 
 -- a side alone, and the sides under another form
 pub decays_first : (i : Indexed) (need : ℕ) (form : Form) (ta : Top) (a : Shape) (tb : Top) (b : Shape) (a_ended b_ended : Bool) → (a_ended ≡ true → ta.head ≡ 2 ^ 32) → (b_ended ≡ true → tb.head ≡ 2 ^ 32)

@@ -55,7 +55,7 @@ or_covers i target need ss rs sought = λ id.
 
 module _ (f g : ℕ → Option ℕ) (h v k w : ℕ) (some : IsHead h v f) (others : IsHead k w g) where
   -- the others begin before
-  head_second : k < h → IsHead k w (λ id. either (f id) (g id))
+  pub head_second : k < h → IsHead k w (λ id. either (f id) (g id))
   head_second lt = record {
     within = others.within;
     below = λ id less. either_none (f id) (g id) (some.below id (omega (arith, less, lt))) (others.below id less);
@@ -65,7 +65,7 @@ module _ (f g : ℕ → Option ℕ) (h v k w : ℕ) (some : IsHead h v f) (other
   }
 
   -- the others begin behind
-  head_first : h < k → IsHead h v (λ id. either (f id) (g id))
+  pub head_first : h < k → IsHead h v (λ id. either (f id) (g id))
   head_first lt = record {
     within = some.within;
     below = λ id less. either_none (f id) (g id) (some.below id less) (others.below id (omega (arith, less, lt)));
@@ -75,7 +75,7 @@ module _ (f g : ℕ → Option ℕ) (h v k w : ℕ) (some : IsHead h v f) (other
   }
 
   -- both begin there
-  head_both : h ≡ k → IsHead h (v + w) (λ id. either (f id) (g id))
+  pub head_both : h ≡ k → IsHead h (v + w) (λ id. either (f id) (g id))
   head_both same = record {
     within = some.within;
     below = λ id less. either_none (f id) (g id) (some.below id less) (others.below id (omega (arith, less, same)));
@@ -220,7 +220,7 @@ or_needed i target need before after ss rs needed flat paid = record { keeps = b
     by (lone_behind head unread) = keeps_other (account_of i need (lone_behind head unread)) target before after (or_many ss) (or_many rs) (λ h. h)
     by (nest_behind head unread) = keeps_other (account_of i need (nest_behind head unread)) target before after (or_many ss) (or_many rs) (λ h. omega (arith, needed, h.0))
 
-sum_past : (i : Indexed) (ss : Sides) (id : ℕ) → AreSound i ss → 2 ^ 32 ≤ id → sum_of_any (rests i ss id) ≡ None
+pub sum_past : (i : Indexed) (ss : Sides) (id : ℕ) → AreSound i ss → 2 ^ 32 ≤ id → sum_of_any (rests i ss id) ≡ None
 sum_past i no_sides id sound le = refl
 sum_past i (side t s ss) id sound le = either_none (rest i s id) (sum_of_any (rests i ss id)) (sound.top.head.past id le) (sum_past i ss id sound.others le)
 
@@ -230,7 +230,7 @@ light_le : (need greatest : ℕ) (o : Option ℕ) → unwrap_or o 0 ≤ greatest
 light_le need greatest None le lt = tt
 light_le need greatest (Some v) le lt = omega (arith, le, lt)
 
-light_covers : (need : ℕ) (a b : Option ℕ) → b ≡ None → WeighsBelow need a → CoversAt a b need
+pub light_covers : (need : ℕ) (a b : Option ℕ) → b ≡ None → WeighsBelow need a → CoversAt a b need
 light_covers need None None e light = tt
 light_covers need (Some v) None e light = light
 light_covers need a (Some w) e light = cc
@@ -244,7 +244,7 @@ led_none i need from least most ss sound sum lt le = record {
   within = le_refl least;
 }
 
-same_side : (i : Indexed) (from id : ℕ) (t : Top) (s : Shape) (ss : Sides) (u : Top) (r : Shape) (rs : Sides) → Covers (from_on from (rest i s)) (rest i r) 0 → rests i rs id ≡ rests i ss id → from ≤ id
+pub same_side : (i : Indexed) (from id : ℕ) (t : Top) (s : Shape) (ss : Sides) (u : Top) (r : Shape) (rs : Sides) → Covers (from_on from (rest i s)) (rest i r) 0 → rests i rs id ≡ rests i ss id → from ≤ id
     → rests i (side u r rs) id ≡ rests i (side t s ss) id
 same_side i from id t s ss u r rs covers others le =
     let first : rest i r id ≡ rest i s id = covers_exactly (from_on from (rest i s) id) (rest i r id) (covers id) ∙ from_on-at from (rest i s) id le in
@@ -381,7 +381,7 @@ module _ (i : Indexed) (target need : ℕ) (some_need : 0 < need) (before : ℕ)
   }
 
   -- all were sought to the first of them
-  pub or_weighed : (head between after total : ℕ) (ss rs : Sides) → head < 2 ^ 32 → OrSoFar i target need head before between ss0 ss → AreWeighed i need head 0 total ss rs → AreSound i rs
+  or_weighed : (head between after total : ℕ) (ss rs : Sides) → head < 2 ^ 32 → OrSoFar i target need head before between ss0 ss → AreWeighed i need head 0 total ss rs → AreSound i rs
       → greatest_sum rs ≤ greatest_sum ss → sizes_in rs ≤ sizes_in ss → AreKept i head between after ss rs → OrSoFar i target need head before after ss0 rs
   or_weighed head between after total ss rs small far weighed sound falls smaller kept = record {
     sides = record { sides = sound; fits = omega (arith, falls, far.sides.fits) };
@@ -397,6 +397,12 @@ module _ (i : Indexed) (target need : ℕ) (some_need : 0 < need) (before : ℕ)
         let more = kept.paid point (far.flat flat) near in
         omega (arith, one, more);
   }
+
+  -- some led, and all were sought to the first of them
+  pub or_round : (from head between mid after total : ℕ) (ss rs us : Sides) → from < 2 ^ 32 → head < 2 ^ 32 → OrSoFar i target need from before between ss0 ss → HaveLed i need from (2 ^ 32) head ss rs → AreMoved i from between mid ss rs
+      → AreWeighed i need head 0 total rs us → AreMoved i head mid after rs us → OrSoFar i target need head before after ss0 us
+  or_round from head between mid after total ss rs us small there far led lead weighed moved =
+      or_weighed head mid after total rs us there (or_led from head between mid ss rs small far led lead.sound lead.falls lead.smaller lead.kept) weighed moved.sound moved.falls moved.smaller moved.kept
 
   -- what they weigh there is not enough
   pub or_on : (head after total : ℕ) (ss rs : Sides) → OrSoFar i target need head before after ss0 rs → AreWeighed i need head 0 total ss rs → total < need → OrSoFar i target need (head + 1) before after ss0 rs

@@ -1,5 +1,5 @@
 -- A test of what a node gives.
-use Rattle.std.proofs.Common.{◌≡◌, ◌≤◌, ◌<◌, ◌+◌, ◌^◌, ℕ, max, Bool, true, false, List, [], ◌∷◌, length, drop, All, Option, None, Some, unwrap_or, inl, inr, refl, sym, subst, ap, ◌∙◌, arith, le_refl, if◌then◌else◌, nat_le, is_some}
+use Rattle.std.proofs.Common.{◌≡◌, ◌≤◌, ◌<◌, ◌+◌, ◌^◌, ℕ, max, Bool, true, false, List, [], ◌∷◌, length, drop, All, Option, None, Some, unwrap_or, inl, inr, refl, sym, subst, subst₂, ap, ◌∙◌, arith, le_refl, if◌then◌else◌, nat_le, is_some}
 use mathlib.Core.Bool.{true≢false}
 use Rattle.std.specs.List.{AllByRecursion}
 use Rattle.std.proofs.lemmas.Bool.{cases_lt}
@@ -20,6 +20,7 @@ use Rattle.sk_nodes.specs.Leaves.{list_in}
 use Rattle.sk_nodes.specs.Shapes.{Shape, ended, positional, size_of}
 use Rattle.sk_nodes.specs.Left.{rest, from_on}
 use Rattle.sk_nodes.specs.Proximity.{stand, positions_in, holds_in, entries_unread, AreInOrder, IsInAll, AreThere, CanTest, IsSameTest}
+use Rattle.sk_nodes.specs.Repeats.{HaveSame, AreRunEnds}
 use Rattle.sk_nodes.specs.Sound.{IsTop, IsPositional, Sound, Lands}
 use Rattle.sk_nodes.specs.Begun.{Yields}
 use Rattle.sk_nodes.proofs.LeafLaws.{from_on-at, from_on-none, covers_none}
@@ -58,10 +59,10 @@ same_rest : (i : Indexed) (p q : Proximity) (t : Top) (s : Shape) (id : ℕ) →
 same_rest i p q t s id same = ap (λ b. where_so b (rest i s id)) (same_holds i p q id same)
 
 pub same_again : (p q r : Proximity) → IsSameTest p q → IsSameTest q r → IsSameTest p r
-same_again p q r a b = record { kind = b.kind ∙ a.kind; window = b.window ∙ a.window; numbers = b.numbers ∙ a.numbers; marks = b.marks ∙ a.marks; places = b.places ∙ a.places }
+same_again p q r a b = record { kind = b.kind ∙ a.kind; window = b.window ∙ a.window; numbers = b.numbers ∙ a.numbers; once = b.once ∙ a.once; ends = b.ends ∙ a.ends; marks = b.marks ∙ a.marks; places = b.places ∙ a.places }
 
 pub same_itself : (p : Proximity) → IsSameTest p p
-same_itself p = record { kind = refl; window = refl; numbers = refl; marks = refl; places = refl }
+same_itself p = record { kind = refl; window = refl; numbers = refl; once = refl; ends = refl; marks = refl; places = refl }
 
 pub same_can : (i : Indexed) (p q : Proximity) → IsSameTest p q → CanTest i p → CanTest i q
 same_can i p q same can = record {
@@ -71,6 +72,8 @@ same_can i p q same can = record {
   places = omega (arith, can.places, ap length same.numbers, same.places);
   there = subst (λ (ns : List ℕ). AreThere i ns) (sym same.numbers) can.there;
   sorted = subst (λ (ns : List ℕ). AreInOrder i ns) (sym same.numbers) can.sorted;
+  once = subst₂ (λ (ns ms : List ℕ). HaveSame ns ms) (sym same.numbers) (sym same.once) can.once;
+  ends = subst₂ (λ (es ns : List ℕ). AreRunEnds es ns) (sym same.ends) (sym same.numbers) can.ends;
 }
 
 -- ---- heads

@@ -9,6 +9,7 @@ use Rattle.sk_nodes.specs.declared.proximity.ProximityKind.{ProximityKind}
 use Rattle.sk_nodes.specs.declared.proximity.Proximity.{Proximity}
 use Rattle.sk_nodes.specs.declared.leaf.ListOf.{ListOf}
 use Rattle.sk_nodes.specs.Leaves.{list_in}
+use Rattle.sk_nodes.specs.Repeats.{HaveSame, AreRunEnds}
 
 -- Whether these positions stand so.
 abbrev pub stand : ProximityKind → ℕ → List (List ℕ) → Bool
@@ -51,11 +52,26 @@ pub record CanTest (i : Indexed) (p : Proximity) : Type 0 where
   pub places : length p.numbers.items ≤ length p.places.items
   pub there : AreThere i p.numbers.items
   pub sorted : AreInOrder i p.numbers.items
+  pub once : HaveSame p.numbers.items p.once.items
+  pub ends : AreRunEnds p.ends.items p.numbers.items
 
 -- The test is the same.
 pub record IsSameTest (old new : Proximity) : Type 0 where
   pub kind : new.kind ≡ old.kind
   pub window : new.window ≡ old.window
   pub numbers : new.numbers.items ≡ old.numbers.items
+  pub once : new.once.items ≡ old.once.items
+  pub ends : new.ends.items ≡ old.ends.items
   pub marks : length new.marks.items ≡ length old.marks.items
   pub places : length new.places.items ≡ length old.places.items
+
+-- A test of terms with these numbers, before its first document.
+pub record IsTestOf (k : ProximityKind) (w : ℕ) (ns : List ℕ) (p : Proximity) : Type 0 where
+  pub kind : p.kind ≡ k
+  pub window : p.window ≡ w
+  pub numbers : p.numbers.items ≡ ns
+  pub once : HaveSame ns p.once.items
+  pub ends : AreRunEnds p.ends.items ns
+  pub marks : length ns ≤ length p.marks.items
+  pub places : length ns ≤ length p.places.items
+  pub next : p.next ≡ 0

@@ -2,6 +2,7 @@
 use Rattle.std.specs.Prelude.{ℕ, ◌+◌, List, [], ◌∷◌, map}
 use Rattle.sk_base.specs.declared.find.Scheme.{Scheme}
 use Rattle.sk_query.specs.declared.form.Form.{Form}
+use Rattle.sk_buckets.specs.declared.mark.Mark.{Mark}
 use Rattle.sk_nodes.specs.declared.top.Top.{Top}
 use Rattle.sk_nodes.specs.declared.leaf.Leaf.{Leaf}
 use Rattle.sk_nodes.specs.declared.range_node.RangeNode.{RangeNode}
@@ -32,6 +33,16 @@ sides_of [] ss = no_sides
 sides_of (t ∷ ts) [] = no_sides
 sides_of (t ∷ ts) (s ∷ ss) = side t s (sides_of ts ss)
 
+-- Where a list stands, as a top.
+abbrev pub top_at : Mark → Top
+top_at m = record { head = m.head; weight = m.weight; greatest = m.greatest }
+
+-- The lists of a merge as sides. A mark without a list is a side that gives nothing.
+abbrev pub merged : List Mark → List Leaf → Sides
+merged [] ls = no_sides
+merged (m ∷ ms) [] = side (top_at m) ended (merged ms [])
+merged (m ∷ ms) (l ∷ ls) = side (top_at m) (leaf l) (merged ms ls)
+
 -- One layer of a node, its sides being shapes already.
 abbrev pub node_step : Node-F Shape → Shape
 node_step Node-F.Nothing = ended
@@ -40,6 +51,7 @@ node_step (Node-F.Range r) = range r
 node_step (Node-F.Pair form ta a tb b) = pair form ta a.value tb b.value
 node_step (Node-F.XorMany tops nodes) = xor_many (sides_of tops.items nodes.items)
 node_step (Node-F.OrMany tops nodes) = or_many (sides_of tops.items nodes.items)
+node_step (Node-F.Merge queue leaves) = or_many (merged queue leaves.items)
 node_step (Node-F.Positional p t s) = positional p t s.value
 node_step (Node-F.Synonym scheme factor t s) = synonym scheme factor t s.value
 

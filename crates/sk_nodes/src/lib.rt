@@ -4,12 +4,14 @@
 mod begun;
 mod leaf;
 mod many;
+mod merge;
 mod moves;
 mod node;
 mod or_many;
 mod order;
 mod proximity;
 mod range_node;
+mod repeats;
 mod skip;
 mod top;
 mod xor_many;
@@ -18,8 +20,10 @@ pub use begun::{
     one_side, or_many_of, pair_of, positional_of, synonym_over, with_more, xor_many_of,
 };
 pub use leaf::{Leaf, ListOf, list_length};
+pub use merge::{mark_of, merge_of};
 pub use moves::reach;
 pub use node::Node;
 pub use proximity::{Proximity, ProximityKind};
 pub use range_node::RangeNode;
+pub use sk_buckets::Mark;
 pub use top::{END, Top};

@@ -12,6 +12,7 @@ ghost use Rattle.sk_nodes.specs.OrMany.{AreMoved, HaveLed, AreWeighed, AreEnded}
 ghost use Rattle.sk_nodes.specs.Proximity.{entries_unread};
 
 use crate::many::{FEW, sides_greatest, sum_of};
+use crate::merge::seek_merge;
 use crate::node::{Node, settle};
 use crate::or_many::{first_of, weight_at};
 use crate::proximity::Proximity;
@@ -123,6 +124,9 @@ fn seek<L: Ledger>(
         Node::XorMany(tops, nodes) => seek_xor_many(top, tops, nodes, index, target, spent, steps),
         Node::OrMany(tops, nodes) => seek_or_many(
             top, tops, nodes, index, target, need, spent, steps,
+        ),
+        Node::Merge(queue, leaves) => seek_merge(
+            top, queue, leaves, index, target, need, spent, steps,
         ),
         Node::Positional(test, below, node) => seek_positional(
             top, test, below, node, index, target, need, spent, steps,

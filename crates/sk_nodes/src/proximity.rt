@@ -1,16 +1,20 @@
 //! Terms that have to stand near, or as a phrase.
-ghost use Rattle.std.specs.Prelude.{◌≡◌, ◌≤◌, ◌<◌, ◌+◌, ◌^◌, true, false, max, length, Some};
+ghost use Rattle.std.specs.Prelude.{◌≡◌, ◌≤◌, ◌<◌, ◌+◌, ◌^◌, true, false, max, length, Some, IfOk};
 ghost use Rattle.sk_model.specs.Combining.{where_so};
+ghost use Rattle.sk_model.specs.Positions.{is_near, is_phrase};
 ghost use Rattle.sk_nodes.specs.Accounts.{Spends};
 ghost use Rattle.sk_nodes.specs.Skips.{WeighsBelow};
-ghost use Rattle.sk_nodes.specs.Proximity.{stand, positions_in, holds_in, entries_unread, AreThere, IsInAll, CanTest, IsSameTest};
+ghost use Rattle.sk_nodes.specs.Proximity.{positions_in, holds_in, entries_unread, AreThere, IsInAll, CanTest, IsSameTest, IsTestOf};
+ghost use Rattle.sk_nodes.specs.Repeats.{HaveSame, AreRunEnds};
 
+use crate::repeats::{PlacesInRuns, each_once, run_ends};
 use crate::top::Top;
 use sk_base::{DocId, Weight};
 use sk_decay::Head;
 use sk_index::Index;
 use sk_near::{near, phrase};
 use sk_steps::Steps;
+use std::alloc::{AllocError, Global};
 use std::sync::ledger::Ledger;
 
 /// How terms have to stand.
@@ -21,19 +25,46 @@ pub enum ProximityKind {
 }
 
 /// A test of documents that have all of some terms, by their numbers: whether these stand so. No document before `next`
-/// is read any more. The marks are memory for a place of each term among its positions, the places for one among the terms of
-/// a document.
+/// is read any more. Near wants each number once, a phrase where runs of equal ones end. The marks are memory for a place
+/// of each term among its positions, the places for one among the terms of a document.
 #[derive(Drop)]
 pub struct Proximity {
     pub kind: ProximityKind,
     pub window: u32,
     pub numbers: Vec<usize>,
-    pub marks: Vec<u32>,
-    pub places: Vec<u32>,
+    once: Vec<usize>,
+    ends: Vec<usize>,
+    marks: Vec<u32>,
+    places: Vec<u32>,
     pub next: Head,
 }
 
 impl Proximity {
+    /// A test before its first document.
+    pub fn new(
+        alloc: Global,
+        kind: ProximityKind,
+        window: u32,
+        numbers: Vec<usize>,
+    ) -> Result<Proximity, AllocError>
+        ensures { IfOk result (IsTestOf kind window numbers.items) }
+    {
+        let once = each_once(alloc, numbers.as_slice())?;
+        let ends = run_ends(alloc, numbers.as_slice())?;
+        let marks = Vec::from_elem(alloc, 0, numbers.len())?;
+        let places = Vec::from_elem(alloc, 0, numbers.len())?;
+        Ok(Proximity {
+            kind,
+            window,
+            numbers,
+            once,
+            ends,
+            marks,
+            places,
+            next: 0,
+        })
+    }
+
     /// Whether the document at a head weighs what is needed, and the terms, which it all has, stand so in it. In one that
     /// weighs less nothing is read.
     pub(crate) fn passes<L: Ledger>(
@@ -85,24 +116,29 @@ impl Proximity {
         }
         self.next = head + 1;
         *spent += self.numbers.len() as u128;
-        stand_so(
-            self.kind,
-            self.window,
-            self.numbers.as_slice(),
-            self.marks.as_mut_slice(),
-            self.places.as_mut_slice(),
-            index,
-            head as DocId,
-            steps,
-        )
+        let numbers = self.numbers.as_slice();
+        let marks = self.marks.as_mut_slice();
+        let places = self.places.as_mut_slice();
+        let id = head as DocId;
+        match self.kind {
+            ProximityKind::Near => {
+                let once = self.once.as_slice();
+                stand_near(self.window, numbers, once, marks, places, index, id, steps)
+            }
+            ProximityKind::Phrase => {
+                let ends = self.ends.as_slice();
+                stand_as_phrase(self.window, numbers, ends, marks, places, index, id, steps)
+            }
+        }
     }
 }
 
-/// Whether the terms stand so in the document, by their positions, which are read once.
-fn stand_so<L: Ledger>(
-    kind: ProximityKind,
+/// Whether the terms stand near in the document, by their positions. They may coincide, so a term that comes again makes
+/// no difference to the test; the rule counts it again.
+fn stand_near<L: Ledger>(
     window: u32,
     numbers: &[usize],
+    once: &[usize],
     marks: &mut [u32],
     places: &mut [u32],
     index: &Index,
@@ -114,12 +150,37 @@ fn stand_so<L: Ledger>(
     requires marks { length numbers.now ≤ length marks.old }
     requires places { length numbers.now ≤ length places.old }
     requires there { AreThere index.now numbers.now }
-    ensures value { result ≡ stand kind window (positions_in index.now numbers.now id) }
+    requires once { HaveSame numbers.now once.now }
+    ensures value { result ≡ is_near window (positions_in index.now numbers.now id) }
+    ensures cost { steps.new ≡ steps.old + length numbers.now }
+{
+    'again: for _ in 0..numbers.len() - once.len() {
+        steps.tick();
+    }
+    let places = index.all_places(once, id, places, steps);
+    near(&places, window, marks)
+}
+
+/// Whether the terms stand as a phrase in the document, by their positions, which are read once.
+fn stand_as_phrase<L: Ledger>(
+    window: u32,
+    numbers: &[usize],
+    ends: &[usize],
+    marks: &mut [u32],
+    places: &mut [u32],
+    index: &Index,
+    id: DocId,
+    steps: &mut Steps<L>,
+) -> bool
+    requires some { 1 ≤ length numbers.now }
+    requires wide { 1 ≤ window }
+    requires marks { length numbers.now ≤ length marks.old }
+    requires places { length numbers.now ≤ length places.old }
+    requires there { AreThere index.now numbers.now }
+    requires ends { AreRunEnds ends.now numbers.now }
+    ensures value { result ≡ is_phrase window (positions_in index.now numbers.now id) }
     ensures cost { steps.new ≡ steps.old + length numbers.now }
 {
     let places = index.all_places(numbers, id, places, steps);
-    match kind {
-        ProximityKind::Near => near(&places, window, marks),
-        ProximityKind::Phrase => phrase(&places, window, marks),
-    }
+    phrase(&PlacesInRuns::new(places, ends), window, marks)
 }

@@ -6,8 +6,10 @@ pub mod ProximityOpenLaws
 pub mod WordLaws
 pub mod NestLaws
 pub mod PartsLaws
+pub mod EqualLaws
 pub mod FormLaws
 pub mod OrManyOpenLaws
+pub mod MergeOpenLaws
 pub mod LedLaws
 pub mod OpenedFadingLaws
 pub mod OpenedQueryLaws

@@ -33,7 +33,8 @@ use Rattle.sk_nodes.specs.Left.{rest}
 use Rattle.sk_nodes.specs.Sound.{Sound, IsPositional}
 use Rattle.sk_tree.specs.Opened.{part_count, score_of, joint_score_of, parts_size, term_trees, AreParts, Opens, proximity_query, numbered}
 use Rattle.sk_nodes.specs.Begun.{Yields}
-use Rattle.sk_nodes.specs.Proximity.{stand, holds_in, entries_unread, AreThere, AreInOrder, IsInAll}
+use Rattle.sk_nodes.specs.Repeats.{HaveSame, AreRunEnds}
+use Rattle.sk_nodes.specs.Proximity.{stand, holds_in, entries_unread, AreThere, AreInOrder, IsInAll, IsTestOf}
 use Rattle.sk_index.proofs.NumberLemmas.{length-postings}
 use Rattle.sk_nodes.proofs.ListLaws.{wdf_at, found-postings}
 use Rattle.sk_nodes.proofs.BegunLaws.{from_zero}
@@ -268,35 +269,44 @@ entries_all i (n ∷ ns) =
 
 -- ---- the node of an and, and a test
 
--- a test before its first document
-pub test_opened : (i : Indexed) (p : Proximity) (t : Top) (s : Shape) (ts : List (List ℕ)) (scheme : Scheme) (factor most : ℕ) → (is_window p.window && are_given ts) ≡ true → map (term_at i.terms) p.numbers.items ≡ ts
-    → length p.numbers.items ≤ length p.marks.items → length p.numbers.items ≤ length p.places.items → AreThere i p.numbers.items → AreInOrder i p.numbers.items → p.next ≡ 0 → AreSorted i.live.documents
-    → Opens i t s (joint_score_of Form.And (term_trees ts) scheme factor) most → IsPositional i p t s (Sound i s)
-test_opened i p t s ts scheme factor most given named marks places there sorted next documents opens = record {
-  test = record {
-    some = omega (arith, terms_some p.window ts given, ap length named, named_length (term_at i.terms) p.numbers.items);
-    wide = terms_wide p.window ts given;
-    marks = marks;
-    places = places;
-    there = there;
-    sorted = sorted;
-  };
-  top = opens.top;
-  sound = opens.sound;
-  within = λ id w e. and_within i p.numbers.items ts scheme factor id w documents named (sym (opens.gives id) ∙ e);
-  ahead = omega (arith, next);
-  small = omega (arith, next);
-  known = λ lt. absurd (omega (arith, lt, next));
-}
+-- what has to be read for a new test
+pub test_unread : (i : Indexed) (kind : ProximityKind) (window : ℕ) (ns : List ℕ) (p : Proximity) → IsTestOf kind window ns p → entries_unread i p.next p.numbers.items ≡ entries_unread i 0 ns
+test_unread i kind window ns p is = ap (λ n. entries_unread i n p.numbers.items) is.next ∙ ap (λ (ms : List ℕ). entries_unread i 0 ms) is.numbers
 
--- what passes it is what the terms score that stand so
-pub proximity_opened : (i : Indexed) (p : Proximity) (below t : Top) (s r : Shape) (ts : List (List ℕ)) (scheme : Scheme) (factor most : ℕ) → map (term_at i.terms) p.numbers.items ≡ ts
-    → Opens i below s (joint_score_of Form.And (term_trees ts) scheme factor) most → most ≡ terms_ceil scheme factor ts i.live.documents
-    → Yields i t r (λ id. where_so (holds_in i p id) (rest i s id)) below.greatest
-    → Opens i t r (score_of (proximity_query p.kind p.window ts) scheme factor) (terms_ceil scheme factor ts i.live.documents)
-proximity_opened i p below t s r ts scheme factor most named opens bound h = record {
-  top = h.top;
-  sound = h.sound;
-  gives = λ id. h.gives id ∙ ap (where_so (holds_in i p id)) (opens.gives id) ∙ proximity_scores i p ts scheme factor id named;
-  ceiling = omega (arith, h.ceiling, opens.ceiling, bound);
-}
+module _ (i : Indexed) (kind : ProximityKind) (window : ℕ) (ns : List ℕ) (p : Proximity) (is : IsTestOf kind window ns p) (ts : List (List ℕ)) (scheme : Scheme) (factor most : ℕ) (named : map (term_at i.terms) ns ≡ ts) where
+  -- a test before its first document
+  pub test_opened : (t : Top) (s : Shape) → (is_window window && are_given ts) ≡ true → AreThere i ns → AreInOrder i ns → AreSorted i.live.documents
+      → Opens i t s (joint_score_of Form.And (term_trees ts) scheme factor) most → IsPositional i p t s (Sound i s)
+  test_opened t s given there sorted documents opens = record {
+    test = record {
+      some = omega (arith, terms_some window ts given, ap length named, named_length (term_at i.terms) ns, ap length is.numbers);
+      wide = omega (arith, terms_wide window ts given, is.window);
+      marks = omega (arith, is.marks, ap length is.numbers);
+      places = omega (arith, is.places, ap length is.numbers);
+      there = subst (λ (ms : List ℕ). AreThere i ms) (sym is.numbers) there;
+      sorted = subst (λ (ms : List ℕ). AreInOrder i ms) (sym is.numbers) sorted;
+      once = subst (λ (ms : List ℕ). HaveSame ms p.once.items) (sym is.numbers) is.once;
+      ends = subst (λ (ms : List ℕ). AreRunEnds p.ends.items ms) (sym is.numbers) is.ends;
+    };
+    top = opens.top;
+    sound = opens.sound;
+    within = λ id w e. subst (λ (ms : List ℕ). IsInAll i id ms) (sym is.numbers) (and_within i ns ts scheme factor id w documents named (sym (opens.gives id) ∙ e));
+    ahead = omega (arith, is.next);
+    small = omega (arith, is.next);
+    known = λ lt. absurd (omega (arith, lt, is.next));
+  }
+
+  test_scores : (id : ℕ) → where_so (holds_in i p id) (joint_score_of Form.And (term_trees ts) scheme factor (document_at id i.live.documents)) ≡ score_of (proximity_query kind window ts) scheme factor (document_at id i.live.documents)
+  test_scores id =
+      proximity_scores i p ts scheme factor id (ap (map (term_at i.terms)) is.numbers ∙ named)
+      ∙ ap (λ k. score_of (proximity_query k p.window ts) scheme factor (document_at id i.live.documents)) is.kind ∙ ap (λ w. score_of (proximity_query kind w ts) scheme factor (document_at id i.live.documents)) is.window
+
+  -- what passes it is what the terms score that stand so
+  pub proximity_opened : (below t : Top) (s r : Shape) → Opens i below s (joint_score_of Form.And (term_trees ts) scheme factor) most → most ≡ terms_ceil scheme factor ts i.live.documents
+      → Yields i t r (λ id. where_so (holds_in i p id) (rest i s id)) below.greatest → Opens i t r (score_of (proximity_query kind window ts) scheme factor) (terms_ceil scheme factor ts i.live.documents)
+  proximity_opened below t s r opens bound h = record {
+    top = h.top;
+    sound = h.sound;
+    gives = λ id. h.gives id ∙ ap (where_so (holds_in i p id)) (opens.gives id) ∙ test_scores id;
+    ceiling = omega (arith, h.ceiling, opens.ceiling, bound);
+  }

@@ -52,7 +52,7 @@ wdf_sum-append : (xs ys : List (List ℕ)) (terms : List DocTerm) → wdf_sum (x
 wdf_sum-append [] ys terms = omega arith
 wdf_sum-append (x ∷ xs) ys terms = let rest = wdf_sum-append xs ys terms in omega (arith, rest)
 
-lengths_of-append : (xs ys : List (List ℕ)) (docs : Docs) → lengths_of (xs ++ ys) docs ≡ lengths_of xs docs + lengths_of ys docs
+pub lengths_of-append : (xs ys : List (List ℕ)) (docs : Docs) → lengths_of (xs ++ ys) docs ≡ lengths_of xs docs + lengths_of ys docs
 lengths_of-append [] ys docs = omega arith
 lengths_of-append (x ∷ xs) ys docs = let rest = lengths_of-append xs ys docs in omega (arith, rest)
 
@@ -81,7 +81,7 @@ sum_of_both false true x y h g = ap (λ n. Some ((n + y) * 1)) (h refl) ∙ ap S
 sum_of_both false false x y h g = refl
 
 -- the wdfs of two pieces
-wdfs-split : (xs ys : List (List ℕ)) (o : Option Document)
+pub wdfs-split : (xs ys : List (List ℕ)) (o : Option Document)
     → score_of (Trees.synonym (xs ++ ys)) Scheme.Nnn 1 o ≡ paired Form.Or (score_of (Trees.synonym xs) Scheme.Nnn 1 o) (score_of (Trees.synonym ys) Scheme.Nnn 1 o)
 wdfs-split xs ys None = sym (paired-none Form.Or)
 wdfs-split xs ys (Some d) =
@@ -103,7 +103,7 @@ small_if : (test : Bool) (w n : ℕ) → w ≤ n → (cond test w 0) ≤ n
 small_if true w n h = h
 small_if false w n h = omega arith
 
-term_small : (scheme : Scheme) (factor : ℕ) (t : List ℕ) (docs : Docs) → All IsLight docs → term_ceil scheme factor t docs ≤ weigh_by factor scheme (2 ^ 29 - 1)
+pub term_small : (scheme : Scheme) (factor : ℕ) (t : List ℕ) (docs : Docs) → All IsLight docs → term_ceil scheme factor t docs ≤ weigh_by factor scheme (2 ^ 29 - 1)
 term_small scheme factor t docs light =
     small_if (nat_lt 0 (length_of t docs)) (weigh_by factor scheme (greatest_of t docs)) (weigh_by factor scheme (2 ^ 29 - 1))
     (let less = greatest_light t docs light in weigh_more factor scheme (greatest_of t docs) (2 ^ 29 - 1) (omega (arith, less)))
@@ -183,7 +183,7 @@ pub read_one : (ns : List ℕ) (d : ℕ) → length ns ≡ 1 → slice_index_or 
 read_one [] d e = refl
 read_one (n ∷ ns) d e = refl
 
-one_score : (scheme : Scheme) (factor : ℕ) (t : List ℕ) (o : Option Document) → score_of (Trees.term t) scheme factor o ≡ score_of (Trees.synonym (t ∷ [])) scheme factor o
+pub one_score : (scheme : Scheme) (factor : ℕ) (t : List ℕ) (o : Option Document) → score_of (Trees.term t) scheme factor o ≡ score_of (Trees.synonym (t ∷ [])) scheme factor o
 one_score scheme factor t None = refl
 one_score scheme factor t (Some d) = by (has_term t d.terms) (wdf_of t d.terms)
   where

@@ -1,6 +1,7 @@
 pub mod Built
 pub mod Opened
 pub mod Parts
+pub mod Equal
 pub mod OpenedLed
 pub mod Stops
 pub mod Rare
@@ -9,4 +10,5 @@ pub mod Decays
 pub mod Kept
 pub mod OpenedAccounts
 pub mod Nests
+pub mod Sums
 pub mod Readings

@@ -10,15 +10,17 @@ ghost use Rattle.sk_model.specs.Bounds.{sum_in, ceil, ceils, ceil_of, term_ceil,
 ghost use Rattle.sk_model.specs.Allowance.{leaf_readings, leaves_readings};
 ghost use Rattle.sk_model.specs.Sharp.{terms_in};
 ghost use Rattle.sk_tree.specs.Readings.{Pays, CountsReadings};
-ghost use Rattle.sk_nodes.specs.Leaves.{IsThere, list_in, weighed, leaf_greatest};
-ghost use Rattle.sk_nodes.specs.Shapes.{shape_of, sides_on};
+ghost use Rattle.sk_nodes.specs.Leaves.{IsThere, list_in, weighed, leaf_greatest, leaf_unread};
+ghost use Rattle.sk_nodes.specs.Shapes.{leaf, shape_of, sides_on};
 ghost use Rattle.sk_nodes.specs.Left.{unread_of, unread_in};
 ghost use Rattle.sk_tree.specs.Nests.{OpensTerms};
 ghost use Rattle.sk_tree.specs.OpenedAccounts.{OpensList, OpensTerm, OpensQuery, OpensParts};
 ghost use Rattle.sk_tree.specs.Opened.{proximity_query, CanRead, CanOpen, IsPart, score_of, part_scores, OpensSides, joint_score_of, AreParts, Opens};
 ghost use Rattle.sk_nodes.specs.Begun.{Yields};
 
-use crate::parts::{is_many, is_nest, only_part, others_of, parts_of, side_halves, split_parts};
+use crate::parts::{
+    as_one, is_many, is_nest, only_part, others_of, parts_of, side_halves, split_parts,
+};
 use crate::ranges::open_range;
 use crate::synonym::{open_synonym, open_wildcard};
 use crate::words::{add_lengths, numbers_of, raise, terms_of};
@@ -161,16 +163,7 @@ fn open_proximity<L: Ledger>(
         steps,
     )?;
     add_lengths(index, numbers.as_slice(), most)?;
-    let marks = Vec::from_elem(alloc, 0, numbers.len())?;
-    let places = Vec::from_elem(alloc, 0, numbers.len())?;
-    let test = Proximity {
-        kind,
-        window,
-        numbers,
-        marks,
-        places,
-        next: 0,
-    };
+    let test = Proximity::new(alloc, kind, window, numbers)?;
     let (top, node) = positional_of(alloc, index, test, below, node, spent, steps)?;
     Ok((top, node))
 }
@@ -198,12 +191,15 @@ fn open_parts<L: Ledger>(
     if let Some(part) = only_part(parts) {
         return open_node(alloc, index, part, scheme, factor, most, spent, steps);
     }
+    if let Some((part, all)) = as_one(form, parts, factor) {
+        return open_node(alloc, index, part, scheme, all, most, spent, steps);
+    }
     if !is_nest(form, parts) {
         let (tops, nodes) = open_sides(alloc, index, parts, scheme, factor, most, spent, steps)?;
         let (top, node) = xor_many_of(index, tops, nodes, spent, steps);
         return Ok((top, node));
     }
-    if is_many(form, parts.len()) {
+    if is_many(form, parts) {
         let (all_tops, all_nodes) = open_sides(
             alloc, index, parts, scheme, factor, most, spent, steps,
         )?;
@@ -357,9 +353,32 @@ fn open_leaf<L: Ledger>(
     ensures counts { CountsReadings spent.old spent.new steps.old steps.new most.new }
     ensures list { IfOk result (λ p. OpensList index.now p.0 (shape_of p.1) (list_in index.now source) (leaf_greatest factor scheme (list_in index.now source)) spent.old spent.new) }
 {
+    let (top, leaf) = open_entries(index, source, scheme, factor, most, spent, steps)?;
+    Ok((top, Node::Leaf(leaf)))
+}
+
+/// The entries of a list, not yet as a node, and their top.
+pub(crate) fn open_entries<L: Ledger>(
+    index: &Index,
+    source: ListOf,
+    scheme: Scheme,
+    factor: u64,
+    most: &mut u128,
+    spent: &mut u128,
+    steps: &mut Steps<L>,
+) -> Result<(Top, Leaf), AllocError>
+    requires there { IsThere source index.now.terms }
+    requires factor { factor ≤ 65536 }
+    requires can { CanRead index.now spent.old most.old }
+    ensures yields { IfOk result (λ p. Yields index.now p.0 (leaf p.1) (weighed factor scheme (list_in index.now source)) (leaf_greatest factor scheme (list_in index.now source))) }
+    ensures pays { IfOk result (λ p. Pays spent.old spent.new most.old most.new (leaf_unread index.now p.1) (length (list_in index.now source))) }
+    ensures exact { IfOk result (λ p. most.new ≡ most.old + length (list_in index.now source)) }
+    ensures counts { CountsReadings spent.old spent.new steps.old steps.new most.new }
+    ensures list { IfOk result (λ p. OpensList index.now p.0 (leaf p.1) (list_in index.now source) (leaf_greatest factor scheme (list_in index.now source)) spent.old spent.new) }
+{
     let length = list_length(index, source);
     raise(most, length)?;
     let mut top = Top::ended();
     let leaf = Leaf::open(&mut top, index, source, scheme, factor, spent, steps);
-    Ok((top, Node::Leaf(leaf)))
+    Ok((top, leaf))
 }

@@ -1,5 +1,5 @@
 //! How the node of terms that count as one is opened: those of a synonym, and those that begin with a prefix.
-ghost use Rattle.std.specs.Prelude.{◌≡◌, ◌≤◌, ◌<◌, ◌+◌, ◌-◌, ◌^◌, ℕ, true, map, ◌++◌, min, IfOk, length, Option};
+ghost use Rattle.std.specs.Prelude.{◌≡◌, ◌≤◌, ◌<◌, ◌+◌, ◌-◌, ◌^◌, ℕ, true, [], ◌∷◌, map, ◌++◌, min, IfOk, length, Option};
 ghost use Rattle.sk_base.specs.declared.find.Scheme.{Scheme};
 ghost use Rattle.sk_base.specs.Numbers.{terms_with};
 ghost use Rattle.sk_dict.specs.Terms.{term_at};
@@ -12,23 +12,27 @@ ghost use Rattle.sk_model.specs.Bounds.{ceil, lengths_of};
 ghost use Rattle.sk_model.specs.Allowance.{leaf_readings};
 ghost use Rattle.sk_index.specs.Indexed.{Indexed};
 ghost use Rattle.sk_tree.specs.Readings.{Pays, CountsReadings};
-ghost use Rattle.sk_nodes.specs.Shapes.{shape_of};
-ghost use Rattle.sk_nodes.specs.Left.{unread_of};
+ghost use Rattle.sk_nodes.specs.Shapes.{shape_of, merged};
+ghost use Rattle.sk_nodes.specs.Left.{unread_of, unread_in, greatest_sum};
 ghost use Rattle.sk_tree.specs.Nests.{OpensAsOne, OpensNest, OpensFlat};
+ghost use Rattle.sk_tree.specs.Sums.{OpensSums};
 ghost use Rattle.sk_nodes.specs.Proximity.{AreThere};
 ghost use Rattle.sk_tree.specs.Parts.{NumberHalves};
 ghost use Rattle.sk_tree.specs.Opened.{CanOpen, IsPart, score_of, synonym_of, wdfs_of, Opens};
 
-use crate::opening::open_numbered;
+use crate::opening::{open_entries, open_numbered};
 use crate::words::numbers_of;
 use sk_base::{MOST_WDF, Scheme, Text, Weight};
 use sk_index::Index;
-use sk_nodes::{Node, Top, pair_of, synonym_over};
+use sk_nodes::{Leaf, ListOf, Mark, Node, Top, mark_of, merge_of, pair_of, synonym_over};
 use sk_query::{Form, Query};
 use sk_steps::Steps;
 use sk_weight::ceil;
 use std::alloc::{AllocError, Global};
 use std::sync::ledger::Ledger;
+
+/// So few terms are put together two by two: a node of two sides may leave one out under a need.
+const FEW_TERMS: usize = 3;
 
 /// The node of a synonym, which weighs no more than a synonym can.
 pub(crate) fn open_synonym<L: Ledger>(
@@ -127,8 +131,8 @@ fn open_joint<L: Ledger>(
     Ok((top, node))
 }
 
-/// The node that gives the sums of wdfs of terms, by their numbers: of two halves, so that a document is looked for in few of
-/// them.
+/// The node that gives the sums of wdfs of terms, by their numbers: of few it is one of two halves, and of more one of all
+/// their lists.
 #[cycle(open_sums)]
 fn open_sums<L: Ledger>(
     alloc: Global,
@@ -152,11 +156,81 @@ fn open_sums<L: Ledger>(
     if numbers.len() == 1 {
         return open_one(index, numbers, Scheme::Nnn, 1, most, spent, steps);
     }
+    if FEW_TERMS < numbers.len() {
+        return open_many(alloc, index, numbers, most, spent, steps);
+    }
     let (front, back) = number_halves(numbers);
     let (ta, a) = open_sums(alloc, index, front, most, spent, steps)?;
     let (tb, b) = open_sums(alloc, index, back, most, spent, steps)?;
     let (top, node) = pair_of(alloc, index, Form::Or, ta, a, tb, b, spent, steps)?;
     Ok((capped(top, Weight::from(MOST_WDF)), node))
+}
+
+/// The same of many terms: one node of all lists, each kept by the id at which it stands.
+fn open_many<L: Ledger>(
+    alloc: Global,
+    index: &Index,
+    numbers: &[usize],
+    most: &mut u128,
+    spent: &mut u128,
+    steps: &mut Steps<L>,
+) -> Result<(Top, Node), AllocError>
+    requires there { AreThere index.now numbers.now }
+    requires apart { are_different (map (term_at index.now.terms) numbers.now) ≡ true }
+    requires can { CanOpen index.now 1 spent.old most.old }
+    ensures opens { IfOk result (λ p. Opens index.now p.0 (shape_of p.1) (wdfs_of index.now numbers.now) (2 ^ 29 - 1)) }
+    ensures pays { IfOk result (λ p. Pays spent.old spent.new most.old most.new (unread_of index.now (shape_of p.1)) (lengths_of (map (term_at index.now.terms) numbers.now) index.now.live.documents)) }
+    ensures counts { CountsReadings spent.old spent.new steps.old steps.new most.new }
+    ensures nest { IfOk result (λ p. OpensNest index.now Form.Or (shape_of p.1) (map (term_at index.now.terms) numbers.now) spent.old spent.new) }
+{
+    let (marks, leaves) = open_lists(alloc, index, numbers, most, spent, steps)?;
+    let (top, node) = merge_of(alloc, index, marks, leaves)?;
+    Ok((capped(top, Weight::from(MOST_WDF)), node))
+}
+
+/// The lists of terms, by their numbers, each with where it stands.
+fn open_lists<L: Ledger>(
+    alloc: Global,
+    index: &Index,
+    numbers: &[usize],
+    most: &mut u128,
+    spent: &mut u128,
+    steps: &mut Steps<L>,
+) -> Result<(Vec<Mark>, Vec<Leaf>), AllocError>
+    requires there { AreThere index.now numbers.now }
+    requires can { CanOpen index.now 1 spent.old most.old }
+    ensures opens { IfOk result (λ p. OpensSums index.now (merged p.0.items p.1.items) (map (term_at index.now.terms) numbers.now) spent.old spent.new) }
+    ensures fits { IfOk result (λ p. greatest_sum (merged p.0.items p.1.items) < 2 ^ 127) }
+    ensures pays { IfOk result (λ p. Pays spent.old spent.new most.old most.new (unread_in index.now (merged p.0.items p.1.items)) (lengths_of (map (term_at index.now.terms) numbers.now) index.now.live.documents)) }
+    ensures counts { CountsReadings spent.old spent.new steps.old steps.new most.new }
+{
+    let mut marks = Vec::with_capacity(alloc, numbers.len())?;
+    let mut leaves = Vec::with_capacity(alloc, numbers.len())?;
+    'numbers: for number in numbers {
+        let (mark, leaf) = open_list(index, *number, most, spent, steps)?;
+        marks.push(mark)?;
+        leaves.push(leaf)?;
+    }
+    Ok((marks, leaves))
+}
+
+/// The list of one term, with where it stands.
+fn open_list<L: Ledger>(
+    index: &Index,
+    number: usize,
+    most: &mut u128,
+    spent: &mut u128,
+    steps: &mut Steps<L>,
+) -> Result<(Mark, Leaf), AllocError>
+    requires there { number < length index.now.terms }
+    requires can { CanOpen index.now 1 spent.old most.old }
+    ensures opens { IfOk result (λ p. OpensSums index.now (merged (p.0 ∷ []) (p.1 ∷ [])) (term_at index.now.terms number ∷ []) spent.old spent.new) }
+    ensures pays { IfOk result (λ p. Pays spent.old spent.new most.old most.new (unread_in index.now (merged (p.0 ∷ []) (p.1 ∷ []))) (lengths_of (term_at index.now.terms number ∷ []) index.now.live.documents)) }
+    ensures counts { CountsReadings spent.old spent.new steps.old steps.new most.new }
+{
+    let list = ListOf::Term(number);
+    let (top, leaf) = open_entries(index, list, Scheme::Nnn, 1, most, spent, steps)?;
+    Ok((mark_of(&top), leaf))
 }
 
 /// The leaf of the one term.

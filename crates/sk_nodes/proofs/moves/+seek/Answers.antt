@@ -3,13 +3,14 @@ use Rattle.std.proofs.Common.{◌≡◌, ◌+◌, ◌^◌, ◌++◌, refl, sym, 
 use Rattle.std.proofs.lemmas.List.{places}
 use Rattle.sk_model.specs.Covers.{Covers}
 use Rattle.sk_nodes.specs.declared.top.Top.{Top}
+use Rattle.sk_nodes.specs.declared.leaf.Leaf.{Leaf}
 use Rattle.sk_nodes.specs.declared.node.Node.{Node}
 use Rattle.sk_nodes.specs.Shapes.{Shape, Sides, side, ended, range, pair, xor_many, or_many, positional, synonym, shape_of, size_of, sides_on, sizes_in}
 use Rattle.sk_nodes.specs.Left.{rest, from_on, greatest_sum, unread_of, unread_in}
 use Rattle.sk_nodes.specs.Sound.{IsTop, Sound, AreSound, IsPositional}
 use Rattle.sk_nodes.specs.Many.{AreFrom, AreSought, followed_by}
 use Rattle.sk_nodes.proofs.LeafLaws.{AtMost-covers}
-use Rattle.sk_nodes.proofs.NodeLaws.{sound_fits, ended_top, greatest_within, covers_more, capped_top, shape_of-Nothing, shape_of-Leaf, shape_of-Pair, leaf_shape, shape_of-Positional, positional_shape, shape_of-Synonym, synonym_shape, parts_shape, sought_along, greatest_under-mono, weight_le, target_ended, head_reached, pair_top, pair_top_ended, sides_covers, sides_covers_ended, sides_begun, sides_more, pair_covers, xor_many_shape, xor_many_written, or_many_shape, or_many_written}
+use Rattle.sk_nodes.proofs.NodeLaws.{sound_fits, ended_top, greatest_within, covers_more, capped_top, shape_of-Nothing, shape_of-Leaf, shape_of-Pair, leaf_shape, shape_of-Positional, positional_shape, shape_of-Synonym, synonym_shape, parts_shape, sought_along, greatest_under-mono, weight_le, target_ended, head_reached, pair_top, pair_top_ended, sides_covers, sides_covers_ended, sides_begun, sides_more, pair_covers, xor_many_shape, xor_many_written, or_many_shape, or_many_written, merge_shape, merge_written}
 use Rattle.sk_nodes.proofs.ManyLaws.{weights_fit, xor_begun, sides_cons, xor_covers, xor_more, xor_top, sides_split, sides_append, both_sound, sound_behind, from_behind, sought_behind, greatest_behind, unread_behind, sizes_behind, some_sizes}
 use Rattle.sk_nodes.specs.Proximity.{entries_unread}
 use Rattle.sk_nodes.proofs.ProximityLaws.{test_begun, moved_all, moved_covers, moved_ended, ended_test, passed_top, passed_sound, passed_covers, none_top, failed_ended_covers, failed_ended_sound, failed_more}
@@ -22,7 +23,7 @@ use Rattle.sk_nodes.specs.OrMany.{AreKept, AreMoved, AreWeighed}
 use Rattle.sk_nodes.proofs.RangeLaws.{shape_of-Range, range_shape}
 use Rattle.sk_nodes.proofs.ListLaws.{weigh_more}
 use Rattle.sk_nodes.proofs.SumLaws.{sums_none, sums_light, sums_gone, sums_covers, sums_accounts}
-use Rattle.sk_nodes.proofs.OrManyLaws.{none_head, moved_first, or_found, or_accounts, or_kept, size_some, or_top, or_covers, kept_behind, led_none, weighed_light, weighed_more, or_begun, or_led, or_weighed, or_on, or_matches, or_gone, or_gone_kept, ended_unread, ended_lands}
+use Rattle.sk_nodes.proofs.OrManyLaws.{none_head, moved_first, or_found, or_accounts, or_kept, size_some, or_top, or_covers, kept_behind, led_none, weighed_light, weighed_more, or_begun, or_led, or_round, or_on, or_matches, or_gone, or_gone_kept, ended_unread, ended_lands}
 use Rattle.sk_nodes.proofs.moves.+seek.Goals as goal
 
 -- ---- a node that is reached
@@ -96,6 +97,12 @@ seek-returns-in-OrMany-clause-sought g t c =
     (or_many_shape c.args.node.now c.in-OrMany.tops c.in-OrMany.nodes _ _ c.in-OrMany.is (c.deref_mut-in-OrMany.ensures.value ∙ ap (λ (v : Vec Top Global). v.items) c.in-OrMany.tops-is) (c.deref_mut-in-OrMany-2.ensures.value ∙ ap (λ (v : Vec Node Global). v.items) c.in-OrMany.nodes-is))
     (or_many_written _ _ c.seek_or_many.new.tops c.seek_or_many.new.nodes (search (rules, places)) (search (rules, places))) c.seek_or_many.ensures.sought
 
+pub seek-returns-in-Merge-clause-sought : goal.seek-returns-in-Merge-clause-sought
+seek-returns-in-Merge-clause-sought g t c =
+    sought_along c.args.index.now c.args.target c.args.need _ _ _ _ _ _ _ _ _
+    (merge_shape c.args.node.now c.in-Merge.queue c.in-Merge.leaves _ _ c.in-Merge.is c.in-Merge.queue-is (c.deref_mut-in-Merge.ensures.value ∙ ap (λ (v : Vec Leaf Global). v.items) c.in-Merge.leaves-is))
+    (merge_written _ _ c.seek_merge.new.leaves (search (rules, places))) c.seek_merge.ensures.sought
+
 pub seek-returns-in-Positional-clause-sought : goal.seek-returns-in-Positional-clause-sought
 seek-returns-in-Positional-clause-sought g t c =
     sought_along c.args.index.now c.args.target c.args.need _ _ _ _ _ _ _ _ _
@@ -125,6 +132,12 @@ seek-returns-in-OrMany-clause-accounts g t c =
     seek_along c.args.index.now c.args.target c.args.need c.args.spent.now c.seek_or_many.new.spent _ _ _ _ _
     (or_many_shape c.args.node.now c.in-OrMany.tops c.in-OrMany.nodes _ _ c.in-OrMany.is (c.deref_mut-in-OrMany.ensures.value ∙ ap (λ (v : Vec Top Global). v.items) c.in-OrMany.tops-is) (c.deref_mut-in-OrMany-2.ensures.value ∙ ap (λ (v : Vec Node Global). v.items) c.in-OrMany.nodes-is))
     (or_many_written _ _ c.seek_or_many.new.tops c.seek_or_many.new.nodes (search (rules, places)) (search (rules, places))) (seek_some c.args.index.now c.args.target c.args.need c.args.spent.now c.seek_or_many.new.spent (or_many _) (or_many _) _ (λ h. h) (λ h. h) (λ greatest first h. h) c.seek_or_many.ensures.accounts)
+
+pub seek-returns-in-Merge-clause-accounts : goal.seek-returns-in-Merge-clause-accounts
+seek-returns-in-Merge-clause-accounts g t c =
+    seek_along c.args.index.now c.args.target c.args.need c.args.spent.now c.seek_merge.new.spent _ _ _ _ _
+    (merge_shape c.args.node.now c.in-Merge.queue c.in-Merge.leaves _ _ c.in-Merge.is c.in-Merge.queue-is (c.deref_mut-in-Merge.ensures.value ∙ ap (λ (v : Vec Leaf Global). v.items) c.in-Merge.leaves-is))
+    (merge_written _ _ c.seek_merge.new.leaves (search (rules, places))) (seek_some c.args.index.now c.args.target c.args.need c.args.spent.now c.seek_merge.new.spent (or_many _) (or_many _) _ (λ h. h) (λ h. h) (λ greatest first h. h) c.seek_merge.ensures.accounts)
 
 pub seek-returns-in-Positional-clause-accounts : goal.seek-returns-in-Positional-clause-accounts
 seek-returns-in-Positional-clause-accounts g t c =
@@ -664,10 +677,8 @@ seek_some-returns-then-from-ge-END-clause-sought g t c =
           ended_lands i c.args.target c.args.need _ _ _ c.end_sides-then-from-ge-END.ensures.top c.end_sides-then-from-ge-END.ensures.over c.requires.target
           (or_gone i c.args.target c.args.need c.requires.needed c.args.spent.now (sides_on c.args.tops.now c.args.nodes.now) (c.lead-head.result + 1) c.weigh-weight.new.spent (sides_on c.weigh-weight.new.tops c.weigh-weight.new.nodes) (sides_on c.end_sides-then-from-ge-END.new.tops c.end_sides-then-from-ge-END.new.nodes) c.requires.sides.sides (omega (arith, c.if-from-ge-END.true))
           (or_on i c.args.target c.args.need c.requires.needed c.args.spent.now (sides_on c.args.tops.now c.args.nodes.now) c.lead-head.result c.weigh-weight.new.spent c.weigh-weight.result (sides_on c.lead-head.new.tops c.lead-head.new.nodes) (sides_on c.weigh-weight.new.tops c.weigh-weight.new.nodes)
-          (or_weighed i c.args.target c.args.need c.requires.needed c.args.spent.now (sides_on c.args.tops.now c.args.nodes.now) c.lead-head.result c.lead-head.new.spent c.weigh-weight.new.spent c.weigh-weight.result (sides_on c.lead-head.new.tops c.lead-head.new.nodes) (sides_on c.weigh-weight.new.tops c.weigh-weight.new.nodes) (omega (arith, c.if-head-ge-END.false))
-          (or_led i c.args.target c.args.need c.requires.needed c.args.spent.now (sides_on c.args.tops.now c.args.nodes.now) c.matches.from c.lead-head.result c.matches.spent c.lead-head.new.spent (sides_on c.matches.tops c.matches.nodes) (sides_on c.lead-head.new.tops c.lead-head.new.nodes) c.matches.invariant.within
-          c.matches.invariant.far c.lead-head.ensures.led c.lead-head.ensures.moved.sound c.lead-head.ensures.moved.falls c.lead-head.ensures.moved.smaller c.lead-head.ensures.moved.kept)
-          c.weigh-weight.ensures.weighed c.weigh-weight.ensures.moved.sound c.weigh-weight.ensures.moved.falls c.weigh-weight.ensures.moved.smaller c.weigh-weight.ensures.moved.kept)
+          (or_round i c.args.target c.args.need c.requires.needed c.args.spent.now (sides_on c.args.tops.now c.args.nodes.now) c.matches.from c.lead-head.result c.matches.spent c.lead-head.new.spent c.weigh-weight.new.spent c.weigh-weight.result (sides_on c.matches.tops c.matches.nodes) (sides_on c.lead-head.new.tops c.lead-head.new.nodes) (sides_on c.weigh-weight.new.tops c.weigh-weight.new.nodes)
+          c.matches.invariant.within (omega (arith, c.if-head-ge-END.false)) c.matches.invariant.far c.lead-head.ensures.led c.lead-head.ensures.moved c.weigh-weight.ensures.weighed c.weigh-weight.ensures.moved)
           c.weigh-weight.ensures.weighed (omega (arith, c.if-weight-need.false)))
           c.end_sides-then-from-ge-END.ensures.over);
       falls = omega (arith, ap (λ (u : Top). u.greatest) c.end_sides-then-from-ge-END.ensures.top);
@@ -680,10 +691,8 @@ seek_some-returns-then-from-ge-END-clause-accounts g t c =
     let i = c.args.index.now in
     or_gone_kept i c.args.target c.args.need c.requires.needed c.args.spent.now (sides_on c.args.tops.now c.args.nodes.now) (c.lead-head.result + 1) c.weigh-weight.new.spent (sides_on c.weigh-weight.new.tops c.weigh-weight.new.nodes) (sides_on c.end_sides-then-from-ge-END.new.tops c.end_sides-then-from-ge-END.new.nodes)
     (or_on i c.args.target c.args.need c.requires.needed c.args.spent.now (sides_on c.args.tops.now c.args.nodes.now) c.lead-head.result c.weigh-weight.new.spent c.weigh-weight.result (sides_on c.lead-head.new.tops c.lead-head.new.nodes) (sides_on c.weigh-weight.new.tops c.weigh-weight.new.nodes)
-    (or_weighed i c.args.target c.args.need c.requires.needed c.args.spent.now (sides_on c.args.tops.now c.args.nodes.now) c.lead-head.result c.lead-head.new.spent c.weigh-weight.new.spent c.weigh-weight.result (sides_on c.lead-head.new.tops c.lead-head.new.nodes) (sides_on c.weigh-weight.new.tops c.weigh-weight.new.nodes) (omega (arith, c.if-head-ge-END.false))
-    (or_led i c.args.target c.args.need c.requires.needed c.args.spent.now (sides_on c.args.tops.now c.args.nodes.now) c.matches.from c.lead-head.result c.matches.spent c.lead-head.new.spent (sides_on c.matches.tops c.matches.nodes) (sides_on c.lead-head.new.tops c.lead-head.new.nodes) c.matches.invariant.within
-    c.matches.invariant.far c.lead-head.ensures.led c.lead-head.ensures.moved.sound c.lead-head.ensures.moved.falls c.lead-head.ensures.moved.smaller c.lead-head.ensures.moved.kept)
-    c.weigh-weight.ensures.weighed c.weigh-weight.ensures.moved.sound c.weigh-weight.ensures.moved.falls c.weigh-weight.ensures.moved.smaller c.weigh-weight.ensures.moved.kept)
+    (or_round i c.args.target c.args.need c.requires.needed c.args.spent.now (sides_on c.args.tops.now c.args.nodes.now) c.matches.from c.lead-head.result c.matches.spent c.lead-head.new.spent c.weigh-weight.new.spent c.weigh-weight.result (sides_on c.matches.tops c.matches.nodes) (sides_on c.lead-head.new.tops c.lead-head.new.nodes) (sides_on c.weigh-weight.new.tops c.weigh-weight.new.nodes)
+    c.matches.invariant.within (omega (arith, c.if-head-ge-END.false)) c.matches.invariant.far c.lead-head.ensures.led c.lead-head.ensures.moved c.weigh-weight.ensures.weighed c.weigh-weight.ensures.moved)
     c.weigh-weight.ensures.weighed (omega (arith, c.if-weight-need.false)))
     c.end_sides-then-from-ge-END.ensures.over
 
@@ -695,20 +704,16 @@ seek_some-returns-then-weight-need-clause-sought g t c =
             let i = c.args.index.now in
             or_top i (sides_on c.weigh-weight.new.tops c.weigh-weight.new.nodes) _ c.weigh-weight.ensures.moved.sound
             (or_matches i c.args.target c.args.need c.requires.needed c.args.spent.now (sides_on c.args.tops.now c.args.nodes.now) c.lead-head.result c.weigh-weight.new.spent c.weigh-weight.result (sides_on c.lead-head.new.tops c.lead-head.new.nodes) (sides_on c.weigh-weight.new.tops c.weigh-weight.new.nodes) (omega (arith, c.if-head-ge-END.false))
-            (or_weighed i c.args.target c.args.need c.requires.needed c.args.spent.now (sides_on c.args.tops.now c.args.nodes.now) c.lead-head.result c.lead-head.new.spent c.weigh-weight.new.spent c.weigh-weight.result (sides_on c.lead-head.new.tops c.lead-head.new.nodes) (sides_on c.weigh-weight.new.tops c.weigh-weight.new.nodes) (omega (arith, c.if-head-ge-END.false))
-            (or_led i c.args.target c.args.need c.requires.needed c.args.spent.now (sides_on c.args.tops.now c.args.nodes.now) c.matches.from c.lead-head.result c.matches.spent c.lead-head.new.spent (sides_on c.matches.tops c.matches.nodes) (sides_on c.lead-head.new.tops c.lead-head.new.nodes) c.matches.invariant.within
-            c.matches.invariant.far c.lead-head.ensures.led c.lead-head.ensures.moved.sound c.lead-head.ensures.moved.falls c.lead-head.ensures.moved.smaller c.lead-head.ensures.moved.kept)
-            c.weigh-weight.ensures.weighed c.weigh-weight.ensures.moved.sound c.weigh-weight.ensures.moved.falls c.weigh-weight.ensures.moved.smaller c.weigh-weight.ensures.moved.kept)
+            (or_round i c.args.target c.args.need c.requires.needed c.args.spent.now (sides_on c.args.tops.now c.args.nodes.now) c.matches.from c.lead-head.result c.matches.spent c.lead-head.new.spent c.weigh-weight.new.spent c.weigh-weight.result (sides_on c.matches.tops c.matches.nodes) (sides_on c.lead-head.new.tops c.lead-head.new.nodes) (sides_on c.weigh-weight.new.tops c.weigh-weight.new.nodes)
+            c.matches.invariant.within (omega (arith, c.if-head-ge-END.false)) c.matches.invariant.far c.lead-head.ensures.led c.lead-head.ensures.moved c.weigh-weight.ensures.weighed c.weigh-weight.ensures.moved)
             c.weigh-weight.ensures.weighed (omega (arith, c.if-weight-need.true)))
             c.sides_greatest-top.ensures.there c.sides_greatest-top.ensures.ended;
         sound = search rules;
         covers =
             let i = c.args.index.now in
             or_found i c.args.target c.args.need c.requires.needed c.args.spent.now (sides_on c.args.tops.now c.args.nodes.now) c.lead-head.result c.weigh-weight.new.spent (sides_on c.weigh-weight.new.tops c.weigh-weight.new.nodes)
-            (or_weighed i c.args.target c.args.need c.requires.needed c.args.spent.now (sides_on c.args.tops.now c.args.nodes.now) c.lead-head.result c.lead-head.new.spent c.weigh-weight.new.spent c.weigh-weight.result (sides_on c.lead-head.new.tops c.lead-head.new.nodes) (sides_on c.weigh-weight.new.tops c.weigh-weight.new.nodes) (omega (arith, c.if-head-ge-END.false))
-            (or_led i c.args.target c.args.need c.requires.needed c.args.spent.now (sides_on c.args.tops.now c.args.nodes.now) c.matches.from c.lead-head.result c.matches.spent c.lead-head.new.spent (sides_on c.matches.tops c.matches.nodes) (sides_on c.lead-head.new.tops c.lead-head.new.nodes) c.matches.invariant.within
-            c.matches.invariant.far c.lead-head.ensures.led c.lead-head.ensures.moved.sound c.lead-head.ensures.moved.falls c.lead-head.ensures.moved.smaller c.lead-head.ensures.moved.kept)
-            c.weigh-weight.ensures.weighed c.weigh-weight.ensures.moved.sound c.weigh-weight.ensures.moved.falls c.weigh-weight.ensures.moved.smaller c.weigh-weight.ensures.moved.kept)
+            (or_round i c.args.target c.args.need c.requires.needed c.args.spent.now (sides_on c.args.tops.now c.args.nodes.now) c.matches.from c.lead-head.result c.matches.spent c.lead-head.new.spent c.weigh-weight.new.spent c.weigh-weight.result (sides_on c.matches.tops c.matches.nodes) (sides_on c.lead-head.new.tops c.lead-head.new.nodes) (sides_on c.weigh-weight.new.tops c.weigh-weight.new.nodes)
+            c.matches.invariant.within (omega (arith, c.if-head-ge-END.false)) c.matches.invariant.far c.lead-head.ensures.led c.lead-head.ensures.moved c.weigh-weight.ensures.weighed c.weigh-weight.ensures.moved)
             (c.weigh-weight.ensures.weighed.below (omega (arith, c.if-weight-need.true)));
         reached = omega arith;
       };
@@ -721,10 +726,8 @@ pub seek_some-returns-then-weight-need-clause-accounts : goal.seek_some-returns-
 seek_some-returns-then-weight-need-clause-accounts g t c =
     let i = c.args.index.now in
     or_kept i c.args.target c.args.need c.requires.needed c.args.spent.now (sides_on c.args.tops.now c.args.nodes.now) c.lead-head.result c.weigh-weight.new.spent (sides_on c.weigh-weight.new.tops c.weigh-weight.new.nodes)
-    (or_weighed i c.args.target c.args.need c.requires.needed c.args.spent.now (sides_on c.args.tops.now c.args.nodes.now) c.lead-head.result c.lead-head.new.spent c.weigh-weight.new.spent c.weigh-weight.result (sides_on c.lead-head.new.tops c.lead-head.new.nodes) (sides_on c.weigh-weight.new.tops c.weigh-weight.new.nodes) (omega (arith, c.if-head-ge-END.false))
-    (or_led i c.args.target c.args.need c.requires.needed c.args.spent.now (sides_on c.args.tops.now c.args.nodes.now) c.matches.from c.lead-head.result c.matches.spent c.lead-head.new.spent (sides_on c.matches.tops c.matches.nodes) (sides_on c.lead-head.new.tops c.lead-head.new.nodes) c.matches.invariant.within
-    c.matches.invariant.far c.lead-head.ensures.led c.lead-head.ensures.moved.sound c.lead-head.ensures.moved.falls c.lead-head.ensures.moved.smaller c.lead-head.ensures.moved.kept)
-    c.weigh-weight.ensures.weighed c.weigh-weight.ensures.moved.sound c.weigh-weight.ensures.moved.falls c.weigh-weight.ensures.moved.smaller c.weigh-weight.ensures.moved.kept)
+    (or_round i c.args.target c.args.need c.requires.needed c.args.spent.now (sides_on c.args.tops.now c.args.nodes.now) c.matches.from c.lead-head.result c.matches.spent c.lead-head.new.spent c.weigh-weight.new.spent c.weigh-weight.result (sides_on c.matches.tops c.matches.nodes) (sides_on c.lead-head.new.tops c.lead-head.new.nodes) (sides_on c.weigh-weight.new.tops c.weigh-weight.new.nodes)
+    c.matches.invariant.within (omega (arith, c.if-head-ge-END.false)) c.matches.invariant.far c.lead-head.ensures.led c.lead-head.ensures.moved c.weigh-weight.ensures.weighed c.weigh-weight.ensures.moved)
 
 pub lead-returns-then-most-need-clause-led : goal.lead-returns-then-most-need-clause-led
 lead-returns-then-most-need-clause-led g t c =
@@ -784,10 +787,8 @@ seek_some-matches-preserved g t c =
     record {
       far =
           or_on i c.args.target c.args.need c.requires.needed c.args.spent.now (sides_on c.args.tops.now c.args.nodes.now) c.lead-head.result c.weigh-weight.new.spent c.weigh-weight.result (sides_on c.lead-head.new.tops c.lead-head.new.nodes) (sides_on c.weigh-weight.new.tops c.weigh-weight.new.nodes)
-          (or_weighed i c.args.target c.args.need c.requires.needed c.args.spent.now (sides_on c.args.tops.now c.args.nodes.now) c.lead-head.result c.lead-head.new.spent c.weigh-weight.new.spent c.weigh-weight.result (sides_on c.lead-head.new.tops c.lead-head.new.nodes) (sides_on c.weigh-weight.new.tops c.weigh-weight.new.nodes) (omega (arith, c.if-head-ge-END.false))
-          (or_led i c.args.target c.args.need c.requires.needed c.args.spent.now (sides_on c.args.tops.now c.args.nodes.now) c.matches.from c.lead-head.result c.matches.spent c.lead-head.new.spent (sides_on c.matches.tops c.matches.nodes) (sides_on c.lead-head.new.tops c.lead-head.new.nodes) c.matches.invariant.within
-          c.matches.invariant.far c.lead-head.ensures.led c.lead-head.ensures.moved.sound c.lead-head.ensures.moved.falls c.lead-head.ensures.moved.smaller c.lead-head.ensures.moved.kept)
-          c.weigh-weight.ensures.weighed c.weigh-weight.ensures.moved.sound c.weigh-weight.ensures.moved.falls c.weigh-weight.ensures.moved.smaller c.weigh-weight.ensures.moved.kept)
+          (or_round i c.args.target c.args.need c.requires.needed c.args.spent.now (sides_on c.args.tops.now c.args.nodes.now) c.matches.from c.lead-head.result c.matches.spent c.lead-head.new.spent c.weigh-weight.new.spent c.weigh-weight.result (sides_on c.matches.tops c.matches.nodes) (sides_on c.lead-head.new.tops c.lead-head.new.nodes) (sides_on c.weigh-weight.new.tops c.weigh-weight.new.nodes)
+          c.matches.invariant.within (omega (arith, c.if-head-ge-END.false)) c.matches.invariant.far c.lead-head.ensures.led c.lead-head.ensures.moved c.weigh-weight.ensures.weighed c.weigh-weight.ensures.moved)
           c.weigh-weight.ensures.weighed (omega (arith, c.if-weight-need.false));
       within = omega (arith, c.if-from-ge-END.false);
       spends = record {

@@ -11,7 +11,7 @@ use Rattle.sk_nodes.proofs.ManyLaws.{unread_behind}
 use Rattle.sk_tree.proofs.SideLaws.{opens_behind}
 use Rattle.sk_nodes.proofs.NodeLaws.{shape_of-Nothing}
 use Rattle.sk_tree.proofs.TermLaws.{nothing_opened}
-use Rattle.sk_tree.proofs.ProximityOpenLaws.{missing_none, fewer_numbers, all_numbered, terms_are, terms_size, terms_ceils, terms_readings, entries_all, test_opened, proximity_opened}
+use Rattle.sk_tree.proofs.ProximityOpenLaws.{missing_none, fewer_numbers, all_numbered, terms_are, terms_size, terms_ceils, terms_readings, entries_all, test_unread, test_opened, proximity_opened}
 use Rattle.std.proofs.lemmas.Result.{IfOk-weaker}
 use Rattle.sk_query.specs.Trees as Trees
 use Rattle.sk_query.specs.Trees.{query_view, queries_view}
@@ -21,6 +21,7 @@ use Rattle.sk_tree.proofs.LedLaws.{lone_following}
 use Rattle.sk_model.specs.Edits.{document_at}
 use Rattle.sk_tree.proofs.PartsLaws.{of_parts, only_part, xor_sides, or_sides}
 use Rattle.sk_tree.proofs.FormLaws.{none_left}
+use Rattle.sk_tree.proofs.EqualLaws.{as_one_of, other_parts}
 use Rattle.sk_tree.proofs.CountLaws.{counted}
 use Rattle.sk_tree.proofs.OpenedQueryLaws.{other_query, term_query, synonym_query, wildcard_query, parts_query, only_query, xor_parts_query, or_parts_query, pair_parts_query, sides_opened, pair_opened, one_side_opened}
 use Rattle.sk_tree.specs.Nests.{OpensTerms}
@@ -67,7 +68,7 @@ open_proximity-returns-clause-opens g t c =
     let i = c.args.index.now in
     let view = ap queries_view c.as_slice.ensures.value ∙ c.in_ok-terms.ensures in
     let named = all_numbered i c.in_ok-numbers.numbers.items c.args.words.now c.in_ok-numbers.ensures.terms (omega (arith, c.if-len-words.false, c.len.ensures)) in
-    proximity_opened i (record { kind = c.args.kind; window = c.args.window; numbers = c.in_ok-numbers.numbers; marks = c.in_ok-marks.marks; places = c.in_ok-places.places; next = 0 }) c.in_ok-below.below c.in_ok-top.top (shape_of c.in_ok-below.node) (shape_of c.in_ok-top.node) c.args.words.now c.args.scheme c.args.factor _ named
+    proximity_opened i c.args.kind c.args.window c.in_ok-numbers.numbers.items c.in_ok-test.test c.in_ok-test.ensures c.args.words.now c.args.scheme c.args.factor _ named c.in_ok-below.below c.in_ok-top.top (shape_of c.in_ok-below.node) (shape_of c.in_ok-top.node)
     (subst (λ ts. Opens i c.in_ok-below.below (shape_of c.in_ok-below.node) (joint_score_of Form.And ts c.args.scheme c.args.factor) (ceil_of Form.And (ceils ts c.args.scheme c.args.factor i.live.documents))) view c.in_ok-below.ensures.opens)
     (terms_ceils c.args.words.now c.args.scheme c.args.factor i.live.documents)
     c.in_ok-top.ensures.yields
@@ -80,20 +81,28 @@ open_proximity-returns-clause-pays g t c =
     let first = ap (λ ts. leaves_readings ts i.live.documents) view ∙ terms_readings c.args.words.now i.live.documents in
     let second = ap (λ (ns : List ℕ). entries_unread i 0 ns) c.as_slice-2.ensures.value ∙ entries_all i c.in_ok-numbers.numbers.items ∙ ap (λ ts. lengths_of ts i.live.documents) named in
     let pays = c.in_ok-below.ensures.pays in
+    let unread = test_unread i c.args.kind c.args.window c.in_ok-numbers.numbers.items c.in_ok-test.test c.in_ok-test.ensures in
     let listed = ap (λ (ns : List ℕ). entries_unread i 0 ns) c.as_slice-2.ensures.value in
     record {
-      paid = omega (arith, listed, pays.paid, c.in_ok-top.ensures.paid, c.in_ok-add_lengths.ensures.sum);
+      paid = omega (arith, listed, unread, pays.paid, c.in_ok-top.ensures.paid, c.in_ok-add_lengths.ensures.sum);
       within = omega (arith, first, second, pays.within, c.in_ok-add_lengths.ensures.sum);
-      room = omega (arith, listed, pays.paid, c.in_ok-top.ensures.paid, c.in_ok-add_lengths.ensures.sum, c.requires.can.read.room);
+      room = omega (arith, listed, unread, pays.paid, c.in_ok-top.ensures.paid, c.in_ok-add_lengths.ensures.sum, c.requires.can.read.room);
     }
+
+pub open_proximity-positional_of-requires-clause-room : goal.open_proximity-positional_of-requires-clause-room
+open_proximity-positional_of-requires-clause-room g t c =
+    let i = c.args.index.now in
+    let unread = test_unread i c.args.kind c.args.window c.in_ok-numbers.numbers.items c.in_ok-test.test c.in_ok-test.ensures in
+    let listed = ap (λ (ns : List ℕ). entries_unread i 0 ns) c.as_slice-2.ensures.value in
+    omega (arith, listed, unread, c.in_ok-below.ensures.pays.paid, c.in_ok-add_lengths.ensures.sum, c.in_ok-add_lengths.ensures.small, c.requires.can.read.room)
 
 pub open_proximity-positional_of-requires-clause-positional : goal.open_proximity-positional_of-requires-clause-positional
 open_proximity-positional_of-requires-clause-positional g t c =
     let i = c.args.index.now in
     let view = ap queries_view c.as_slice.ensures.value ∙ c.in_ok-terms.ensures in
     let named = all_numbered i c.in_ok-numbers.numbers.items c.args.words.now c.in_ok-numbers.ensures.terms (omega (arith, c.if-len-words.false, c.len.ensures)) in
-    test_opened i (record { kind = c.args.kind; window = c.args.window; numbers = c.in_ok-numbers.numbers; marks = c.in_ok-marks.marks; places = c.in_ok-places.places; next = 0 }) c.in_ok-below.below (shape_of c.in_ok-below.node) c.args.words.now c.args.scheme c.args.factor _ c.requires.sound named
-    (omega (arith, c.in_ok-marks.ensures.len, c.len-2.ensures)) (omega (arith, c.in_ok-places.ensures.len, c.len-3.ensures)) c.in_ok-numbers.ensures.there (subst (λ (ns : List ℕ). AreInOrder i ns) c.as_slice-2.ensures.value c.in_ok-add_lengths.ensures.sorted) refl c.requires.can.read.documents
+    test_opened i c.args.kind c.args.window c.in_ok-numbers.numbers.items c.in_ok-test.test c.in_ok-test.ensures c.args.words.now c.args.scheme c.args.factor _ named c.in_ok-below.below (shape_of c.in_ok-below.node) c.requires.sound
+    c.in_ok-numbers.ensures.there (subst (λ (ns : List ℕ). AreInOrder i ns) c.as_slice-2.ensures.value c.in_ok-add_lengths.ensures.sorted) c.requires.can.read.documents
     (subst (λ ts. Opens i c.in_ok-below.below (shape_of c.in_ok-below.node) (joint_score_of Form.And ts c.args.scheme c.args.factor) (ceil_of Form.And (ceils ts c.args.scheme c.args.factor i.live.documents))) view c.in_ok-below.ensures.opens)
 
 -- ---- what the accounts of a node begin with
@@ -249,6 +258,30 @@ pub open_parts-returns-in-Some-clause-pays : goal.open_parts-returns-in-Some-cla
 open_parts-returns-in-Some-clause-pays g t c =
     let only = only_part c.args.form c.args.factor (queries_view c.args.parts.now) (query_view c.in-Some.part.now) c.in-Some.ensures.alone c.requires.parts in
     IfOk-weaker c.open_node.result _ _ (λ p h. record { paid = h.paid; within = omega (arith, h.within, only.readings c.args.index.now.live.documents); room = h.room }) c.open_node.ensures.pays
+
+-- ---- equal parts
+
+pub open_parts-open_node-requires-in-Some-as_one : goal.open_parts-open_node-requires-in-Some-as_one
+open_parts-open_node-requires-in-Some-as_one g t c κs within =
+    let one = as_one_of c.args.form c.args.factor c.args.parts.now (query_view c.in-Some-as_one.part.now) c.in-Some-as_one.all c.in-Some-as_one.ensures.form c.in-Some-as_one.ensures.equal c.in-Some-as_one.ensures.factor c.requires.parts in
+    (omega (arith, c.decreases, one.size), (within, (record { read = c.requires.can.read; bounded = c.in-Some-as_one.ensures.bounded; light = c.requires.can.light }, one.part)))
+
+pub open_parts-returns-in-Some-as_one-clause-opens : goal.open_parts-returns-in-Some-as_one-clause-opens
+open_parts-returns-in-Some-as_one-clause-opens g t c =
+    let docs = c.args.index.now.live.documents in
+    let one = as_one_of c.args.form c.args.factor c.args.parts.now (query_view c.in-Some-as_one.part.now) c.in-Some-as_one.all c.in-Some-as_one.ensures.form c.in-Some-as_one.ensures.equal c.in-Some-as_one.ensures.factor c.requires.parts in
+    IfOk-weaker c.open_node-in-Some-as_one.result _ _
+    (λ p h. record { top = h.top; sound = h.sound; gives = λ id. h.gives id ∙ sym (one.scores c.args.scheme (document_at id docs)); ceiling = omega (arith, h.ceiling, one.ceiling c.args.scheme docs) }) c.open_node-in-Some-as_one.ensures.opens
+
+pub open_parts-returns-in-Some-as_one-clause-pays : goal.open_parts-returns-in-Some-as_one-clause-pays
+open_parts-returns-in-Some-as_one-clause-pays g t c =
+    let one = as_one_of c.args.form c.args.factor c.args.parts.now (query_view c.in-Some-as_one.part.now) c.in-Some-as_one.all c.in-Some-as_one.ensures.form c.in-Some-as_one.ensures.equal c.in-Some-as_one.ensures.factor c.requires.parts in
+    IfOk-weaker c.open_node-in-Some-as_one.result _ _ (λ p h. record { paid = h.paid; within = omega (arith, h.within, one.readings c.args.index.now.live.documents); room = h.room }) c.open_node-in-Some-as_one.ensures.pays
+
+pub open_parts-returns-in-Some-as_one-clause-accounts : goal.open_parts-returns-in-Some-as_one-clause-accounts
+open_parts-returns-in-Some-as_one-clause-accounts g t c =
+    let one = as_one_of c.args.form c.args.factor c.args.parts.now (query_view c.in-Some-as_one.part.now) c.in-Some-as_one.all c.in-Some-as_one.ensures.form c.in-Some-as_one.ensures.equal c.in-Some-as_one.ensures.factor c.requires.parts in
+    IfOk-weaker c.open_node-in-Some-as_one.result _ _ (λ p h. other_parts c.args.index.now c.args.form (queries_view c.args.parts.now) c.args.scheme c.args.factor p.0 (shape_of p.1) c.args.spent.now c.open_node-in-Some-as_one.new.spent one.others) c.open_node-in-Some-as_one.ensures.accounts
 
 pub open_sides-open_node-requires : goal.open_sides-open_node-requires
 open_sides-open_node-requires g t c κs within =

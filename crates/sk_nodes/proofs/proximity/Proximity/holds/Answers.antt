@@ -1,5 +1,5 @@
 -- The document is in each list, and is not tested again.
-use Rattle.std.proofs.Common.{arith}
+use Rattle.std.proofs.Common.{length, ap, arith}
 use Rattle.sk_nodes.proofs.ProximityLaws.{entries_left}
 use Rattle.sk_nodes.proofs.proximity.Proximity.holds.Goals as goal
 
@@ -8,7 +8,14 @@ overflow_add-spent g c =
     let left = entries_left c.args.index.now c.args.self.now.next c.args.head c.args.self.now.numbers.items c.requires.test.sorted c.requires.all (omega (arith, c.if-head-self.false)) in
     omega (arith, left, c.requires.room, c.len.ensures)
 
-pub returns-clause-spends : goal.returns-clause-spends
-returns-clause-spends g c =
+pub returns-in-Near-clause-spends : goal.returns-in-Near-clause-spends
+returns-in-Near-clause-spends g c =
     let left = entries_left c.args.index.now c.args.self.now.next c.args.head c.args.self.now.numbers.items c.requires.test.sorted c.requires.all (omega (arith, c.if-head-self.false)) in
-    record { paid = omega (arith, left, c.len.ensures); counted = omega arith; later = omega arith }
+    let read = ap length c.as_slice-numbers.ensures.value in
+    record { paid = omega (arith, left, c.len.ensures); counted = omega (arith, c.stand_near.ensures.cost, read, c.len.ensures); later = omega (arith, c.stand_near.ensures.cost) }
+
+pub returns-in-Phrase-clause-spends : goal.returns-in-Phrase-clause-spends
+returns-in-Phrase-clause-spends g c =
+    let left = entries_left c.args.index.now c.args.self.now.next c.args.head c.args.self.now.numbers.items c.requires.test.sorted c.requires.all (omega (arith, c.if-head-self.false)) in
+    let read = ap length c.as_slice-numbers.ensures.value in
+    record { paid = omega (arith, left, c.len.ensures); counted = omega (arith, c.stand_as_phrase.ensures.cost, read, c.len.ensures); later = omega (arith, c.stand_as_phrase.ensures.cost) }

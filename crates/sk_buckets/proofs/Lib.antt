@@ -1,0 +1,5 @@
+mod ChainLemmas
+mod MarkLemmas
+mod DealtLemmas
+mod CallLemmas
+mod Examples

@@ -1,0 +1,10 @@
+//! Lists by the id at which each stands.
+#![tactic(auto)]
+
+mod bucket;
+mod buckets;
+mod deal;
+mod mark;
+
+pub use buckets::Buckets;
+pub use mark::{END, First, Mark};
