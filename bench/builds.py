@@ -47,10 +47,10 @@ def least(commands, path, runs=RUNS):
     return [min(each) for each in zip(*([seconds(command, path) for command in commands] for _ in range(runs)))]
 
 
-def records(count, picks):
-    """Documents of 50 to 150 words of a vocabulary of 20,000, the word of rank r with the weight 1 / r, a year and a site."""
-    words = [word(rank) for rank in range(20_000)]
-    weights = list(itertools.accumulate(1 / (rank + 1) for rank in range(20_000)))
+def records(count, picks, vocabulary=20_000):
+    """Documents of 50 to 150 words, the word of rank r with the weight 1 / r, a year and a site."""
+    words = [word(rank) for rank in range(vocabulary)]
+    weights = list(itertools.accumulate(1 / (rank + 1) for rank in range(vocabulary)))
     for _ in range(count):
         body = " ".join(picks.choices(words, cum_weights=weights, k=picks.randint(50, 150)))
         yield {"body": body, "year": picks.randrange(1_000_000), "site": f"s{picks.randrange(50)}"}

@@ -173,8 +173,26 @@ KINDS = [
     ),
     (
         "a phrase that fails at its last word",
-        50,
+        500,
         lambda n: [add(("a " * 1_023 + "b ") * n), tree({"phrase": [1_024] + ["a"] * 1_024})],
+        FOUND,
+    ),
+    (
+        "a phrase of a word at every other place",
+        260_000,
+        lambda n: [add("a b " * n), tree({"phrase": [2_046] + ["a"] * 1_024})],
+        FOUND,
+    ),
+    (
+        "a word 1,023 times near another",
+        260_000,
+        lambda n: [add("a b " * n), tree({"near": [1] + ["a"] * 1_023 + ["b"]})],
+        FOUND,
+    ),
+    (
+        "two words in turn, near at no place",
+        260_000,
+        lambda n: [add("a b " * n), tree({"near": [1] + ["a", "b"] * 512})],
         FOUND,
     ),
     (

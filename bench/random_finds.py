@@ -27,6 +27,7 @@ SCHEMA = {
 FINDS = 40
 FACETS = 10
 STEMMED = 10
+MANY = [f"q{number}" for number in range(100)]
 FORMS = ["hop", "hops", "hopping", "Hopped", "hope", "hoping", "Hopes", "fly", "flies"]
 COLLAPSED = re.compile(r" collapsed=(\d+)")
 
@@ -46,8 +47,20 @@ def leaf(picks):
             {"synonym": sorted({a, b, c})},
             {"near": [picks.randint(1, 5), a, b]},
             {"phrase": [picks.randint(1, 4), a, b]},
+            {"wildcard": picks.choice(["q", "q1", f"q{picks.randint(2, 9)}"])},
+            {"synonym": picks.sample(MANY, picks.randint(3, 40))},
+            again(picks, picks.choice([{"wildcard": "q"}, {"wildcard": "L"}, {"synonym": ["q1", "q2", a]}])),
+            {picks.choice(["near", "phrase"]): [picks.randint(1, 6), *picks.choices([a, a, b], k=picks.randint(2, 5))]},
         ]
     )
+
+
+def again(picks, part):
+    """A form of equal parts, with one that differs beside them or without."""
+    parts = [part] * picks.randint(2, 70)
+    if picks.random() < 0.5:
+        parts.insert(picks.randint(0, len(parts)), {"term": picks.choice("abcde")})
+    return {picks.choice(["or", "or", "and", "and", "max", "xor"]): parts}
 
 
 def tree(picks, depth):
@@ -131,7 +144,8 @@ def commands(picks, texts=STEMMED):
     yield SCHEMA | ({"stem": True} if stem else {}) | ({"parts": parts} if parts > 1 else {})
     for number in range(picks.randint(5, 60) if picks.random() < 0.8 else picks.randint(200, 600)):
         words = picks.choices("abcde", [5, 3, 2, 1, 1], k=picks.randint(0, 8))
-        record = {"body": " ".join([*words, *picks.choices(FORMS, k=picks.randint(0, 3))])}
+        words += [*picks.choices(FORMS, k=picks.randint(0, 3)), *picks.choices(MANY, k=picks.randint(0, 6))]
+        record = {"body": " ".join(words)}
         if picks.random() < 0.8:
             record["lang"] = picks.choice(["en", "fr", ["en", "fr"]])
         if picks.random() < 0.8:
