@@ -10,7 +10,7 @@ use Rattle.sk_base.specs.declared.find.Paging.{Paging}
 use Rattle.sk_base.specs.declared.schema.Schema.{Schema}
 use Rattle.sk_query.specs.Trees.{Tree}
 use Rattle.sk_base.specs.declared.report.Report.{Report}
-use Rattle.sk_report.specs.Flights.{Open, Flights, MayBeOpen, TurnsAs, at, open_at, owed, without}
+use Rattle.sk_report.specs.Flights.{Open, Flights, MayBeOpen, TurnsAs, at, open_at, owed, without_search}
 use Rattle.sk_index.specs.Indexed.{Indexed}
 use Rattle.sk_flight.specs.Flying.{Flying}
 use Rattle.sk_match.specs.declared.open_search.Turn.{Turn}
@@ -71,7 +71,7 @@ module _ (number : ℕ) (old new : Flights) where
       (ap (open_at number) is ∙ found_written number after old.searches (ap is_some there), omega (arith, a, b, moved))
 
   -- One that is gone owes nothing.
-  pub ended_owes : (search : Open) → open_at number old ≡ Some search → new ≡ without number old → owed new + search.spent ≡ owed old
+  pub ended_owes : (search : Open) → open_at number old ≡ Some search → new ≡ without_search number old → owed new + search.spent ≡ owed old
   ended_owes search there is =
       let a = ap owed is ∙ owed_is (remove_entry (at number) old.searches) in
       let b = owed_is old.searches in

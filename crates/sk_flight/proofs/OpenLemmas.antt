@@ -12,7 +12,7 @@ use Rattle.sk_base.specs.declared.find.Paging.{Paging}
 use Rattle.sk_base.specs.declared.report.Report.{Report}
 use Rattle.sk_base.specs.Numbers.{Docs}
 use Rattle.sk_query.specs.Trees.{Tree}
-use Rattle.sk_report.specs.Flights.{Open, Flights, MayBeOpen, AllMay, Turned, Begins, OpensAs, TurnsAs, ClosesAs, DropsAs, at, open_at, without, owed, readings_open, most_open}
+use Rattle.sk_report.specs.Flights.{Open, Flights, MayBeOpen, AllMay, Turned, Begins, OpensAs, TurnsAs, ClosesAs, DropsAs, at, open_at, without_search, owed, readings_open, most_open}
 use Rattle.sk_flight.specs.declared.flight.Flight.{Flight}
 use Rattle.sk_match.specs.Searches.{spent_by}
 use Rattle.sk_flight.specs.Kept.{IsFlight, flights_in, spent_in, open_of}
@@ -25,7 +25,7 @@ module _ (number opened : ℕ) (es : List (ℕ × Flight)) where
   pub open_there : (o : Option Flight) → lookup (at number) es ≡ o → open_at number (flights_in es opened) ≡ option_map open_of o
   open_there o is = lookup-map_values open_of (at number) es ∙ ap (option_map open_of) is
 
-  pub without_is : flights_in (remove_entry (at number) es) opened ≡ without number (flights_in es opened)
+  pub without_is : flights_in (remove_entry (at number) es) opened ≡ without_search number (flights_in es opened)
   without_is = ap (λ ss. record { searches = ss; opened = opened }) (gone_seen open_of (at number) es)
 
   pub with_is : (w : Flight) → flights_in (set_value (at number) es w) opened ≡ record { searches = set_value (at number) (flights_in es opened).searches (open_of w); opened = opened }
@@ -77,7 +77,7 @@ owed_set number old v w there =
     let one = sum_by-set_value spent_of (at number) old.searches v w there in
     omega (arith, new, before, one)
 
-pub owed_gone : (number : ℕ) (old : Flights) → owed (without number old) + unwrap_or (option_map spent_of (open_at number old)) 0 ≡ owed old
+pub owed_gone : (number : ℕ) (old : Flights) → owed (without_search number old) + unwrap_or (option_map spent_of (open_at number old)) 0 ≡ owed old
 owed_gone number old =
     let new = owed_values (remove_entry (at number) old.searches) in
     let before = owed_values old.searches in

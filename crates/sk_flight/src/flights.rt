@@ -7,7 +7,7 @@ ghost use Rattle.sk_base.specs.Records.{FitsEdit};
 ghost use Rattle.sk_query.specs.Trees.{query_view};
 ghost use Rattle.sk_query.specs.Fits.{fits_tree};
 ghost use Rattle.sk_model.specs.Edits.{edited, reply_to};
-ghost use Rattle.sk_report.specs.Flights.{MayBeOpen, AllMay, none_open, most_open, at, open_at, without, owed, readings_open};
+ghost use Rattle.sk_report.specs.Flights.{MayBeOpen, AllMay, none_open, most_open, at, open_at, without_search, owed, readings_open};
 ghost use Rattle.sk_flight.specs.Kept.{IsFlight, AreFlights, flights_in, spent_in};
 ghost use Rattle.sk_flight.specs.Told.{Opens, Turns, Ends, Drops, steps_in};
 
@@ -168,7 +168,7 @@ impl Flights {
         steps: &mut Steps<L>,
     ) -> Result<Option<Turn>, AllocError>
         ensures turns { IfOk result (λ turn. Turns number 1 self.old.flights self.new.flights turn) }
-        ensures gone { OnErr result (self.new.flights ≡ without number self.old.flights) }
+        ensures gone { OnErr result (self.new.flights ≡ without_search number self.old.flights) }
         ensures keeps { self.new.newest ≡ self.old.newest }
         ensures cost { OnOk result (steps.new + owed self.old.flights ≡ steps.old + owed self.new.flights) }
         ensures later { steps.old ≤ steps.new }
@@ -186,7 +186,7 @@ impl Flights {
     ) -> Result<Option<Turn>, AllocError>
         requires { 1 ≤ times }
         ensures turns { IfOk result (λ turn. Turns number times self.old.flights self.new.flights turn) }
-        ensures gone { OnErr result (self.new.flights ≡ without number self.old.flights) }
+        ensures gone { OnErr result (self.new.flights ≡ without_search number self.old.flights) }
         ensures keeps { self.new.newest ≡ self.old.newest }
         ensures cost { OnOk result (steps.new + owed self.old.flights ≡ steps.old + owed self.new.flights) }
         ensures later { steps.old ≤ steps.new }
@@ -201,7 +201,7 @@ impl Flights {
         steps: &mut Steps<L>,
     ) -> Result<Finish, AllocError>
         ensures ends { IfOk result (λ finish. Ends number self.old.flights self.new.flights finish) }
-        ensures gone { OnErr result (self.new.flights ≡ without number self.old.flights) }
+        ensures gone { OnErr result (self.new.flights ≡ without_search number self.old.flights) }
         ensures keeps { self.new.newest ≡ self.old.newest }
         ensures cost { IfOk result (λ finish. steps.new + owed self.old.flights ≡ steps.old + (owed self.new.flights + steps_in finish)) }
         ensures later { steps.old ≤ steps.new }

@@ -13,7 +13,7 @@ use Rattle.sk_base.specs.Fields.{place_of}
 use Rattle.sk_text.specs.Characters.{is_word_char, belongs}
 use Rattle.sk_grammar.specs.declared.token.Kind.{Kind}
 use Rattle.sk_grammar.specs.Characters.{begins_capital, is_joiner, past_joiner, group_len, quote_len, is_good, runs_on, run_len, run_terms}
-use Rattle.sk_grammar.specs.Pieces.{Piece, token_piece, longer, is_starred, is_one, first_term, group_kind, group_of_len, group_piece, text_piece, filter_piece, range_piece, value_piece, colon_piece, field_piece, mark_piece, takes_mark, is_marked, last_piece, piece_at}
+use Rattle.sk_grammar.specs.Pieces.{Piece, token_piece, lengthened, is_starred, is_one, first_term, group_kind, group_of_len, group_piece, text_piece, filter_piece, range_piece, value_piece, colon_piece, field_piece, mark_piece, takes_mark, is_marked, last_piece, piece_at}
 
 -- The piece has a character at least, and no more than so many.
 pub record Takes (n : ℕ) (p : Piece) : Type 0 where
@@ -36,11 +36,11 @@ or_takes n None p f g = g
 or_takes n (Some q) p f g = f
 
 -- A piece with characters more in front.
-longer_takes : (n m : ℕ) (o : Option Piece) → IfSome o (Takes n) → IfSome (option_map (longer m) o) (Takes (m + n))
+longer_takes : (n m : ℕ) (o : Option Piece) → IfSome o (Takes n) → IfSome (option_map (lengthened m) o) (Takes (m + n))
 longer_takes n m None f = tt
 longer_takes n m (Some p) f = let some = f.some in let whole = f.whole in record { some = omega arith; whole = omega arith }
 
-more_takes : (o : Option Piece) (n m k : ℕ) → n + m ≡ k → IfSome o (Takes m) → IfSome (option_map (longer n) o) (Takes k)
+more_takes : (o : Option Piece) (n m k : ℕ) → n + m ≡ k → IfSome o (Takes m) → IfSome (option_map (lengthened n) o) (Takes k)
 more_takes o n m k e f = rw (← e) (longer_takes m n o f)
 
 -- A quote.

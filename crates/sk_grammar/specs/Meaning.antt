@@ -10,7 +10,7 @@ use Rattle.sk_grammar.specs.declared.token.Token.{Token}
 use Rattle.sk_grammar.specs.Cutting.{tokens_of}
 use Rattle.sk_grammar.specs.Faults.{is_not, kinds_of, fault_in}
 use Rattle.sk_grammar.specs.Brackets.{Nest, single, bracket, Nests, no_nests, nest, Levels, levels_of}
-use Rattle.sk_grammar.specs.Parts.{Part, unit, empty, operator, prefix_in, part_of, chained}
+use Rattle.sk_grammar.specs.Parts.{Part, unit, empty, operator, prefix_in, single_part, chained}
 use Rattle.sk_grammar.specs.Runs.{joined, excluding, all_of, run_tree}
 
 -- AND, OR, XOR.
@@ -27,9 +27,9 @@ is_xor Kind.Xor = true
 is_xor _ = false
 
 -- The part is an operator that passes the test.
-abbrev pub at : (Kind → Bool) → Part → Bool
-at test (operator k) = test k
-at test _ = false
+abbrev pub is_operator : (Kind → Bool) → Part → Bool
+is_operator test (operator k) = test k
+is_operator test _ = false
 
 -- A part put before the first of these lists.
 abbrev pub in_front : Part → List (List Part) → List (List Part)
@@ -39,7 +39,7 @@ in_front p (ps ∷ more) = (p ∷ ps) ∷ more
 -- What stands between the operators that pass the test.
 abbrev pub split : (Kind → Bool) → List Part → List (List Part)
 split test [] = [] ∷ []
-split test (p ∷ ps) = if at test p then [] ∷ split test ps else in_front p (split test ps)
+split test (p ∷ ps) = if is_operator test p then [] ∷ split test ps else in_front p (split test ps)
 
 -- A run: what stands between AND and NOT, and whether it stands behind NOT.
 pub record Run : Type 0 where
@@ -56,8 +56,8 @@ in_run p (run ∷ more) = record { negative = run.negative; inside = p ∷ run.i
 abbrev pub runs : Bool → Bool → List Part → List Run
 runs fresh negative [] = record { negative = negative; inside = [] } ∷ []
 runs fresh negative (p ∷ ps) =
-    if at is_not p then (if fresh then runs false true ps else record { negative = negative; inside = [] } ∷ runs false true ps)
-    else (if at is_and p then record { negative = negative; inside = [] } ∷ runs true false ps
+    if is_operator is_not p then (if fresh then runs false true ps else record { negative = negative; inside = [] } ∷ runs false true ps)
+    else (if is_operator is_and p then record { negative = negative; inside = [] } ∷ runs true false ps
     else in_run p (runs false negative ps))
 
 -- The runs of a part of XOR.
@@ -95,7 +95,7 @@ closed_part join (p ∷ ps) = unit (parts_tree join (reverse (p ∷ ps)))
 abbrev mutual
   -- The part that a token or a bracket is, where the brackets around it give this prefix. What a bracket's own field says holds inside.
   pub nest_part : Schema → Join → List ℕ → Nest → Part
-  nest_part schema join around (single k) = part_of schema around k
+  nest_part schema join around (single k) = single_part schema around k
   nest_part schema join around (bracket field ns) = closed_part join (chained [] (nest_parts schema join (prefix_in schema around field) ns))
 
   pub nest_parts : Schema → Join → List ℕ → Nests → List Part

@@ -67,17 +67,17 @@ abbrev pub stem_asked : Bool → Bool → List ℕ → List ℕ → Option (List
 stem_asked stems capital prefix t = if stems && not capital then Some (stem_term prefix t) else None
 
 -- The part that a token is, which is no bracket, where the brackets around it give this prefix.
-abbrev pub part_of : Schema → List ℕ → Kind → Part
-part_of schema around (Kind.Word field t capital) =
+abbrev pub single_part : Schema → List ℕ → Kind → Part
+single_part schema around (Kind.Word field t capital) =
     chain false 0 (stem_asked schema.stem capital (prefix_in schema around field) t) (prefixed (prefix_in schema around field) t ∷ [])
-part_of schema around (Kind.Wild field t) = unit (wildcard (prefixed (prefix_in schema around field) t))
-part_of schema around (Kind.Joined field ts) = unit (side_by_side (all_prefixed (prefix_in schema around field) ts))
-part_of schema around (Kind.Quote field ts) = unit (side_by_side (all_prefixed (prefix_in schema around field) ts))
-part_of schema around (Kind.Filter f text) = chosen f (term (prefixed (prefix_of (slice_get schema.fields f)) text))
-part_of schema around (Kind.Range f text) = chosen f (range_in (slice_get schema.fields f) text)
-part_of schema around (Kind.Near n) = link false n
-part_of schema around (Kind.Adj n) = link true n
-part_of schema around k = operator k
+single_part schema around (Kind.Wild field t) = unit (wildcard (prefixed (prefix_in schema around field) t))
+single_part schema around (Kind.Joined field ts) = unit (side_by_side (all_prefixed (prefix_in schema around field) ts))
+single_part schema around (Kind.Quote field ts) = unit (side_by_side (all_prefixed (prefix_in schema around field) ts))
+single_part schema around (Kind.Filter f text) = chosen f (term (prefixed (prefix_of (slice_get schema.fields f)) text))
+single_part schema around (Kind.Range f text) = chosen f (range_in (slice_get schema.fields f) text)
+single_part schema around (Kind.Near n) = link false n
+single_part schema around (Kind.Adj n) = link true n
+single_part schema around k = operator k
 
 -- Words behind a link, with what stands before that, the last first: they go to the chain there, which then has the greater distance, and asks for no stem.
 abbrev pub linked : Bool → ℕ → List Part → Bool → ℕ → Option (List ℕ) → List (List ℕ) → List Part

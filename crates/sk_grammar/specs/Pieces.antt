@@ -27,8 +27,8 @@ abbrev pub separator : ℕ → Piece
 separator n = record { kind = None; size = n }
 
 -- A piece with so many characters more in front.
-abbrev pub longer : ℕ → Piece → Piece
-longer n p = record { kind = p.kind; size = n + p.size }
+abbrev pub lengthened : ℕ → Piece → Piece
+lengthened n p = record { kind = p.kind; size = n + p.size }
 
 -- A quote, by what stands behind its first `"`.
 abbrev pub quote_piece : Option ℕ → List ℕ → Piece
@@ -126,13 +126,13 @@ value_piece f (FieldKind.Word slot) cs = range_piece f cs
 abbrev pub colon_piece : Schema → ℕ → List ℕ → Option Piece
 colon_piece schema f [] = None
 colon_piece schema f (c ∷ cs) =
-    if c == 58 then option_map (longer 1) (option_and_then (λ field. value_piece f (Field.kind field) cs) (slice_get schema.fields f))
+    if c == 58 then option_map (lengthened 1) (option_and_then (λ field. value_piece f (Field.kind field) cs) (slice_get schema.fields f))
     else None
 
 -- Behind a name of so many characters.
 abbrev pub named_piece : Schema → ℕ → List ℕ → Option Piece
 named_piece schema n cs =
-    option_map (longer n) (option_and_then (λ f. colon_piece schema f (drop n cs)) (place_of (encode_utf8_all (take n cs)) schema.fields))
+    option_map (lengthened n) (option_and_then (λ f. colon_piece schema f (drop n cs)) (place_of (encode_utf8_all (take n cs)) schema.fields))
 
 -- A field's name, which is the longest run of a to z, 0 to 9 and `_`, a colon, and what the field's kind needs.
 abbrev pub field_piece : Schema → List ℕ → Option Piece

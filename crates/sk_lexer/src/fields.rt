@@ -2,7 +2,7 @@
 ghost use Rattle.std.specs.Prelude.{◌≡◌, ℕ, ◌≤◌, ◌<◌, ◌+◌, ◌^◌, IfOk, IfSome, option_map, length, take, encode_utf8_all};
 ghost use Rattle.sk_grammar.specs.Characters.{run_len};
 ghost use Rattle.sk_grammar.specs.Cutting.{byte_len};
-ghost use Rattle.sk_grammar.specs.Pieces.{text_piece, filter_piece, range_piece, value_piece, colon_piece, named_piece, field_piece, longer};
+ghost use Rattle.sk_grammar.specs.Pieces.{text_piece, filter_piece, range_piece, value_piece, colon_piece, named_piece, field_piece, lengthened};
 ghost use Rattle.sk_lexer.specs.Shown.{shown, begins_colon, field_value};
 
 use crate::groups::{group_piece, quote_piece, string_of};
@@ -111,7 +111,7 @@ fn field_value(
 /// A piece with so many characters more in front.
 fn longer(n: usize, piece: Option<Cut>) -> Option<Cut>
     requires { IfSome piece (λ p. n + p.size < 2 ^ 64) }
-    ensures value { option_map shown result ≡ option_map (longer n) (option_map shown piece) }
+    ensures value { option_map shown result ≡ option_map (lengthened n) (option_map shown piece) }
     ensures size { (m : ℕ) → IfSome piece (λ p. p.size ≤ m) → IfSome result (λ p. p.size ≤ n + m) }
 {
     let cut = piece?;

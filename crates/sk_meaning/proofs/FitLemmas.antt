@@ -14,7 +14,7 @@ use Rattle.sk_grammar.specs.declared.token.Kind.{Kind}
 use Rattle.sk_grammar.specs.declared.token.Mark.{Mark}
 use Rattle.sk_grammar.specs.Parts.{Part, chain, unit, chosen, empty, link, operator, linked, with_words, with_part, chained, chain_tree}
 use Rattle.sk_grammar.specs.Runs.{Unit as UnitMeant, unit_of, mark_behind, units, is_hated, is_filter, is_wanted, is_loved, is_optional, queries_of, joined, excluding, all_of, with_plain, loved_and_plain, base_of, FilterGroup, added, added_filter, groups_after, group_tree, filtered, units_tree, run_tree}
-use Rattle.sk_grammar.specs.Meaning.{at, in_front, split, is_or, is_xor, is_and, Run, in_run, runs, xor_runs, is_positive, run_trees, and_tree, xor_tree, parts_tree, closed_part}
+use Rattle.sk_grammar.specs.Meaning.{is_operator, in_front, split, is_or, is_xor, is_and, Run, in_run, runs, xor_runs, is_positive, run_trees, and_tree, xor_tree, parts_tree, closed_part}
 use Rattle.sk_grammar.specs.Faults.{is_not}
 
 -- A query is no deeper than this, and keeps its conditions where it has no more than 1,024 leaves.
@@ -261,9 +261,9 @@ in_run_fits d p (r ∷ rs) f g = ((f, g.0), g.1)
 runs_fit : (d : ℕ) (fresh negative : Bool) (ps : List Part) → PartsFit d ps → RunsFit d (runs fresh negative ps)
 runs_fit d fresh negative [] h = (tt, tt)
 runs_fit d fresh negative (p ∷ ps) h =
-    if_runs d (at is_not p) _ _
+    if_runs d (is_operator is_not p) _ _
     (if_runs d fresh (runs false true ps) (record { negative = negative; inside = [] } ∷ runs false true ps) (runs_fit d false true ps h.1) (tt, runs_fit d false true ps h.1))
-    (if_runs d (at is_and p) (record { negative = negative; inside = [] } ∷ runs true false ps) (in_run p (runs false negative ps)) (tt, runs_fit d true false ps h.1)
+    (if_runs d (is_operator is_and p) (record { negative = negative; inside = [] } ∷ runs true false ps) (in_run p (runs false negative ps)) (tt, runs_fit d true false ps h.1)
     (in_run_fits d p (runs false negative ps) h.0 (runs_fit d false negative ps h.1)))
 
 run_trees_fit : (d : ℕ) (join : Join) (test : Run → Bool) (rs : List Run) → 1 ≤ d → RunsFit d rs → AllFit (d + 4) (run_trees join test rs)
@@ -307,7 +307,7 @@ if_split d false rs ss f g = g
 split_fits : (d : ℕ) (test : Kind → Bool) (ps : List Part) → PartsFit d ps → SplitFits d (split test ps)
 split_fits d test [] h = record { some = omega arith; each = (tt, tt) }
 split_fits d test (p ∷ ps) h =
-    if_split d (at test p) ([] ∷ split test ps) (in_front p (split test ps)) (cut_fits d (split test ps) (split_fits d test ps h.1))
+    if_split d (is_operator test p) ([] ∷ split test ps) (in_front p (split test ps)) (cut_fits d (split test ps) (split_fits d test ps h.1))
     (in_front_fits d p (split test ps) h.0 (split_fits d test ps h.1))
 
 segments_fit : (d e : ℕ) (make : List Part → Tree) (ss : List (List Part)) → ((ps : List Part) → PartsFit d ps → Fits e (make ps)) → SegmentsFit d ss → AllFit e (map make ss)

@@ -9,7 +9,7 @@ use Rattle.sk_grammar.specs.declared.token.Kind.{Kind}
 use Rattle.sk_grammar.specs.declared.token.Mark.{Mark}
 use Rattle.sk_grammar.specs.Parts.{Part, chain, unit, chosen, empty, link, operator, linked, with_words, with_part, chained, chain_tree}
 use Rattle.sk_grammar.specs.Runs.{Unit as UnitMeant, unit_of, mark_behind, units, hates, loves, is_hated, is_filter, is_wanted, is_loved, is_optional, queries_of, joined, excluding, all_of, with_plain, loved_and_plain, base_of, FilterGroup, added, added_filter, groups_after, group_tree, filtered, units_tree, run_tree}
-use Rattle.sk_grammar.specs.Meaning.{at, in_front, split, is_or, is_xor, is_and, Run, in_run, runs, xor_runs, is_positive, run_trees, and_tree, xor_tree, parts_tree, closed_part}
+use Rattle.sk_grammar.specs.Meaning.{is_operator, in_front, split, is_or, is_xor, is_and, Run, in_run, runs, xor_runs, is_positive, run_trees, and_tree, xor_tree, parts_tree, closed_part}
 use Rattle.sk_grammar.specs.Faults.{is_not}
 
 -- The leaves of several queries.
@@ -225,9 +225,9 @@ runs_few fresh negative (p ∷ ps) =
     let b = runs_few true false ps in
     let c = runs_few false negative ps in
     let d = in_run_leaves p (runs false negative ps) in
-    if_runs (at is_not p) _ _ (part_leaves p + parts_leaves ps)
+    if_runs (is_operator is_not p) _ _ (part_leaves p + parts_leaves ps)
     (if_runs fresh (runs false true ps) (record { negative = negative; inside = [] } ∷ runs false true ps) (part_leaves p + parts_leaves ps) (omega (arith, a)) (omega (arith, a)))
-    (if_runs (at is_and p) (record { negative = negative; inside = [] } ∷ runs true false ps) (in_run p (runs false negative ps)) (part_leaves p + parts_leaves ps) (omega (arith, b)) (omega (arith, c, d)))
+    (if_runs (is_operator is_and p) (record { negative = negative; inside = [] } ∷ runs true false ps) (in_run p (runs false negative ps)) (part_leaves p + parts_leaves ps) (omega (arith, b)) (omega (arith, c, d)))
 
 trees_of_run : (join : Join) (test : Run → Bool) (r : Run) (rs : List Run) → sum_of (run_trees join test (r ∷ rs)) ≡ share (test r) (parts_leaves (Run.inside r)) + sum_of (run_trees join test rs)
 trees_of_run join test r rs = by (test r) (filter test rs) (run_tree_leaves join (Run.inside r))
@@ -277,7 +277,7 @@ split_leaves test [] = omega arith
 split_leaves test (p ∷ ps) =
     let more = split_leaves test ps in
     let front = in_front_leaves p (split test ps) in
-    if_segments (at test p) ([] ∷ split test ps) (in_front p (split test ps)) (part_leaves p + parts_leaves ps) (omega (arith, more)) (omega (arith, more, front))
+    if_segments (is_operator test p) ([] ∷ split test ps) (in_front p (split test ps)) (part_leaves p + parts_leaves ps) (omega (arith, more)) (omega (arith, more, front))
 
 made_leaves : (make : List Part → Tree) (ss : List (List Part)) → ((ps : List Part) → leaves_of (make ps) ≤ parts_leaves ps) → sum_of (map make ss) ≤ segments_leaves ss
 made_leaves make [] f = omega arith

@@ -16,7 +16,7 @@ use Rattle.sk_grammar.specs.declared.token.Kind.{Kind}
 use Rattle.sk_grammar.specs.Brackets.{Nest, single, bracket, Nests, no_nests, nest, Levels, opened, with_token, levels_of}
 use Rattle.sk_grammar.specs.Faults.{is_open, is_distance, depth_behind, leaves_by, leaves_among}
 use Rattle.sk_stem.specs.Stems.{stem}
-use Rattle.sk_grammar.specs.Parts.{Part, prefix_of, prefix_in, side_by_side, slot_of, range_in, all_prefixed, stem_asked, part_of, chained}
+use Rattle.sk_grammar.specs.Parts.{Part, prefix_of, prefix_in, side_by_side, slot_of, range_in, all_prefixed, stem_asked, single_part, chained}
 use Rattle.sk_grammar.specs.Meaning.{closed_part, nest_part, nest_parts, tree_in}
 use Rattle.sk_meaning.proofs.TermLemmas.{text_prefixed, prefix_prefixed}
 use Rattle.sk_meaning.proofs.PieceLemmas.{is_filled, field_sound, kind_sound}
@@ -91,7 +91,7 @@ stem_fits true false prefix t = one_more (length (prefixed prefix (stem t)))
 stem_fits false capital prefix t = tt
 
 -- The part that a token is.
-part_fits : (schema : Schema) (around : List ℕ) (k : Kind) → list_all is_field schema.fields ≡ true → IsGood schema k → PartFits 1 (part_of schema around k)
+part_fits : (schema : Schema) (around : List ℕ) (k : Kind) → list_all is_field schema.fields ≡ true → IsGood schema k → PartFits 1 (single_part schema around k)
 part_fits schema around (Kind.Word field t capital) sound h =
     (omega arith, and_from (is_given (prefixed (prefix_in schema around field) t)) true (text_prefixed (prefix_in schema around field) t h.0) refl, stem_fits schema.stem capital (prefix_in schema around field) t)
 part_fits schema around (Kind.Wild field t) sound h = record { sound = λ few. text_prefixed (prefix_in schema around field) t h.0; deep = omega arith }
@@ -103,7 +103,7 @@ part_fits schema around (Kind.Near n) sound h = distance_within n h.1
 part_fits schema around (Kind.Adj n) sound h = distance_within n h.1
 part_fits schema around k sound h = tt
 
-part_few : (schema : Schema) (around : List ℕ) (k : Kind) → part_leaves (part_of schema around k) ≤ leaves_by k
+part_few : (schema : Schema) (around : List ℕ) (k : Kind) → part_leaves (single_part schema around k) ≤ leaves_by k
 part_few schema around (Kind.Word field t capital) = omega arith
 part_few schema around (Kind.Wild field t) = omega arith
 part_few schema around (Kind.Joined field ts) =

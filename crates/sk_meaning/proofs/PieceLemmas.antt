@@ -14,7 +14,7 @@ use Rattle.sk_text.specs.Characters.{is_word_char}
 use Rattle.sk_base.specs.Terms.{is_given}
 use Rattle.sk_grammar.specs.declared.token.Kind.{Kind}
 use Rattle.sk_grammar.specs.Characters.{begins_capital, group_len, inner, is_good, runs_on, run_terms}
-use Rattle.sk_grammar.specs.Pieces.{Piece, token_piece, longer, quote_piece, is_starred, is_one, first_term, distance, distant, operator_of, words_kind, group_kind, group_of_len, group_piece, text_piece, filter_piece, range_piece, value_piece, colon_piece, field_piece, mark_piece, takes_mark, is_marked, last_piece, piece_at}
+use Rattle.sk_grammar.specs.Pieces.{Piece, token_piece, lengthened, quote_piece, is_starred, is_one, first_term, distance, distant, operator_of, words_kind, group_kind, group_of_len, group_piece, text_piece, filter_piece, range_piece, value_piece, colon_piece, field_piece, mark_piece, takes_mark, is_marked, last_piece, piece_at}
 use Rattle.sk_base.specs.Fields.{kind_prefix}
 use Rattle.sk_grammar.specs.Parts.{prefix_of}
 use Rattle.sk_meaning.proofs.TermLemmas.{terms_given}
@@ -55,7 +55,7 @@ or_piece : (schema : Schema) (o : Option Piece) (p : Piece) → OneFilled schema
 or_piece schema None p f g = g
 or_piece schema (Some q) p f g = f
 
-longer_filled : (schema : Schema) (n : ℕ) (o : Option Piece) → OneFilled schema o → OneFilled schema (option_map (longer n) o)
+longer_filled : (schema : Schema) (n : ℕ) (o : Option Piece) → OneFilled schema o → OneFilled schema (option_map (lengthened n) o)
 longer_filled schema n None f = tt
 longer_filled schema n (Some p) f = f
 

@@ -4,7 +4,7 @@ use Rattle.sk_grammar.specs.declared.token.Kind.{Kind}
 use Rattle.sk_grammar.specs.Parts.{Part, operator}
 use Rattle.sk_grammar.specs.Faults.{is_not}
 use Rattle.sk_grammar.specs.Runs.{Unit, unit_of, mark_behind, units}
-use Rattle.sk_grammar.specs.Meaning.{is_and, at, in_front, split, Run, in_run, runs, xor_runs}
+use Rattle.sk_grammar.specs.Meaning.{is_and, is_operator, in_front, split, Run, in_run, runs, xor_runs}
 use Rattle.sk_parser.specs.Views.{run_of}
 use Rattle.sk_grammar.specs.declared.token.Mark.{Mark}
 
@@ -34,13 +34,13 @@ SoFar test all made held rest = made ++ put_front held (split test rest) ≡ spl
 pub split_start : (test : Kind → Bool) (all : List Part) → SoFar test all [] [] all
 split_start test all = put_nothing (split test all)
 
-pub split_in : (test : Kind → Bool) (all : List Part) (made : List (List Part)) (held : List Part) (p : Part) (rest : List Part) → at test p ≡ false
+pub split_in : (test : Kind → Bool) (all : List Part) (made : List (List Part)) (held : List Part) (p : Part) (rest : List Part) → is_operator test p ≡ false
     → SoFar test all made held (p ∷ rest) → SoFar test all made (held ++ p ∷ []) rest
 split_in test all made held p rest e h =
     ap (λ S. made ++ S) (sym (put_more held p (split test rest)))
     ∙ ap (λ (b : Bool). made ++ put_front held (if b then [] ∷ split test rest else in_front p (split test rest))) (sym e) ∙ h
 
-pub split_cut : (test : Kind → Bool) (all : List Part) (made : List (List Part)) (held : List Part) (p : Part) (rest : List Part) → at test p ≡ true
+pub split_cut : (test : Kind → Bool) (all : List Part) (made : List (List Part)) (held : List Part) (p : Part) (rest : List Part) → is_operator test p ≡ true
     → SoFar test all made held (p ∷ rest) → SoFar test all (made ++ held ∷ []) [] rest
 split_cut test all made held p rest e h =
     ap (λ S. (made ++ held ∷ []) ++ S) (put_nothing (split test rest))
@@ -89,34 +89,34 @@ next_runs b d fresh negative p rest =
 pub runs_start : (all : List Part) → RunsSoFar all [] [] true false all
 runs_start all = run_nothing (runs true false all)
 
-pub runs_fresh : (all : List Part) (made : List Run) (held : List Part) (negative : Bool) (p : Part) (rest : List Part) → at is_not p ≡ true
+pub runs_fresh : (all : List Part) (made : List Run) (held : List Part) (negative : Bool) (p : Part) (rest : List Part) → is_operator is_not p ≡ true
     → RunsSoFar all made held true negative (p ∷ rest) → RunsSoFar all made held false true rest
-runs_fresh all made held negative p rest e h = ap (λ (b : Bool). made ++ put_run held (next_runs b (at is_and p) true negative p rest)) (sym e) ∙ h
+runs_fresh all made held negative p rest e h = ap (λ (b : Bool). made ++ put_run held (next_runs b (is_operator is_and p) true negative p rest)) (sym e) ∙ h
 
-pub runs_not : (all : List Part) (made : List Run) (held : List Part) (negative : Bool) (p : Part) (rest : List Part) → at is_not p ≡ true
+pub runs_not : (all : List Part) (made : List Run) (held : List Part) (negative : Bool) (p : Part) (rest : List Part) → is_operator is_not p ≡ true
     → RunsSoFar all made held false negative (p ∷ rest) → RunsSoFar all (made ++ run_of negative held ∷ []) [] false true rest
 runs_not all made held negative p rest e h =
-    ended made held negative (runs false true rest) ∙ ap (λ (b : Bool). made ++ put_run held (next_runs b (at is_and p) false negative p rest)) (sym e) ∙ h
+    ended made held negative (runs false true rest) ∙ ap (λ (b : Bool). made ++ put_run held (next_runs b (is_operator is_and p) false negative p rest)) (sym e) ∙ h
 
 -- AND is not NOT.
-and_only : (p : Part) → at is_and p ≡ true → at is_not p ≡ false
+and_only : (p : Part) → is_operator is_and p ≡ true → is_operator is_not p ≡ false
 and_only (operator Kind.And) e = refl
 and_only (operator Kind.Not) e = absurd (cc)
 and_only (operator k) e = refl
 and_only p e = refl
 
-pub runs_and : (all : List Part) (made : List Run) (held : List Part) (fresh negative : Bool) (p : Part) (rest : List Part) → at is_and p ≡ true
+pub runs_and : (all : List Part) (made : List Run) (held : List Part) (fresh negative : Bool) (p : Part) (rest : List Part) → is_operator is_and p ≡ true
     → RunsSoFar all made held fresh negative (p ∷ rest) → RunsSoFar all (made ++ run_of negative held ∷ []) [] true false rest
 runs_and all made held fresh negative p rest f h =
-    let e : at is_not p ≡ false = and_only p f in
+    let e : is_operator is_not p ≡ false = and_only p f in
     ended made held negative (runs true false rest) ∙ ap (λ (d : Bool). made ++ put_run held (next_runs false d fresh negative p rest)) (sym f)
-    ∙ ap (λ (b : Bool). made ++ put_run held (next_runs b (at is_and p) fresh negative p rest)) (sym e) ∙ h
+    ∙ ap (λ (b : Bool). made ++ put_run held (next_runs b (is_operator is_and p) fresh negative p rest)) (sym e) ∙ h
 
-pub runs_more : (all : List Part) (made : List Run) (held : List Part) (fresh negative : Bool) (p : Part) (rest : List Part) → at is_not p ≡ false → at is_and p ≡ false
+pub runs_more : (all : List Part) (made : List Run) (held : List Part) (fresh negative : Bool) (p : Part) (rest : List Part) → is_operator is_not p ≡ false → is_operator is_and p ≡ false
     → RunsSoFar all made held fresh negative (p ∷ rest) → RunsSoFar all made (held ++ p ∷ []) false negative rest
 runs_more all made held fresh negative p rest e f h =
     ap (λ R. made ++ R) (sym (run_more held p (runs false negative rest))) ∙ ap (λ (d : Bool). made ++ put_run held (next_runs false d fresh negative p rest)) (sym f)
-    ∙ ap (λ (b : Bool). made ++ put_run held (next_runs b (at is_and p) fresh negative p rest)) (sym e) ∙ h
+    ∙ ap (λ (b : Bool). made ++ put_run held (next_runs b (is_operator is_and p) fresh negative p rest)) (sym e) ∙ h
 
 pub runs_end : (all : List Part) (made : List Run) (held : List Part) (fresh negative : Bool) → RunsSoFar all made held fresh negative [] → made ++ run_of negative held ∷ [] ≡ xor_runs all
 runs_end all made held fresh negative h = ap (λ xs. made ++ run_of negative xs ∷ []) (sym (append-nil held)) ∙ h

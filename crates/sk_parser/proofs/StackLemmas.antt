@@ -5,7 +5,7 @@ use Rattle.sk_base.specs.declared.schema.Schema.{Schema}
 use Rattle.sk_base.specs.declared.find.Join.{Join}
 use Rattle.sk_grammar.specs.Brackets.{Nest, single, bracket, Nests, no_nests, nest, Levels, opened, with_token}
 use Rattle.sk_grammar.specs.declared.token.Kind.{Kind}
-use Rattle.sk_grammar.specs.Parts.{prefix_in, part_of, with_part, chained}
+use Rattle.sk_grammar.specs.Parts.{prefix_in, single_part, with_part, chained}
 use Rattle.sk_grammar.specs.Meaning.{closed_part, nest_part, nest_parts}
 use Rattle.sk_parser.specs.declared.stack.Level.{Level}
 use Rattle.sk_parser.specs.Stack.{Inside, inside_with, finished, level_view, below_view, field_or}
@@ -52,9 +52,9 @@ other_token k behind f g = refl
 
 -- A token that is no bracket is one part more.
 pub put_moved : (schema : Schema) (join : Join) (top next : Inside) (below : List Inside) (k : Kind) (here : Nests) (outside : List Nests)
-    → next.prefix ≡ top.prefix → next.made ≡ with_part top.made (part_of schema top.prefix k) → finished schema join next below here outside ≡ finished schema join top below (nest (single k) here) outside
+    → next.prefix ≡ top.prefix → next.made ≡ with_part top.made (single_part schema top.prefix k) → finished schema join next below here outside ≡ finished schema join top below (nest (single k) here) outside
 put_moved schema join top next below k here outside e f =
-    let moved : finished schema join next below here outside ≡ finished schema join (inside_with top (part_of schema top.prefix k)) below here outside =
+    let moved : finished schema join next below here outside ≡ finished schema join (inside_with top (single_part schema top.prefix k)) below here outside =
     λ i. finished schema join (record { prefix = e i; made = f i }) below here outside in
     moved ∙ one_nest schema join top below (single k) here outside
 

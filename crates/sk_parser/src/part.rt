@@ -5,7 +5,7 @@ ghost use Rattle.sk_base.specs.Terms.{prefixed};
 ghost use Rattle.sk_query.specs.Trees.{limit_of, query_view};
 ghost use Rattle.sk_grammar.specs.Bounds.{halves, is_number, is_number_kind, are_numbers};
 ghost use Rattle.sk_grammar.specs.Faults.{is_bad_range, takes_numbers};
-ghost use Rattle.sk_grammar.specs.Parts.{chain, unit, prefix_of, prefix_in, side_by_side, limit_in, slot_of, range_in, all_prefixed, stem_asked, part_of, chain_tree};
+ghost use Rattle.sk_grammar.specs.Parts.{chain, unit, prefix_of, prefix_in, side_by_side, limit_in, slot_of, range_in, all_prefixed, stem_asked, single_part, chain_tree};
 ghost use Rattle.sk_parser.specs.Views.{part_view, kind_range};
 
 use sk_base::{Field, FieldKind, Items, Schema, Text, prefixed};
@@ -162,7 +162,7 @@ pub(crate) fn part_of(
     kind: &Kind,
 ) -> Result<Part, AllocError>
     requires { is_bad_range schema.now kind.now ≡ false }
-    ensures { IfOk result (λ p. part_view p ≡ part_of schema.now around.now kind.now) }
+    ensures { IfOk result (λ p. part_view p ≡ single_part schema.now around.now kind.now) }
 {
     match kind {
         Kind::Word(field, term, capital) => word_part(

@@ -1,6 +1,6 @@
 //! Splits parts at their operators.
 ghost use Rattle.std.specs.Prelude.{◌≡◌, [], ◌∷◌, ◌++◌, IfOk, OnOk, map};
-ghost use Rattle.sk_grammar.specs.Meaning.{is_and, is_or, is_xor, at, split, runs, xor_runs};
+ghost use Rattle.sk_grammar.specs.Meaning.{is_and, is_or, is_xor, is_operator, split, runs, xor_runs};
 ghost use Rattle.sk_grammar.specs.Faults.{is_not};
 ghost use Rattle.sk_parser.specs.Views.{part_view, parts_view, run_view, run_of, border_test, segments_view};
 
@@ -24,7 +24,7 @@ pub(crate) struct Run {
 }
 
 fn is_at(border: Border, part: &Part) -> bool
-    ensures { result ≡ at (border_test border) (part_view part.now) }
+    ensures { result ≡ is_operator (border_test border) (part_view part.now) }
 {
     match part {
         Part::Operator(Kind::Or) => matches!(border, Border::Or),
@@ -34,13 +34,13 @@ fn is_at(border: Border, part: &Part) -> bool
 }
 
 fn is_and(part: &Part) -> bool
-    ensures { result ≡ at is_and (part_view part.now) }
+    ensures { result ≡ is_operator is_and (part_view part.now) }
 {
     matches!(part, Part::Operator(Kind::And))
 }
 
 fn is_not(part: &Part) -> bool
-    ensures { result ≡ at is_not (part_view part.now) }
+    ensures { result ≡ is_operator is_not (part_view part.now) }
 {
     matches!(part, Part::Operator(Kind::Not))
 }

@@ -10,7 +10,7 @@ use Rattle.sk_query.specs.Trees.{Limit, unbounded, Tree, nothing, all, term, wil
 use Rattle.sk_query.specs.Trees.{number as number_limit, bytes as bytes_limit}
 use Rattle.sk_query.specs.Fits.{is_window, is_factor, is_slot, is_sound, are_sound, depth_of, depth_in, fits_tree}
 use Rattle.sk_query_json.specs.Reading.{number_if, window_and_texts, limit_of_value, parts_named, read_tree, read_named, read_trees, fitting, tree_of}
-use Rattle.sk_query_json.specs.Writing.{strings_of, json_of_limit, json_of, values_of}
+use Rattle.sk_query_json.specs.Writing.{strings_of, json_of_limit, json_of, json_of_all}
 
 pub form_named : (form : Form) → parts_named (name_of form) ≡ Some form
 form_named Form.And = refl
@@ -40,8 +40,8 @@ pair f x y o p e h = λ i. option_and_then (λ a. option_map (f a) (h i)) (e i)
 window_back : (w : ℕ) (texts : List (List ℕ)) → is_window w ≡ true → window_and_texts (item (number (unsigned w)) (strings_of texts)) ≡ Some (w, texts)
 window_back w texts h = pair {C = ℕ × List (List ℕ)} (λ a b. (a, b)) w texts _ _ (number_back is_window w h) (texts_back texts)
 
-parts_back : (form : Form) (ts : Trees) → read_trees (values_of ts) ≡ Some ts → read_tree (json_of (parts form ts)) ≡ Some (parts form ts)
-parts_back form ts h = (λ i. read_named (form_named form i) (name_of form) (array (values_of ts))) ∙ ap (option_map (parts form)) h
+parts_back : (form : Form) (ts : Trees) → read_trees (json_of_all ts) ≡ Some ts → read_tree (json_of (parts form ts)) ≡ Some (parts form ts)
+parts_back form ts h = (λ i. read_named (form_named form i) (name_of form) (array (json_of_all ts))) ∙ ap (option_map (parts form)) h
 
 scale_back : (f : ℕ) (t : Tree) → is_factor f ≡ true → read_tree (json_of t) ≡ Some t → read_tree (json_of (scale f t)) ≡ Some (scale f t)
 scale_back f t h e = pair scale f t _ _ (number_back is_factor f h) e
@@ -64,7 +64,7 @@ mutual
   sound_back above (scale f t) h = scale_back f t (first_so _ _ (first_so _ _ h)) (sound_back (above * f) t (second_so _ _ h))
   sound_back above (range slot lo hi) h = range_back slot lo hi h
 
-  all_back : (above : ℕ) (ts : Trees) → are_sound above ts ≡ true → read_trees (values_of ts) ≡ Some ts
+  all_back : (above : ℕ) (ts : Trees) → are_sound above ts ≡ true → read_trees (json_of_all ts) ≡ Some ts
   all_back above no_trees h = refl
   all_back above (tree t ts) h = pair tree t ts _ _ (sound_back above t (first_so _ _ h)) (all_back above ts (second_so _ _ h))
 
@@ -95,7 +95,7 @@ mutual
   twice_as_deep (scale f t) = let h = twice_as_deep t in omega arith
   twice_as_deep (range slot lo hi) = let h = limit_flat lo in let k = limit_flat hi in omega arith
 
-  all_twice_as_deep : (ts : Trees) → items_depth (values_of ts) ≤ 2 * depth_in ts
+  all_twice_as_deep : (ts : Trees) → items_depth (json_of_all ts) ≤ 2 * depth_in ts
   all_twice_as_deep no_trees = omega arith
   all_twice_as_deep (tree t ts) = let h = twice_as_deep t in let k = all_twice_as_deep ts in omega arith
 
@@ -122,6 +122,6 @@ mutual
   no_float (scale f t) = ap (λ b. (b || false) || false) (no_float t)
   no_float (range slot lo hi) = λ i. (no_float_in_limit lo i || (no_float_in_limit hi i || false)) || false
 
-  no_float_in_all : (ts : Trees) → items_have_float (values_of ts) ≡ false
+  no_float_in_all : (ts : Trees) → items_have_float (json_of_all ts) ≡ false
   no_float_in_all no_trees = refl
   no_float_in_all (tree t ts) = λ i. no_float t i || no_float_in_all ts i

@@ -12,14 +12,14 @@ use Rattle.sk_query.specs.declared.query.Query.{Query}
 use Rattle.sk_query.specs.Trees.{Tree, query_view, queries_view}
 use Rattle.sk_query.specs.Fits.{fits_tree}
 use Rattle.sk_query_json.specs.Reading.{tree_of}
-use Rattle.sk_query_json.specs.Writing.{json_of, values_of}
+use Rattle.sk_query_json.specs.Writing.{json_of, json_of_all}
 use Rattle.sk_query_json.proofs.RoundTrip.{read_back, no_float}
 
-values_of-queries : (qs : List Query) → values_of (queries_view qs) ≡ items_of (map (λ q. json_of (query_view q)) qs)
+values_of-queries : (qs : List Query) → json_of_all (queries_view qs) ≡ items_of (map (λ q. json_of (query_view q)) qs)
 values_of-queries [] = refl
 values_of-queries (q ∷ qs) = ap (item (json_of (query_view q))) (values_of-queries qs)
 
-pub all_made : (vs : List Value) (qs : List Query) (i : ℕ) → length qs ≤ i → map view vs ≡ map (λ q. json_of (query_view q)) (take i qs) → items_view vs ≡ values_of (queries_view qs)
+pub all_made : (vs : List Value) (qs : List Query) (i : ℕ) → length qs ≤ i → map view vs ≡ map (λ q. json_of (query_view q)) (take i qs) → items_view vs ≡ json_of_all (queries_view qs)
 all_made vs qs i l e = ap items_of (e ∙ ap (map (λ q. json_of (query_view q))) (take_all i qs l)) ∙ sym (values_of-queries qs)
 
 pub value_reads_back : (r : Result Value AllocError) (t : Tree) → IfOk r (λ v. view v ≡ json_of t) → fits_tree t ≡ true → IfOk r (λ v. tree_of (view v) ≡ Some t)

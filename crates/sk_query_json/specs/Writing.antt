@@ -31,7 +31,7 @@ abbrev mutual
   json_of all = named (codes "all") (array no_items)
   json_of (term text) = named (codes "term") (string text)
   json_of (wildcard prefix) = named (codes "wildcard") (string prefix)
-  json_of (parts form ts) = named (name_of form) (array (values_of ts))
+  json_of (parts form ts) = named (name_of form) (array (json_of_all ts))
   json_of (near w texts) = named (codes "near") (array (windowed w texts))
   json_of (phrase w texts) = named (codes "phrase") (array (windowed w texts))
   json_of (synonym texts) = named (codes "synonym") (array (strings_of texts))
@@ -39,6 +39,6 @@ abbrev mutual
   json_of (range slot lo hi) = named (codes "range") (array (item (number (unsigned slot)) (item (json_of_limit lo) (item (json_of_limit hi) no_items))))
 
   -- The values of trees, in order.
-  pub values_of : Trees → Items
-  values_of no_trees = no_items
-  values_of (tree t ts) = item (json_of t) (values_of ts)
+  pub json_of_all : Trees → Items
+  json_of_all no_trees = no_items
+  json_of_all (tree t ts) = item (json_of t) (json_of_all ts)

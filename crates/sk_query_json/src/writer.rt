@@ -5,7 +5,7 @@ ghost use Rattle.serde_json.specs.View.{view, items_view};
 ghost use Rattle.sk_query.specs.Trees.{limit_of, query_view, queries_view};
 ghost use Rattle.sk_query.specs.Fits.{fits_tree};
 ghost use Rattle.sk_query_json.specs.Reading.{tree_of};
-ghost use Rattle.sk_query_json.specs.Writing.{named, windowed, json_of_limit, json_of, values_of};
+ghost use Rattle.sk_query_json.specs.Writing.{named, windowed, json_of_limit, json_of, json_of_all};
 
 use serde_json::{Map, Value};
 use sk_base::Text;
@@ -67,7 +67,7 @@ fn json_of(alloc: Global, query: &Query) -> Result<Value, AllocError>
 /// The values of queries, in order.
 #[cycle(json_of)]
 fn values_of(alloc: Global, parts: &[Query]) -> Result<Vec<Value>, AllocError>
-    ensures { IfOk result (λ made. items_view made.items ≡ values_of (queries_view parts.now)) }
+    ensures { IfOk result (λ made. items_view made.items ≡ json_of_all (queries_view parts.now)) }
 {
     let mut made = Vec::new(alloc);
     'parts: for part in parts {

@@ -11,7 +11,7 @@ use Rattle.std.proofs.lemmas.Map.Entries.{All-lookup}
 use Rattle.sk_sorted.specs.Entries.{LieBelow}
 use Rattle.sk_sorted.proofs.EntryLaws.{LieBelow-higher, LieBelow-without, AllByRecursion-without, put-last}
 use Rattle.sk_base.specs.Commands.{FitsTurns}
-use Rattle.sk_report.specs.Flights.{Open, Flights, at, open_at, without, owed, readings_open, TurnsAs}
+use Rattle.sk_report.specs.Flights.{Open, Flights, at, open_at, without_search, owed, readings_open, TurnsAs}
 use Rattle.sk_reference.specs.Searches.{Stands, Tells, AreKept, turned, with_search}
 use Rattle.sk_reference.proofs.SearchLaws.{turned_turns}
 

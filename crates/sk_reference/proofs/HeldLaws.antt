@@ -6,7 +6,7 @@ use Rattle.sk_base.specs.declared.command.FlightCommand.{FlightCommand}
 use Rattle.sk_base.specs.declared.report.Report.{Report}
 use Rattle.sk_base.specs.declared.schema.Schema.{Schema}
 use Rattle.sk_sorted.proofs.EntryLaws.{without-absent}
-use Rattle.sk_report.specs.Flights.{Open, Flights, open_at, without, owed, readings_open, AllMay, ClosesAs}
+use Rattle.sk_report.specs.Flights.{Open, Flights, open_at, without_search, owed, readings_open, AllMay, ClosesAs}
 use Rattle.sk_run.specs.declared.refusal.Refusal.TheVariants as Refusal
 use Rattle.sk_run.specs.declared.response.Response.{Response}
 use Rattle.sk_run.specs.Lines.{IsReached}
@@ -22,12 +22,12 @@ flown shelf flights = record { schema = shelf.schema; live = shelf.live; parts =
 -- ---- ends
 
 pub closes_one : (old new : Shelved) (number : ℕ) (one : Open) (first : ℕ) (report : Report) (reads : ℕ) → open_at number old.flights ≡ Some one → one.done ≡ true
-    → Stands one → Tells one report → first ≡ one.paging.options.first → new ≡ flown old (without number old.flights)
+    → Stands one → Tells one report → first ≡ one.paging.options.first → new ≡ flown old (without_search number old.flights)
     → ClosesHeld Stands Tells number (held_by old) (Response.Closed first report reads) (held_by new)
 closes_one old new number one first report reads there done stands tells from after =
-    inr (inr (report, reads, without number old.flights, closes, ap (λ (n : ℕ). Response.Closed n report reads) from, ap held_by after))
+    inr (inr (report, reads, without_search number old.flights, closes, ap (λ (n : ℕ). Response.Closed n report reads) from, ap held_by after))
   where
-    closes : ClosesAs Stands Tells number old.flights report (without number old.flights)
+    closes : ClosesAs Stands Tells number old.flights report (without_search number old.flights)
     closes = record {
       search = one;
       is = there;
@@ -37,7 +37,7 @@ closes_one old new number one first report reads there done stands tells from af
       after = refl;
     }
 
-pub drops_none : (old new : Shelved) (number : ℕ) → open_at number old.flights ≡ None → new ≡ flown old (without number old.flights)
+pub drops_none : (old new : Shelved) (number : ℕ) → open_at number old.flights ≡ None → new ≡ flown old (without_search number old.flights)
     → DropsHeld Stands Tells number (held_by old) (Response.Refused Refusal.NotOpen) (held_by new)
 drops_none old new number none after =
     inl (none, refl, ap held_by (after ∙ ap (λ (searches : List (ℕ × Open)). flown old (record { searches = searches; opened = old.flights.opened })) (without-absent number old.flights.searches none)))

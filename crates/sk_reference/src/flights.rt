@@ -3,7 +3,7 @@ ghost use Rattle.std.specs.Prelude.{◌≡◌, ◌+◌, length, map, IfOk, IfSom
 ghost use Rattle.std.specs.Map.{keys_of};
 ghost use Rattle.std.specs.Option.{option_copied};
 ghost use Rattle.sk_base.specs.Commands.{FitsTurns};
-ghost use Rattle.sk_report.specs.Flights.{none_open, open_at, without, owed, readings_open, AllMay};
+ghost use Rattle.sk_report.specs.Flights.{none_open, open_at, without_search, owed, readings_open, AllMay};
 ghost use Rattle.sk_reference.specs.Searches.{Stands, TurnsTo, with_search};
 
 use crate::search::Search;
@@ -89,7 +89,7 @@ impl Flights {
     pub fn remove(&mut self, number: u64) -> Option<Search>
         ensures value { result ≡ open_at number self.old }
         ensures stands { IfSome result Stands }
-        ensures left { self.new ≡ without number self.old }
+        ensures left { self.new ≡ without_search number self.old }
         ensures unread { owed self.new ≡ owed self.old }
     {
         self.searches.remove(&number)

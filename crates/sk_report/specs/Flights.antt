@@ -111,8 +111,8 @@ abbrev pub open_at : ℕ → Flights → Option Open
 open_at number flights = lookup (at number) flights.searches
 
 -- All but that one.
-abbrev pub without : ℕ → Flights → Flights
-without number flights = record { searches = remove_entry (at number) flights.searches; opened = flights.opened }
+abbrev pub without_search : ℕ → Flights → Flights
+without_search number flights = record { searches = remove_entry (at number) flights.searches; opened = flights.opened }
 
 -- The readings of all open searches, which no answer told of as yet.
 abbrev pub owed : Flights → ℕ
@@ -152,7 +152,7 @@ module _ (May : Open → Type 0) (Tells : Open → Report → Type 0) where
     pub ended : search.done ≡ true
     pub tells : Tells search report
     pub paid : search.spent ≤ report.steps
-    pub after : new ≡ without number old
+    pub after : new ≡ without_search number old
 
   -- The search with this number is gone, after so many readings.
   pub record DropsAs (number : ℕ) (old : Flights) (spent : ℕ) (new : Flights) : Type 0 where
@@ -160,4 +160,4 @@ module _ (May : Open → Type 0) (Tells : Open → Report → Type 0) where
     pub is : open_at number old ≡ Some search
     pub may : May search
     pub readings : spent ≡ search.spent
-    pub after : new ≡ without number old
+    pub after : new ≡ without_search number old
