@@ -18,12 +18,13 @@ use rounds::{Rounds, sum_of_rounds};
 use serde_json::Value;
 use sk_base::{DocId, Scheme, Weight};
 use sk_index::Index;
-use sk_io::{Line, Lines, StdSource};
+use sk_io::{Line, Lines, Source, StdSource};
 use sk_query::Query;
 use sk_query_json::from_json;
 use sk_steps::Steps;
 use sk_tree::Tree;
 use std::alloc::{AllocError, Global};
+use std::env::Args;
 use std::marker::Brand;
 use std::process::ExitCode;
 use std::rt::Env;
@@ -127,6 +128,74 @@ fn outcome<R: Env>(
     Ok(seeks)
 }
 
+/// What the lines came to.
+enum Sought {
+    /// So many seeks through so many trees leave what they may.
+    Lawful(u64, u64),
+    /// A seek through the tree of this line leaves what it may not.
+    Unlawful(String),
+    /// The lines cannot be read.
+    Unread,
+}
+
+/// What one line came to.
+enum Step {
+    /// A document.
+    Document,
+    /// So many seeks.
+    Tree(u64),
+    /// A seek leaves what it may not.
+    Unlawful,
+}
+
+/// The index with the document of a line, or the same and what a query's seeks came to.
+fn take_line<R: Env>(
+    rt: &R,
+    alloc: Global,
+    index: Index,
+    line: &[u8],
+) -> Result<(Index, Step), AllocError> {
+    if let Some(text) = line.strip_prefix(b"+ ") {
+        return Ok((add(alloc, index, text)?, Step::Document));
+    }
+    match outcome(rt, alloc, &index, line)? {
+        Some(seeks) => Ok((index, Step::Tree(seeks))),
+        None => Ok((index, Step::Unlawful)),
+    }
+}
+
+/// Adds the documents of lines, and seeks through the trees of the others.
+fn seek_all<R: Env, S: Source>(
+    rt: &R,
+    alloc: Global,
+    source: &mut S,
+) -> Result<Sought, AllocError> {
+    let mut lines = Lines::new(alloc, MOST_BYTES)?;
+    let mut index = empty_index(alloc)?;
+    let mut trees = 0u64;
+    let mut seeks = 0u64;
+    for _ in 0..u64::MAX {
+        let line = match lines.next(source) {
+            Ok(Some(Line::Whole(line))) => line,
+            Ok(None) => break,
+            _ => return Ok(Sought::Unread),
+        };
+        let (next, told) = take_line(rt, alloc, index, line)?;
+        index = next;
+        match told {
+            Step::Document => {}
+            Step::Tree(more) => {
+                trees = trees.saturating_add(1);
+                seeks = seeks.saturating_add(more);
+            }
+            Step::Unlawful => {
+                return Ok(Sought::Unlawful(String::from_utf8_lossy(alloc, line)?));
+            }
+        }
+    }
+    Ok(Sought::Lawful(seeks, trees))
+}
+
 /// The number of a word, 0 where it is none.
 fn number(word: Option<String>) -> u32 {
     match word {
@@ -135,46 +204,39 @@ fn number(word: Option<String>) -> u32 {
     }
 }
 
-fn main(rt: HostRuntime) -> io::Result<ExitCode> {
-    let alloc = rt.alloc();
-    let mut args = env::args(&rt)?;
+/// The rounds that the words ask for, if there is one.
+fn rounds_asked(mut args: Args) -> Option<Rounds> {
     args.next();
     let first = args.next();
-    if first.is_some() {
-        let rounds = Rounds {
-            documents: number(first),
-            walks: number(args.next()),
-            form: number(args.next()),
-        };
+    if first.is_none() {
+        return None;
+    }
+    Some(Rounds {
+        documents: number(first),
+        walks: number(args.next()),
+        form: number(args.next()),
+    })
+}
+
+fn main(rt: HostRuntime) -> io::Result<ExitCode> {
+    let alloc = rt.alloc();
+    if let Some(rounds) = rounds_asked(env::args(&rt)?) {
         let sum = sum_of_rounds(&rt, alloc, rounds)?;
         println!(rt; "{sum}")?;
     }
     let mut source = StdSource::new(rt.stdin());
-    let mut lines = Lines::new(alloc, MOST_BYTES)?;
-    let mut index = empty_index(alloc)?;
-    let mut trees = 0u64;
-    let mut seeks = 0u64;
-    for _ in 0..u64::MAX {
-        let line = match lines.next(&mut source) {
-            Ok(Some(Line::Whole(line))) => line,
-            Ok(None) => break,
-            _ => {
-                eprintln!(rt; "the lines cannot be read")?;
-                return Ok(ExitCode::from(3));
-            }
-        };
-        if let Some(text) = line.strip_prefix(b"+ ") {
-            index = add(alloc, index, text)?;
-            continue;
+    match seek_all(&rt, alloc, &mut source)? {
+        Sought::Lawful(seeks, trees) => {
+            println!(rt; "{seeks} seeks in {trees} trees leave what they may")?;
+            Ok(ExitCode::SUCCESS)
         }
-        let Some(more) = outcome(&rt, alloc, &index, line)? else {
-            let line = String::from_utf8_lossy(alloc, line)?;
+        Sought::Unlawful(line) => {
             println!(rt; "leaves what it may not: {line}")?;
-            return Ok(ExitCode::FAILURE);
-        };
-        trees = trees.saturating_add(1);
-        seeks = seeks.saturating_add(more);
+            Ok(ExitCode::FAILURE)
+        }
+        Sought::Unread => {
+            eprintln!(rt; "the lines cannot be read")?;
+            Ok(ExitCode::from(3))
+        }
     }
-    println!(rt; "{seeks} seeks in {trees} trees leave what they may")?;
-    Ok(ExitCode::SUCCESS)
 }

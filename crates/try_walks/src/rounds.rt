@@ -83,6 +83,23 @@ fn walk<L: Ledger>(
     Ok(sum)
 }
 
+/// The sum of all weights in so many walks.
+fn sum_in<L: Ledger>(
+    alloc: Global,
+    index: &Index,
+    query: &Query,
+    walks: u32,
+    steps: &mut Steps<L>,
+) -> Result<Weight, AllocError>
+    requires fits { fits_tree (query_view query.now) ≡ true }
+{
+    let mut sum: Weight = 0;
+    'rounds: for _ in 0..walks {
+        sum = sum.wrapping_add(walk(alloc, index, query, steps)?);
+    }
+    Ok(sum)
+}
+
 /// The sum of all weights in all rounds.
 fn sum_of<R: Env, L: Ledger>(
     rt: &R,
@@ -100,11 +117,7 @@ fn sum_of<R: Env, L: Ledger>(
     if !query.fits() {
         return Err(AllocError);
     }
-    let mut sum: Weight = 0;
-    'rounds: for _ in 0..rounds.walks {
-        sum = sum.wrapping_add(walk(alloc, &index, &query, &mut steps)?);
-    }
-    Ok(sum)
+    sum_in(alloc, &index, &query, rounds.walks, &mut steps)
 }
 
 /// The same, under a counter of its own.
