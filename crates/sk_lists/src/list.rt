@@ -13,7 +13,7 @@ use std::marker::Model;
 use std::slice;
 
 /// The entries of one term, one for each document that has it, with its wdf there, in chunks of up to 32. On a list
-/// that is only lent, only a cursor or the counted reading of a chunk shows them.
+/// that is only lent, only a cursor or the counted reading of a chunk shows them; who copies it owns the copy's.
 #[derive(Drop)]
 pub struct List {
     alloc: Global,
