@@ -1,5 +1,5 @@
 -- The open searches as callers see them.
-use Rattle.std.proofs.Common.{◌≡◌, ◌≤◌, ◌<◌, ◌+◌, ℕ, Bool, true, false, sum_by, List, [], ◌∷◌, ◌++◌, length, map, All, Option, Some, None, Result, Ok, Err, OnOk, OnErr, IfOk, IfSome, unwrap_or, option_map, refl, sym, ap, ◌∙◌, subst, arith, true≢false}
+use Rattle.std.proofs.Common.{◌≡◌, ◌≤◌, ◌<◌, ◌+◌, ℕ, Bool, true, false, sum_by, List, [], ◌∷◌, ◌++◌, length, map, All, Option, Some, None, Result, Ok, Err, OnOk, OnErr, IfOk, IfSome, unwrap_or, is_some, option_map, refl, sym, ap, ◌∙◌, subst, arith, true≢false}
 use Rattle.std.specs.List.{AllByRecursion}
 use Rattle.std.specs.Map.{lookup, set_value, remove_entry, values_of}
 use Rattle.std.specs.Option.{IsSomeAnd}
@@ -42,6 +42,10 @@ module _ (number opened : ℕ) (es : List (ℕ × Flight)) where
   -- where none is found none is open, and nothing is taken out
   pub not_open : lookup (at number) es ≡ None → open_at number (flights_in es opened) ≡ None
   not_open is = open_there None is
+
+  -- and the one that is found is open
+  pub is_open : (f : Flight) → lookup (at number) es ≡ Some f → open_at number (flights_in es opened) ≡ None → ⊥
+  is_open f is none = true≢false (ap is_some (sym (open_there (Some f) is) ∙ none))
 
   -- the one that is found is not done
   pub not_done : (b : Bool) → Some b ≡ option_map (λ (f : Flight). f.is_done) (lookup (at number) es) → b ≡ false → IsSomeAnd (open_at number (flights_in es opened)) (λ search. search.done ≡ false)

@@ -1,5 +1,5 @@
 //! The open searches, and the documents that stand now.
-ghost use Rattle.std.specs.Prelude.{◌≡◌, ◌≤◌, ◌<◌, ◌+◌, ◌^◌, ℕ, length, true, All, IfOk, IfSome, None, OnOk, OnErr, unwrap_or};
+ghost use Rattle.std.specs.Prelude.{◌≡◌, ◌≤◌, ◌<◌, ◌+◌, ◌^◌, ℕ, length, true, All, IfOk, IfSome, IsOk, None, OnOk, OnErr, unwrap_or};
 ghost use Rattle.std.specs.Map.{lookup, remove_entry, values_of};
 ghost use Rattle.std.specs.Option.{option_map};
 ghost use Rattle.sk_base.specs.Finds.{FitsPaging};
@@ -146,6 +146,7 @@ impl Flights {
         requires paging { FitsPaging paging }
         requires left { self.old.flights.opened + 1 < 2 ^ 64 }
         ensures opens { IfOk result (λ opened. Opens paging (query_view query) self.old self.new opened) }
+        ensures full { most_open ≤ length self.old.flights.searches → IsOk result }
         ensures err { OnErr result (self.new ≡ self.old) }
         ensures cost { OnOk result (steps.new + owed self.old.flights ≡ steps.old + owed self.new.flights) }
         ensures later { steps.old ≤ steps.new }
@@ -168,6 +169,7 @@ impl Flights {
         steps: &mut Steps<L>,
     ) -> Result<Option<Turn>, AllocError>
         ensures turns { IfOk result (λ turn. Turns number 1 self.old.flights self.new.flights turn) }
+        ensures succeeds { open_at number self.old.flights ≡ None → IsOk result }
         ensures gone { OnErr result (self.new.flights ≡ without_search number self.old.flights) }
         ensures keeps { self.new.newest ≡ self.old.newest }
         ensures cost { OnOk result (steps.new + owed self.old.flights ≡ steps.old + owed self.new.flights) }
@@ -186,6 +188,7 @@ impl Flights {
     ) -> Result<Option<Turn>, AllocError>
         requires { 1 ≤ times }
         ensures turns { IfOk result (λ turn. Turns number times self.old.flights self.new.flights turn) }
+        ensures succeeds { open_at number self.old.flights ≡ None → IsOk result }
         ensures gone { OnErr result (self.new.flights ≡ without_search number self.old.flights) }
         ensures keeps { self.new.newest ≡ self.old.newest }
         ensures cost { OnOk result (steps.new + owed self.old.flights ≡ steps.old + owed self.new.flights) }
@@ -201,6 +204,7 @@ impl Flights {
         steps: &mut Steps<L>,
     ) -> Result<Finish, AllocError>
         ensures ends { IfOk result (λ finish. Ends number self.old.flights self.new.flights finish) }
+        ensures succeeds { open_at number self.old.flights ≡ None → IsOk result }
         ensures gone { OnErr result (self.new.flights ≡ without_search number self.old.flights) }
         ensures keeps { self.new.newest ≡ self.old.newest }
         ensures cost { IfOk result (λ finish. steps.new + owed self.old.flights ≡ steps.old + (owed self.new.flights + steps_in finish)) }
@@ -282,6 +286,7 @@ fn turns_of<L: Ledger>(
     requires some { 1 ≤ times }
     ensures kept { (opened : ℕ) → AreFlights opened flights.old.entries → AreFlights opened flights.new.entries }
     ensures turns { IfOk result (λ turn. (opened : ℕ) → Turns number times (flights_in flights.old.entries opened) (flights_in flights.new.entries opened) turn) }
+    ensures succeeds { (opened : ℕ) → open_at number (flights_in flights.old.entries opened) ≡ None → IsOk result }
     ensures gone { OnErr result (flights.new.entries ≡ remove_entry (at number) flights.old.entries) }
     ensures cost { OnOk result ((opened : ℕ) → steps.new + owed (flights_in flights.old.entries opened) ≡ steps.old + owed (flights_in flights.new.entries opened)) }
     ensures later { steps.old ≤ steps.new }

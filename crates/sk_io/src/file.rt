@@ -3,7 +3,7 @@ ghost use Rattle.std.specs.Prelude.{◌≡◌, ◌<◌, None, length};
 ghost use Rattle.std.specs.Io.{ReadsAtMost};
 ghost use Rattle.std.specs.Io.KnownBytes.{ReadConsumes};
 ghost use Rattle.sk_io.specs.Causes.{HasCause};
-ghost use Rattle.sk_io.specs.Files.{file_faults};
+ghost use Rattle.sk_io.specs.Files.{file_faults, file_path};
 
 use crate::standard::read_some;
 use crate::{Failed, Source};
@@ -32,7 +32,8 @@ pub struct LazyFile<'a, R: Files> {
 impl<'a, R: Files> LazyFile<'a, R> {
     /// A source that has not failed. Nothing is opened.
     pub fn new(rt: &'a R, path: String) -> LazyFile<'a, R>
-        ensures { file_faults result ≡ 0 }
+        ensures path { file_path result ≡ path }
+        ensures faults { file_faults result ≡ 0 }
     {
         LazyFile {
             rt,
@@ -44,7 +45,8 @@ impl<'a, R: Files> LazyFile<'a, R> {
 
     /// Opens the file where that was not tried before.
     fn open(&mut self)
-        ensures { file_faults self.new ≡ file_faults self.old }
+        ensures path { file_path self.new ≡ file_path self.old }
+        ensures faults { file_faults self.new ≡ file_faults self.old }
     {
         if let Opened::NotYet = self.opened {
             self.opened = match fs::open(self.rt, self.path.as_str()) {

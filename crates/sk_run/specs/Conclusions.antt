@@ -1,5 +1,5 @@
 -- What is said of a run at its end, behind its answers.
-use Rattle.std.specs.Prelude.{ℕ, List, [], ◌∷◌, ◌++◌, Option, Some, None, ◌⊎◌}
+use Rattle.std.specs.Prelude.{◌≡◌, ℕ, true, List, [], ◌∷◌, ◌++◌, Option, Some, None, ◌⊎◌}
 use Rattle.std.specs.Io.KnownBytes.{Appends}
 use Rattle.sk_io.specs.Causes.{Rose}
 use Rattle.sk_io.specs.Fronts.{AppendsPrefix}
@@ -16,3 +16,8 @@ line_of (Some message) = message ++ 10 ∷ []
 abbrev pub Says : List ℕ → Status → Taken → Taken → Type 0
 Says usage status before after =
     Appends before.held after.held (line_of (message_of usage status)) ⊎ (AppendsPrefix before.held after.held (line_of (message_of usage status)) × Rose before.faults after.faults)
+
+-- Behind a message all that the sink took is where it belongs, unless it failed; where there is none it is not touched.
+abbrev pub Settles : Option (List ℕ) → Taken → Taken → Type 0
+Settles None before after = after ≡ before
+Settles (Some message) before after = (after.settled ≡ true) ⊎ Rose before.faults after.faults

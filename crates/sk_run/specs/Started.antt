@@ -2,8 +2,8 @@
 use Rattle.std.specs.Prelude.{◌≡◌, ℕ, List, Result, Ok, Err, map, drop, string_bytes}
 use Rattle.std.proofs.Common.{String, Global, Vec}
 use Rattle.sk_run.specs.declared.status.Status.{Status}
-use Rattle.sk_run.specs.Statuses.{code_of}
-use Rattle.sk_run.specs.Conclusions.{Says}
+use Rattle.sk_run.specs.Statuses.{code_of, message_of}
+use Rattle.sk_run.specs.Conclusions.{Says, Settles}
 use Rattle.sk_io.specs.Seen.{Seen, Taken}
 use Rattle.sk_run.specs.Outsides.{Outside, outside_at}
 
@@ -37,4 +37,5 @@ module _ (Runs : List (List ℕ) → Status → Outside → Outside → Type 0) 
     pub status : Status
     pub number : code ≡ code_of status
     pub says : Says usage status said_before said_after
+    pub settles : Settles (message_of usage status) said_before said_after
     pub ran : RanFrom arguments status before after

@@ -1,9 +1,10 @@
 //! What is answered where a query is asked for.
-ghost use Rattle.std.specs.Prelude.{◌≡◌, ◌≤◌, ◌+◌, false, length, IfOk};
+ghost use Rattle.std.specs.Prelude.{◌≡◌, ◌≤◌, ◌+◌, false, length, IfOk, OnErr};
 ghost use Rattle.serde_json.specs.View.{view};
 ghost use Rattle.sk_base.specs.declared.command.Question.TheVariants as Question;
 ghost use Rattle.sk_base.specs.Commands.{FitsFacets, FitsQuestion, question_over};
 ghost use Rattle.sk_base.specs.Finds.{FitsFind, find_over};
+ghost use Rattle.sk_parser.specs.declared.asked.AskError.TheVariants as AskError;
 ghost use Rattle.sk_parser.specs.Asked.{text_asked};
 ghost use Rattle.sk_run.specs.Responses.{reads_of};
 ghost use Rattle.sk_run.specs.Asking.{RefusedFor, AnswersAsk, IsCounted, IsShown};
@@ -21,6 +22,7 @@ use std::sync::ledger::Ledger;
 /// What is answered where no query was read, with its cause.
 pub fn refused(why: AskError) -> Result<Response, AllocError>
     ensures answer { IfOk result (RefusedFor why) }
+    ensures fails { OnErr result (why ≡ AskError.NoMemory) }
     ensures free { IfOk result (λ answer. reads_of answer ≡ 0) }
 {
     match why {

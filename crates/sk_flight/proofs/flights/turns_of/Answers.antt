@@ -4,7 +4,7 @@ use Rattle.sk_report.specs.Flights.{at}
 use Rattle.sk_flight.specs.Kept.{AreFlights, flights_in}
 use Rattle.sk_flight.specs.Told.{was_done}
 use Rattle.sk_flight.proofs.EntryLemmas.{remove_set, kept_set, kept_gone}
-use Rattle.sk_flight.proofs.OpenLemmas.{turned_as, turned_owed, not_open}
+use Rattle.sk_flight.proofs.OpenLemmas.{turned_as, turned_owed, not_open, is_open}
 use Rattle.sk_flight.proofs.flights.turns_of.Goals as goal
 
 pub returns-in_default-clause-turns : goal.returns-in_default-clause-turns
@@ -32,3 +32,6 @@ returns-in-Err-clause-gone g c =
 
 pub returns-in-Err-clause-kept : goal.returns-in-Err-clause-kept
 returns-in-Err-clause-kept g c opened are = subst (AreFlights opened) (sym (returns-in-Err-clause-gone g c)) (kept_gone opened (at c.args.number) c.args.flights.now.entries are)
+
+pub returns-in-Err-clause-succeeds : goal.returns-in-Err-clause-succeeds
+returns-in-Err-clause-succeeds g c opened none = absurd (is_open c.args.number opened c.args.flights.now.entries c.in-Some.flight.now (sym c.in-Some.ensures.value) none)

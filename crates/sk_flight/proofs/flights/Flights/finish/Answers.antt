@@ -4,7 +4,7 @@ use Rattle.sk_match.specs.Searches.{spent_by}
 use Rattle.sk_flight.specs.Kept.{AreFlights, flights_in}
 use Rattle.sk_flight.specs.Flying.{Flying}
 use Rattle.sk_flight.proofs.EntryLemmas.{kept_gone, found_is}
-use Rattle.sk_flight.proofs.OpenLemmas.{gone_owed, closed_as, not_open, not_done, none_found, without_is, err_anyway}
+use Rattle.sk_flight.proofs.OpenLemmas.{gone_owed, closed_as, not_open, is_open, not_done, none_found, without_is, err_anyway}
 use Rattle.sk_flight.proofs.flights.Flights.finish.Goals as goal
 
 pub returns-in_default-clause-ends : goal.returns-in_default-clause-ends
@@ -27,6 +27,11 @@ pub returns-in_err-paging-clause-gone : goal.returns-in_err-paging-clause-gone
 returns-in_err-paging-clause-gone g c =
     rw (← c.self.view_is)
     (err_anyway c.from_residual.result (ap (λ xs. flights_in xs c.self.inside.opened) c.remove.ensures.entries ∙ without_is c.args.number c.self.inside.opened c.self.inside.flights.entries))
+
+pub returns-in_err-paging-clause-succeeds : goal.returns-in_err-paging-clause-succeeds
+returns-in_err-paging-clause-succeeds g c =
+    rw (← c.self.view_is)
+    (λ none. absurd (is_open c.args.number c.self.inside.opened c.self.inside.flights.entries c.in-Some-remove.flight (sym c.remove.ensures.value ∙ c.in-Some-remove.is) none))
 
 pub invariant_of-self-2 : goal.invariant_of-self-2
 invariant_of-self-2 g c = subst (AreFlights c.self.inside.opened) (sym c.remove.ensures.entries) (kept_gone c.self.inside.opened (at c.args.number) c.self.inside.flights.entries c.self.invariant)

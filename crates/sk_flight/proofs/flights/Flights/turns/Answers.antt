@@ -13,3 +13,6 @@ returns-clause-gone g c =
 
 pub returns-clause-cost : goal.returns-clause-cost
 returns-clause-cost g c = rw (← c.self.view_is) (on_ok c.turns_of.result (λ paid. paid c.self.inside.opened) c.turns_of.ensures.cost)
+
+pub returns-clause-succeeds : goal.returns-clause-succeeds
+returns-clause-succeeds g c = rw (← c.self.view_is) (λ none. c.turns_of.ensures.succeeds c.self.inside.opened none)
