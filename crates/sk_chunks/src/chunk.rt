@@ -80,6 +80,33 @@ impl Chunk {
         })
     }
 
+    /// No entry, and room for so many.
+    pub fn with_room(alloc: Global, room: u32) -> Result<Chunk, AllocError>
+        ensures { IfOk result (λ c. c ≡ []) }
+    {
+        let entries = Vec::with_capacity(alloc, room as usize)?;
+        Ok(Chunk {
+            entries,
+            last: 0,
+            greatest: 0,
+        })
+    }
+
+    /// Makes this entry the only one. Where there is room for one it takes no memory, and all room stays.
+    pub fn begin(&mut self, id: u32, wdf: u32) -> Result<(), AllocError>
+        requires { 1 ≤ id }
+        ensures ok { OnOk result (self.new ≡ (id, wdf) ∷ []) }
+        ensures err { OnErr result (self.new ≡ []) }
+    {
+        self.entries.clear();
+        self.last = 0;
+        self.greatest = 0;
+        self.entries.push(Entry::new(id, wdf))?;
+        self.last = id;
+        self.greatest = wdf;
+        Ok(())
+    }
+
     /// The first and the last id, how many entries there are, and the greatest wdf; 0 where there is none. It looks at the
     /// first entry's id, which is not counted.
     pub fn head(&self) -> ChunkHead

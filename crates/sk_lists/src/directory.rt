@@ -7,6 +7,7 @@ ghost use Rattle.sk_sorted.specs.Runs.{flat, AreRuns, FitsAt};
 ghost use Rattle.sk_chunks.specs.Postings.{greatest_wdf};
 ghost use Rattle.sk_lists.specs.Lists.{IsDirectory};
 
+use crate::spare::Spare;
 use sk_chunks::Chunk;
 use std::alloc::{AllocError, Global};
 use std::marker::Model;
@@ -27,6 +28,7 @@ const THIN: u32 = 24;
 pub(crate) struct Directory {
     alloc: Global,
     chunks: Vec<Chunk>,
+    spare: Spare,
     length: u32,
     greatest: u32,
 }
@@ -55,6 +57,7 @@ impl Directory {
         Ok(Directory {
             alloc,
             chunks,
+            spare: Spare::new(alloc),
             length,
             greatest,
         })
@@ -68,6 +71,7 @@ impl Directory {
         Ok(Directory {
             alloc: self.alloc,
             chunks,
+            spare: Spare::new(self.alloc),
             length: self.length,
             greatest: self.greatest,
         })
@@ -190,9 +194,8 @@ impl Directory {
         if count > 0 && self.chunks[count - 1].count() < FULL {
             return self.put_in(count - 1, id, wdf);
         }
-        self.chunks.reserve(1)?;
-        let chunk = Chunk::one(self.alloc, id, wdf)?;
-        self.chunks.push_reserved(chunk);
+        let chunk = self.spare.begin(count, id, wdf)?;
+        self.chunks.push(chunk)?;
         self.length += 1;
         self.greatest = self.greatest.max(wdf);
         Ok(())

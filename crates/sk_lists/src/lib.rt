@@ -5,6 +5,7 @@ mod block_max;
 mod cursor;
 mod directory;
 mod list;
+mod spare;
 
 pub use block_max::BlockMax;
 pub use cursor::Cursor;
