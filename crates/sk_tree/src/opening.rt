@@ -127,6 +127,7 @@ pub(crate) fn open_node<L: Ledger>(
 
 /// The node of terms that stand near or as a phrase: an and of them, and a test of its documents.
 #[cycle(open_node)]
+#[inline(never)]
 fn open_proximity<L: Ledger>(
     alloc: Global,
     index: &Index,
@@ -261,6 +262,7 @@ fn open_sides<L: Ledger>(
 }
 
 /// The leaf of all documents.
+#[inline(never)]
 fn open_all<L: Ledger>(
     index: &Index,
     scheme: Scheme,
@@ -278,6 +280,7 @@ fn open_all<L: Ledger>(
 }
 
 /// The leaf of a term, and nothing where no document has the term.
+#[inline(never)]
 fn open_term<L: Ledger>(
     index: &Index,
     word: &Term,

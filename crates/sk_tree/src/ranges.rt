@@ -21,6 +21,7 @@ use std::alloc::{AllocError, Global};
 use std::sync::ledger::Ledger;
 
 /// The node of a range: nothing, and no step, where the lower end lies above the upper one.
+#[inline(never)]
 pub(crate) fn open_range<L: Ledger>(
     alloc: Global,
     index: &Index,

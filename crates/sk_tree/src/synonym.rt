@@ -35,6 +35,7 @@ use std::sync::ledger::Ledger;
 const FEW_TERMS: usize = 3;
 
 /// The node of a synonym, which weighs no more than a synonym can.
+#[inline(never)]
 pub(crate) fn open_synonym<L: Ledger>(
     alloc: Global,
     index: &Index,
@@ -70,6 +71,7 @@ pub(crate) fn open_synonym<L: Ledger>(
 }
 
 /// The node of all terms that begin with a prefix, which weighs no more than a wildcard can.
+#[inline(never)]
 pub(crate) fn open_wildcard<L: Ledger>(
     alloc: Global,
     index: &Index,
