@@ -169,10 +169,8 @@ impl Search {
         let is_whole = self.is_whole(ceiling);
         let spent = self.tree.spent();
         let reader = IndexReader { index };
-        let report = self
-            .page
-            .report(&reader, self.bounds, is_whole, spent, steps)?;
-        Ok(report)
+        self.page
+            .report(&reader, self.bounds, is_whole, spent, steps)
     }
 
     /// Whether a search that is done saw all that matches, where nothing that is left weighs more than this.
