@@ -1,5 +1,5 @@
 #!/usr/bin/env python3
-"""Times the built sk_tool on long, deep and wide lines, on a stack of 8 MiB, and on one of 5 MiB, the least that it
+"""Times the built sk_tool on long, deep and wide lines, on a stack of 8 MiB, and on one of 4 MiB, the least that it
 wants, on finds of 1,024 words, brackets and trees that nest: each kind of line in a size and in a tenth of it. What it
 is answered must begin as the rules say, and the time of the size must be at most 20 times that of its tenth, where it
 is more than the fifth of a second. Ends with 1 where one is not.
@@ -15,7 +15,7 @@ import time
 
 HERE = os.path.dirname(os.path.realpath(__file__))
 LONGEST = 1_048_576
-STACK, LEAST_STACK = 8 << 20, 5 << 20
+STACK, LEAST_STACK = 8 << 20, 4 << 20
 SCHEMA = {
     "schema": [
         {"name": "body", "kind": "text"},
@@ -266,12 +266,12 @@ KINDS = [
 ]
 # The same, on the least stack.
 ON_LEAST = [
-    ("1,024 words, on 5 MiB", 1_024, lambda n: [*DOCUMENT, find("a " * n)], FOUND),
-    ("1,024 different words, on 5 MiB", 1_024, lambda n: [add(different(n)), find(different(n))], FOUND),
-    ("99 brackets, on 5 MiB", 99, lambda n: [*DOCUMENT, find("(" * n + "a" + ")" * n)], FOUND),
-    ("a tree 63 deep, on 5 MiB", 63, lambda n: [*DOCUMENT, nested("and", n)], FOUND),
+    ("1,024 words, on 4 MiB", 1_024, lambda n: [*DOCUMENT, find("a " * n)], FOUND),
+    ("1,024 different words, on 4 MiB", 1_024, lambda n: [add(different(n)), find(different(n))], FOUND),
+    ("99 brackets, on 4 MiB", 99, lambda n: [*DOCUMENT, find("(" * n + "a" + ")" * n)], FOUND),
+    ("a tree 63 deep, on 4 MiB", 63, lambda n: [*DOCUMENT, nested("and", n)], FOUND),
     (
-        "99 brackets with all operators, on 5 MiB",
+        "99 brackets with all operators, on 4 MiB",
         99,
         lambda n: [add(" ".join(f"w{number}" for number in range(324))), find(every_operator(n))],
         FOUND,
