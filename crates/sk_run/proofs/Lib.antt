@@ -15,3 +15,4 @@ pub mod AskLemmas
 pub mod HeldLaws
 pub mod FacetLemmas
 pub mod ProgramLemmas
+mod FoundLemmas

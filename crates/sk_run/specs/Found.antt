@@ -12,13 +12,11 @@ found_rest report = codes " upper=" ++ (decimal report.upper ++ (codes " max=" +
 abbrev pub found_line : Report → List ℕ
 found_line report = (codes "found hits=" ++ (decimal (length report.hits) ++ (codes " lower=" ++ (decimal report.lower ++ (codes " estimate=" ++ decimal report.estimate))))) ++ found_rest report
 
--- The second half of a hit line, with the payload as a JSON string.
-abbrev pub hit_rest : Ranked → List ℕ
-hit_rest hit = codes " collapsed=" ++ (decimal hit.collapsed ++ (codes " data=" ++ (quoted hit.payload ++ codes "\n")))
-
--- `hit` with its rank, id, weight, the number that were collapsed into it, and its payload.
+-- `hit` with its rank, id, weight, the number that were collapsed into it, and its payload as a JSON string.
 abbrev pub hit_line : ℕ → Ranked → List ℕ
-hit_line rank hit = (codes "hit rank=" ++ (decimal rank ++ (codes " id=" ++ (decimal hit.id ++ (codes " weight=" ++ decimal hit.weight))))) ++ hit_rest hit
+hit_line rank hit =
+    codes "hit rank=" ++ (decimal rank ++ (codes " id=" ++ (decimal hit.id ++ (codes " weight=" ++ (decimal hit.weight
+    ++ (codes " collapsed=" ++ (decimal hit.collapsed ++ (codes " data=" ++ (quoted hit.payload ++ codes "\n")))))))))
 
 -- The hits' lines, their ranks from the first on.
 abbrev pub hit_lines : ℕ → List Ranked → List ℕ

@@ -1,20 +1,25 @@
 //! The text of a report.
-ghost use Rattle.std.specs.Prelude.{◌≡◌, ◌++◌, ◌+◌, codes, decimal, string_bytes, length, IfOk};
+ghost use Rattle.std.specs.Prelude.{◌≡◌, ◌++◌, ◌+◌, codes, decimal, string_bytes, length, IfOk, OnOk};
 ghost use Rattle.json.specs.Print.{quoted};
-ghost use Rattle.sk_run.specs.Found.{found_line, found_rest, hit_line, hit_rest, found_text};
+ghost use Rattle.sk_run.specs.Found.{found_line, found_rest, hit_line, found_text};
 
 use serde_json::Value;
 use sk_base::{Ranked, Report};
 use std::alloc::{AllocError, Global};
 
+/// For how many bytes of each line room is taken at once. Most lines have fewer.
+const LINE: usize = 128;
+
 /// The line of a report, and one line for each hit.
 pub(crate) fn found_lines(alloc: Global, first: u32, report: &Report) -> Result<String, AllocError>
     ensures { IfOk result (λ s. string_bytes s ≡ found_text first report.now) }
 {
-    let mut text = found_line(alloc, report)?;
-    'hits: for (i, hit) in report.hits.as_slice().iter().enumerate() {
-        let line = hit_line(alloc, first as usize + i, hit)?;
-        text.push_str(line.as_str())?;
+    let hits = report.hits.as_slice();
+    let mut text = String::with_capacity(alloc, LINE.saturating_mul(hits.len().saturating_add(1)))?;
+    let line = found_line(alloc, report)?;
+    text.push_str(line.as_str())?;
+    'hits: for (i, hit) in hits.iter().enumerate() {
+        push_hit_line(&mut text, first as usize + i, hit)?;
     }
     Ok(text)
 }
@@ -40,24 +45,19 @@ fn found_rest(alloc: Global, report: &Report) -> Result<String, AllocError>
     format!(in alloc; " upper={upper} max={greatest} steps={steps}\n")
 }
 
-fn hit_line(alloc: Global, rank: usize, hit: &Ranked) -> Result<String, AllocError>
-    ensures { IfOk result (λ s. string_bytes s ≡ hit_line rank hit.now) }
+/// Writes the line of a hit behind the text.
+fn push_hit_line(text: &mut String, rank: usize, hit: &Ranked) -> Result<(), AllocError>
+    ensures { OnOk result (string_bytes text.new ≡ string_bytes text.old ++ hit_line rank hit.now) }
 {
     let id = hit.id;
     let weight = hit.weight;
-    let mut text = format!(in alloc; "hit rank={rank} id={id} weight={weight}")?;
-    let rest = hit_rest(alloc, hit)?;
-    text.push_str(rest.as_str())?;
-    Ok(text)
-}
-
-fn hit_rest(alloc: Global, hit: &Ranked) -> Result<String, AllocError>
-    ensures { IfOk result (λ s. string_bytes s ≡ hit_rest hit.now) }
-{
     let collapsed = hit.collapsed;
-    let data = json_string(alloc, hit.payload.as_str())?;
+    let data = json_string(*text.allocator(), hit.payload.as_str())?;
     let data = data.as_str();
-    format!(in alloc; " collapsed={collapsed} data={data}\n")
+    write!(
+        text,
+        "hit rank={rank} id={id} weight={weight} collapsed={collapsed} data={data}\n"
+    )
 }
 
 /// The text as a JSON string.
