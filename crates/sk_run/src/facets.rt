@@ -1,5 +1,5 @@
 //! The text of facets.
-ghost use Rattle.std.specs.Prelude.{◌≡◌, string_bytes, IfOk};
+ghost use Rattle.std.specs.Prelude.{◌≡◌, ◌++◌, string_bytes, IfOk, OnOk};
 ghost use Rattle.sk_run.specs.Facets.{number_in, text_in, value_text, facets_line, facet_line, facets_text};
 
 use crate::found::json_string;
@@ -16,8 +16,7 @@ pub(crate) fn facets_lines(
 {
     let mut text = facets_line(alloc, facets)?;
     'values: for facet in facets.values.as_slice() {
-        let line = facet_line(alloc, kind, facet)?;
-        text.push_str(line.as_str())?;
+        push_facet_line(&mut text, kind, facet)?;
     }
     Ok(text)
 }
@@ -34,13 +33,14 @@ fn facets_line(alloc: Global, facets: &Facets) -> Result<String, AllocError>
     )
 }
 
-fn facet_line(alloc: Global, kind: ValueKind, facet: &Facet) -> Result<String, AllocError>
-    ensures { IfOk result (λ s. string_bytes s ≡ facet_line kind facet.now) }
+/// Writes the line of a value behind the text.
+fn push_facet_line(text: &mut String, kind: ValueKind, facet: &Facet) -> Result<(), AllocError>
+    ensures { OnOk result (string_bytes text.new ≡ string_bytes text.old ++ facet_line kind facet.now) }
 {
     let count = facet.count;
-    let value = value_text(alloc, kind, facet.value.as_slice())?;
+    let value = value_text(*text.allocator(), kind, facet.value.as_slice())?;
     let value = value.as_str();
-    format!(in alloc; "facet count={count} value={value}\n")
+    write!(text, "facet count={count} value={value}\n")
 }
 
 /// The value in JSON.
