@@ -46,18 +46,23 @@ impl Flight {
         ensures cost { IfOk result (λ flight. steps.new ≡ steps.old + spent_by flight.search) }
         ensures later { steps.old ≤ steps.new }
     {
-        let search = Search::open(alloc, revision.as_ref(), &paging, &query, steps)?;
-        if search.spent() == u128::MAX {
+        let Ok(search) = Search::open(alloc, revision.as_ref(), &paging, &query, steps) else {
+            drop(query);
             return Err(AllocError);
-        }
-        Ok(Flight {
+        };
+        let flight = Flight {
             paging,
             query,
             revision,
             search,
             turns: 0,
             is_done: false,
-        })
+        };
+        if flight.search.spent() == u128::MAX {
+            drop(flight);
+            return Err(AllocError);
+        }
+        Ok(flight)
     }
 
     /// So many turns, or fewer where one is done: the last of them. Where memory runs out it is only to be dropped.
@@ -119,10 +124,12 @@ impl Flight {
     {
         let Flight {
             paging,
+            query,
             revision,
             search,
             ..
         } = self;
+        drop(query);
         let report = search.finish(revision.as_ref(), steps)?;
         Ok((paging, report))
     }

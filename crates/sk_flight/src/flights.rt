@@ -152,9 +152,13 @@ impl Flights {
         ensures later { steps.old ≤ steps.new }
     {
         if self.flights.len() >= MOST {
+            drop(query);
             return Ok(Opened::Full);
         }
-        let revision = self.newest.clone()?;
+        let Ok(revision) = self.newest.clone() else {
+            drop(query);
+            return Err(AllocError);
+        };
         let flight = Flight::open(self.alloc, revision, paging, query, steps)?;
         let number = self.opened + 1;
         drop(self.flights.insert(number, flight)?);
@@ -230,7 +234,9 @@ impl Flights {
         ensures told { owed self.old.flights ≡ owed self.new.flights + unwrap_or result 0 }
     {
         let flight = self.flights.remove(&number)?;
-        Some(flight.spent())
+        let spent = flight.spent();
+        drop(flight);
+        Some(spent)
     }
 
     /// The readings of the search with this number since its opening, and with it.

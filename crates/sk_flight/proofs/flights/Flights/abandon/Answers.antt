@@ -7,8 +7,8 @@ use Rattle.sk_flight.proofs.EntryLemmas.{kept_gone, found_is, remove_none}
 use Rattle.sk_flight.proofs.OpenLemmas.{gone_owed, dropped_as, not_open}
 use Rattle.sk_flight.proofs.flights.Flights.abandon.Goals as goal
 
-pub spent-requires : goal.spent-requires
-spent-requires c = found_is (at c.args.number) c.self.inside.flights.entries c.in_ok-flight.flight c.self.invariant.flights (sym c.in_ok-flight.ensures.value)
+pub spent-spent-requires : goal.spent-spent-requires
+spent-spent-requires c = found_is (at c.args.number) c.self.inside.flights.entries c.in_ok-flight.flight c.self.invariant.flights (sym c.in_ok-flight.ensures.value)
 
 pub invariant_of-self-2 : goal.invariant_of-self-2
 invariant_of-self-2 c = subst (AreFlights c.self.inside.opened) (sym c.remove.ensures.entries) (kept_gone c.self.inside.opened (at c.args.number) c.self.inside.flights.entries c.self.invariant)
@@ -17,13 +17,13 @@ pub returns-clause-told : goal.returns-clause-told
 returns-clause-told c =
     let old : owed c.args.self.now.flights ≡ owed (flights_in c.self.inside.flights.entries c.self.inside.opened) = ap (λ (s : Flying). owed s.flights) (sym c.self.view_is) in
     let one = gone_owed c.args.number c.self.inside.opened c.self.inside.flights.entries c.remove.new.self.entries c.in_ok-flight.flight (sym c.in_ok-flight.ensures.value) c.remove.ensures.entries in
-    omega (arith, old, one, c.spent.ensures)
+    omega (arith, old, one, c.spent-spent.ensures)
 
 pub returns-clause-drops : goal.returns-clause-drops
 returns-clause-drops c =
     rw (← c.self.view_is)
-    (dropped_as c.args.number c.self.inside.opened c.self.inside.flights.entries c.remove.new.self.entries c.in_ok-flight.flight c.spent.result (sym c.in_ok-flight.ensures.value)
-    (found_is (at c.args.number) c.self.inside.flights.entries c.in_ok-flight.flight c.self.invariant.flights (sym c.in_ok-flight.ensures.value)) c.spent.ensures c.remove.ensures.entries)
+    (dropped_as c.args.number c.self.inside.opened c.self.inside.flights.entries c.remove.new.self.entries c.in_ok-flight.flight c.spent-spent.result (sym c.in_ok-flight.ensures.value)
+    (found_is (at c.args.number) c.self.inside.flights.entries c.in_ok-flight.flight c.self.invariant.flights (sym c.in_ok-flight.ensures.value)) c.spent-spent.ensures c.remove.ensures.entries)
 
 pub returns-in_err-flight-clause-drops : goal.returns-in_err-flight-clause-drops
 returns-in_err-flight-clause-drops c =

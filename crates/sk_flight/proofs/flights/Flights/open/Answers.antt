@@ -19,7 +19,7 @@ returns-clause-opens g c =
       opened_as c.self.inside.opened c.self.inside.flights.entries c.insert.new.self.entries c.in_ok-flight.flight c.self.invariant.numbers
           (c.in_ok-insert.ensures.entries ∙ insert_last c.self.inside.opened c.in_ok-flight.flight c.self.inside.flights.entries c.self.invariant.numbers)
           c.args.paging (query_view c.args.query) c.self.inside.newest.value.live.documents (omega (arith, c.if-len-ge-MOST.false, c.len.ensures.len))
-          (subst (λ i. Begins MayBeOpen c.args.paging (query_view c.args.query) i.live.documents (open_of c.in_ok-flight.flight)) c.in_ok-revision.ensures.cases c.in_ok-flight.ensures.begins),
+          (subst (λ i. Begins MayBeOpen c.args.paging (query_view c.args.query) i.live.documents (open_of c.in_ok-flight.flight)) c.in-Ok.ensures.cases c.in_ok-flight.ensures.begins),
     )
 
 pub returns-clause-cost : goal.returns-clause-cost
