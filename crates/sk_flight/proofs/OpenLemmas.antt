@@ -59,6 +59,10 @@ pub none_found : (o : Option Flight) → None ≡ option_map (λ (f : Flight). f
 none_found None is = refl
 none_found (Some f) is = absurd (cc)
 
+-- where there is room for one more, not as many are open as may be
+pub room_is : (opened : ℕ) (es : List (ℕ × Flight)) → length es < most_open → most_open ≤ length (flights_in es opened).searches → ⊥
+room_is opened es room full = let same = length-map {B = ℕ × Open} es (λ (e : ℕ × Flight). (e.0, open_of e.1)) in omega (arith, room, same, full)
+
 -- ---- readings
 
 -- each with its own

@@ -4,7 +4,7 @@ use Rattle.sk_report.specs.Flights.{MayBeOpen, Begins, owed}
 use Rattle.sk_flight.specs.Kept.{AreFlights, open_of, flights_in}
 use Rattle.sk_flight.specs.Flying.{Flying}
 use Rattle.sk_flight.proofs.EntryLemmas.{kept_last, insert_last}
-use Rattle.sk_flight.proofs.OpenLemmas.{opened_as, opened_owed}
+use Rattle.sk_flight.proofs.OpenLemmas.{room_is, opened_as, opened_owed}
 use Rattle.sk_flight.proofs.flights.Flights.open.Goals as goal
 
 pub invariant_of-self-2 : goal.invariant_of-self-2
@@ -29,3 +29,18 @@ returns-clause-cost g c =
     (c.in_ok-insert.ensures.entries ∙ insert_last c.self.inside.opened c.in_ok-flight.flight c.self.inside.flights.entries c.self.invariant.numbers) in
     let paid = c.in_ok-flight.ensures.cost in
     omega (arith, old, new, paid)
+
+pub returns-in_default-clause-full : goal.returns-in_default-clause-full
+returns-in_default-clause-full g c =
+    rw (← c.self.view_is)
+    (λ full. absurd (room_is c.self.inside.opened c.self.inside.flights.entries (omega (arith, c.if-len-ge-MOST.false, c.len.ensures.len)) full))
+
+pub returns-in_err-flight-clause-full : goal.returns-in_err-flight-clause-full
+returns-in_err-flight-clause-full g c =
+    rw (← c.self.view_is)
+    (λ full. absurd (room_is c.self.inside.opened c.self.inside.flights.entries (omega (arith, c.if-len-ge-MOST.false, c.len.ensures.len)) full))
+
+pub returns-in_err-insert-clause-full : goal.returns-in_err-insert-clause-full
+returns-in_err-insert-clause-full g c =
+    rw (← c.self.view_is)
+    (λ full. absurd (room_is c.self.inside.opened c.self.inside.flights.entries (omega (arith, c.if-len-ge-MOST.false, c.len.ensures.len)) full))
