@@ -57,7 +57,9 @@ fn open_search<L: Ledger>(
 {
     let Find { ask, paging } = find;
     let index = flights.index();
-    match query_of(index.allocator(), index.schema(), &ask) {
+    let asked = query_of(index.allocator(), index.schema(), &ask);
+    drop(ask);
+    match asked {
         Ok(query) => open_query(flights, paging, query, steps),
         Err(why) => refused(why),
     }
@@ -79,6 +81,7 @@ fn open_query<L: Ledger>(
     ensures later { steps.old ≤ steps.new }
 {
     if flights.opened() == u64::MAX {
+        drop(query);
         return Err(AllocError);
     }
     match flights.open(paging, query, steps)? {

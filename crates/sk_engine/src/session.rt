@@ -115,7 +115,9 @@ impl Session {
         ensures counts { CountsSteps (λ (report : Report). report.steps) result steps.old steps.new }
     {
         let query = query_of(self.allocator(), self.schema(), &find.ask)?;
-        match self.search(&find.paging, &query, steps) {
+        let report = self.search(&find.paging, &query, steps);
+        drop(query);
+        match report {
             Ok(report) => Ok(report),
             Err(AllocError) => Err(AskError::NoMemory),
         }
@@ -161,7 +163,9 @@ impl Session {
         let index = flights.index();
         let alloc = index.allocator();
         let query = text_query(alloc, self.schema(), wanted.join, wanted.text.as_str())?;
-        match count(alloc, index, &query, wanted.slot, wanted.size, steps) {
+        let facets = count(alloc, index, &query, wanted.slot, wanted.size, steps);
+        drop(query);
+        match facets {
             Ok(facets) => Ok(facets),
             Err(AllocError) => Err(AskError::NoMemory),
         }
