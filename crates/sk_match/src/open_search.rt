@@ -168,9 +168,14 @@ impl Search {
         let ceiling = self.tree.ceiling();
         let is_whole = self.is_whole(ceiling);
         let spent = self.tree.spent();
-        let reader = IndexReader { index };
-        self.page
-            .report(&reader, self.bounds, is_whole, spent, steps)
+        let Search {
+            tree,
+            bounds,
+            page,
+            ..
+        } = self;
+        drop(tree);
+        page.report(&IndexReader { index }, bounds, is_whole, spent, steps)
     }
 
     /// Whether a search that is done saw all that matches, where nothing that is left weighs more than this.

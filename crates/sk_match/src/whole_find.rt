@@ -29,9 +29,13 @@ pub fn search<L: Ledger>(
 {
     let mut search = Search::open(alloc, index, paging, query, steps)?;
     'turns: loop {
-        match search.turn(index, steps)? {
-            Turn::More => {}
-            Turn::Done => return search.finish(index, steps),
+        match search.turn(index, steps) {
+            Ok(Turn::More) => {}
+            Ok(Turn::Done) => return search.finish(index, steps),
+            Err(fault) => {
+                drop(search);
+                return Err(fault);
+            }
         }
     }
 }

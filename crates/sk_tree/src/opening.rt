@@ -163,8 +163,14 @@ fn open_proximity<L: Ledger>(
         spent,
         steps,
     )?;
-    add_lengths(index, numbers.as_slice(), most)?;
-    let test = Proximity::new(alloc, kind, window, numbers)?;
+    let Ok(()) = add_lengths(index, numbers.as_slice(), most) else {
+        drop(node);
+        return Err(AllocError);
+    };
+    let Ok(test) = Proximity::new(alloc, kind, window, numbers) else {
+        drop(node);
+        return Err(AllocError);
+    };
     let (top, node) = positional_of(alloc, index, test, below, node, spent, steps)?;
     Ok((top, node))
 }
@@ -211,17 +217,13 @@ fn open_parts<L: Ledger>(
     let (ta, a) = open_parts(
         alloc, index, form, front, scheme, factor, most, spent, steps,
     )?;
-    let (tb, b) = open_parts(
-        alloc,
-        index,
-        others_of(form),
-        back,
-        scheme,
-        factor,
-        most,
-        spent,
-        steps,
-    )?;
+    let others = others_of(form);
+    let Ok((tb, b)) = open_parts(
+        alloc, index, others, back, scheme, factor, most, spent, steps,
+    ) else {
+        drop(a);
+        return Err(AllocError);
+    };
     pair_of(alloc, index, form, ta, a, tb, b, spent, steps)
 }
 

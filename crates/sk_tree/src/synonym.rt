@@ -163,7 +163,10 @@ fn open_sums<L: Ledger>(
     }
     let (front, back) = number_halves(numbers);
     let (ta, a) = open_sums(alloc, index, front, most, spent, steps)?;
-    let (tb, b) = open_sums(alloc, index, back, most, spent, steps)?;
+    let Ok((tb, b)) = open_sums(alloc, index, back, most, spent, steps) else {
+        drop(a);
+        return Err(AllocError);
+    };
     let (top, node) = pair_of(alloc, index, Form::Or, ta, a, tb, b, spent, steps)?;
     Ok((capped(top, Weight::from(MOST_WDF)), node))
 }

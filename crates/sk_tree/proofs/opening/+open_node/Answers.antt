@@ -68,7 +68,7 @@ open_proximity-returns-clause-opens g t c =
     let i = c.args.index.now in
     let view = ap queries_view c.as_slice.ensures.value ∙ c.in_ok-terms.ensures in
     let named = all_numbered i c.in_ok-numbers.numbers.items c.args.words.now c.in_ok-numbers.ensures.terms (omega (arith, c.if-len-words.false, c.len.ensures)) in
-    proximity_opened i c.args.kind c.args.window c.in_ok-numbers.numbers.items c.in_ok-test.test c.in_ok-test.ensures c.args.words.now c.args.scheme c.args.factor _ named c.in_ok-below.below c.in_ok-top.top (shape_of c.in_ok-below.node) (shape_of c.in_ok-top.node)
+    proximity_opened i c.args.kind c.args.window c.in_ok-numbers.numbers.items c.in-Ok-new.test c.in-Ok-new.ensures c.args.words.now c.args.scheme c.args.factor _ named c.in_ok-below.below c.in_ok-top.top (shape_of c.in_ok-below.node) (shape_of c.in_ok-top.node)
     (subst (λ ts. Opens i c.in_ok-below.below (shape_of c.in_ok-below.node) (joint_score_of Form.And ts c.args.scheme c.args.factor) (ceil_of Form.And (ceils ts c.args.scheme c.args.factor i.live.documents))) view c.in_ok-below.ensures.opens)
     (terms_ceils c.args.words.now c.args.scheme c.args.factor i.live.documents)
     c.in_ok-top.ensures.yields
@@ -81,28 +81,28 @@ open_proximity-returns-clause-pays g t c =
     let first = ap (λ ts. leaves_readings ts i.live.documents) view ∙ terms_readings c.args.words.now i.live.documents in
     let second = ap (λ (ns : List ℕ). entries_unread i 0 ns) c.as_slice-2.ensures.value ∙ entries_all i c.in_ok-numbers.numbers.items ∙ ap (λ ts. lengths_of ts i.live.documents) named in
     let pays = c.in_ok-below.ensures.pays in
-    let unread = test_unread i c.args.kind c.args.window c.in_ok-numbers.numbers.items c.in_ok-test.test c.in_ok-test.ensures in
+    let unread = test_unread i c.args.kind c.args.window c.in_ok-numbers.numbers.items c.in-Ok-new.test c.in-Ok-new.ensures in
     let listed = ap (λ (ns : List ℕ). entries_unread i 0 ns) c.as_slice-2.ensures.value in
     record {
-      paid = omega (arith, listed, unread, pays.paid, c.in_ok-top.ensures.paid, c.in_ok-add_lengths.ensures.sum);
-      within = omega (arith, first, second, pays.within, c.in_ok-add_lengths.ensures.sum);
-      room = omega (arith, listed, unread, pays.paid, c.in_ok-top.ensures.paid, c.in_ok-add_lengths.ensures.sum, c.requires.can.read.room);
+      paid = omega (arith, listed, unread, pays.paid, c.in_ok-top.ensures.paid, c.in-Ok.ensures.sum);
+      within = omega (arith, first, second, pays.within, c.in-Ok.ensures.sum);
+      room = omega (arith, listed, unread, pays.paid, c.in_ok-top.ensures.paid, c.in-Ok.ensures.sum, c.requires.can.read.room);
     }
 
 pub open_proximity-positional_of-requires-clause-room : goal.open_proximity-positional_of-requires-clause-room
 open_proximity-positional_of-requires-clause-room g t c =
     let i = c.args.index.now in
-    let unread = test_unread i c.args.kind c.args.window c.in_ok-numbers.numbers.items c.in_ok-test.test c.in_ok-test.ensures in
+    let unread = test_unread i c.args.kind c.args.window c.in_ok-numbers.numbers.items c.in-Ok-new.test c.in-Ok-new.ensures in
     let listed = ap (λ (ns : List ℕ). entries_unread i 0 ns) c.as_slice-2.ensures.value in
-    omega (arith, listed, unread, c.in_ok-below.ensures.pays.paid, c.in_ok-add_lengths.ensures.sum, c.in_ok-add_lengths.ensures.small, c.requires.can.read.room)
+    omega (arith, listed, unread, c.in_ok-below.ensures.pays.paid, c.in-Ok.ensures.sum, c.in-Ok.ensures.small, c.requires.can.read.room)
 
 pub open_proximity-positional_of-requires-clause-positional : goal.open_proximity-positional_of-requires-clause-positional
 open_proximity-positional_of-requires-clause-positional g t c =
     let i = c.args.index.now in
     let view = ap queries_view c.as_slice.ensures.value ∙ c.in_ok-terms.ensures in
     let named = all_numbered i c.in_ok-numbers.numbers.items c.args.words.now c.in_ok-numbers.ensures.terms (omega (arith, c.if-len-words.false, c.len.ensures)) in
-    test_opened i c.args.kind c.args.window c.in_ok-numbers.numbers.items c.in_ok-test.test c.in_ok-test.ensures c.args.words.now c.args.scheme c.args.factor _ named c.in_ok-below.below (shape_of c.in_ok-below.node) c.requires.sound
-    c.in_ok-numbers.ensures.there (subst (λ (ns : List ℕ). AreInOrder i ns) c.as_slice-2.ensures.value c.in_ok-add_lengths.ensures.sorted) c.requires.can.read.documents
+    test_opened i c.args.kind c.args.window c.in_ok-numbers.numbers.items c.in-Ok-new.test c.in-Ok-new.ensures c.args.words.now c.args.scheme c.args.factor _ named c.in_ok-below.below (shape_of c.in_ok-below.node) c.requires.sound
+    c.in_ok-numbers.ensures.there (subst (λ (ns : List ℕ). AreInOrder i ns) c.as_slice-2.ensures.value c.in-Ok.ensures.sorted) c.requires.can.read.documents
     (subst (λ ts. Opens i c.in_ok-below.below (shape_of c.in_ok-below.node) (joint_score_of Form.And ts c.args.scheme c.args.factor) (ceil_of Form.And (ceils ts c.args.scheme c.args.factor i.live.documents))) view c.in_ok-below.ensures.opens)
 
 -- ---- what the accounts of a node begin with
@@ -186,9 +186,9 @@ open_parts-or_many_of-node-requires-clause-fits g t c = omega (arith, (or_sides 
 pub open_parts-returns-clause-accounts : goal.open_parts-returns-clause-accounts
 open_parts-returns-clause-accounts g t c =
     IfOk-weaker c.pair_of.result _ _
-    (λ p h. pair_parts_query c.args.index.now c.args.form c.others_of.result (queries_view c.args.parts.now) (queries_view c.split_parts.result.0.now) (queries_view c.split_parts.result.1.now) c.args.scheme c.args.factor
-    c.in_ok-ta.ta (shape_of c.in_ok-ta.a) c.in_ok-tb.tb (shape_of c.in_ok-tb.b) p.0 (shape_of p.1) _ _ _ _ c.others_of.ensures (omega (arith, counted c.args.parts.now, c.in_default.ensures.many)) (c.split_parts.ensures.splits c.args.factor c.requires.can.bounded c.requires.parts).front.some (c.split_parts.ensures.splits c.args.factor c.requires.can.bounded c.requires.parts).back.some
-    (c.split_parts.ensures.splits c.args.factor c.requires.can.bounded c.requires.parts).terms c.split_parts.ensures.led c.in_ok-ta.ensures.accounts c.in_ok-tb.ensures.accounts (λ joint first second. paired_nest c.args.index.now c.args.form _ _ c.in_ok-ta.ta (shape_of c.in_ok-ta.a) c.in_ok-tb.tb (shape_of c.in_ok-tb.b) (shape_of p.1) h.all first second joint) h) c.pair_of.ensures.accounts
+    (λ p h. pair_parts_query c.args.index.now c.args.form c.others_of-others.result (queries_view c.args.parts.now) (queries_view c.split_parts.result.0.now) (queries_view c.split_parts.result.1.now) c.args.scheme c.args.factor
+    c.in_ok-ta.ta (shape_of c.in_ok-ta.a) c.in-Ok.tb (shape_of c.in-Ok.b) p.0 (shape_of p.1) _ _ _ _ c.others_of-others.ensures (omega (arith, counted c.args.parts.now, c.in_default.ensures.many)) (c.split_parts.ensures.splits c.args.factor c.requires.can.bounded c.requires.parts).front.some (c.split_parts.ensures.splits c.args.factor c.requires.can.bounded c.requires.parts).back.some
+    (c.split_parts.ensures.splits c.args.factor c.requires.can.bounded c.requires.parts).terms c.split_parts.ensures.led c.in_ok-ta.ensures.accounts c.in-Ok.ensures.accounts (λ joint first second. paired_nest c.args.index.now c.args.form _ _ c.in_ok-ta.ta (shape_of c.in_ok-ta.a) c.in-Ok.tb (shape_of c.in-Ok.b) (shape_of p.1) h.all first second joint) h) c.pair_of.ensures.accounts
 
 -- ---- the sides of one node
 
@@ -327,7 +327,7 @@ open_parts-open_parts-requires-2 g t c κs within =
             bounded = c.requires.can.bounded;
             light = c.requires.can.light;
           },
-          subst (λ (f : Form). AreParts f c.args.factor (queries_view c.split_parts.result.1.now)) (sym c.others_of.ensures) splits.back,
+          subst (λ (f : Form). AreParts f c.args.factor (queries_view c.split_parts.result.1.now)) (sym c.others_of-others.ensures) splits.back,
         ),
       ),
     )
@@ -336,16 +336,16 @@ pub open_parts-pair_of-requires-clause-pair : goal.open_parts-pair_of-requires-c
 open_parts-pair_of-requires-clause-pair g t c =
     let splits = c.split_parts.ensures.splits c.args.factor c.requires.can.bounded c.requires.parts in
     let docs = c.args.index.now.live.documents in
-    let back = ap (λ f. ceil_of f (ceils (queries_view c.split_parts.result.1.now) c.args.scheme c.args.factor docs)) c.others_of.ensures in
+    let back = ap (λ f. ceil_of f (ceils (queries_view c.split_parts.result.1.now) c.args.scheme c.args.factor docs)) c.others_of-others.ensures in
     let a = c.in_ok-ta.ensures.opens in
-    let b = c.in_ok-tb.ensures.opens in
+    let b = c.in-Ok.ensures.opens in
     record { first = a.top; second = b.top; first_sound = a.sound; second_sound = b.sound; fits = omega (arith, splits.fits c.args.scheme docs c.requires.can.light, a.ceiling, b.ceiling, back) }
 
 pub open_parts-returns-clause-opens : goal.open_parts-returns-clause-opens
 open_parts-returns-clause-opens g t c =
     IfOk-weaker c.pair_of.result _ _
-    (λ p h. pair_opened c.args.index.now c.args.form c.others_of.result c.args.factor (queries_view c.args.parts.now) (queries_view c.split_parts.result.0.now) (queries_view c.split_parts.result.1.now) c.args.scheme
-    c.in_ok-ta.ta (shape_of c.in_ok-ta.a) c.in_ok-tb.tb (shape_of c.in_ok-tb.b) p.0 (shape_of p.1) c.others_of.ensures (c.split_parts.ensures.splits c.args.factor c.requires.can.bounded c.requires.parts) c.in_ok-ta.ensures.opens c.in_ok-tb.ensures.opens h)
+    (λ p h. pair_opened c.args.index.now c.args.form c.others_of-others.result c.args.factor (queries_view c.args.parts.now) (queries_view c.split_parts.result.0.now) (queries_view c.split_parts.result.1.now) c.args.scheme
+    c.in_ok-ta.ta (shape_of c.in_ok-ta.a) c.in-Ok.tb (shape_of c.in-Ok.b) p.0 (shape_of p.1) c.others_of-others.ensures (c.split_parts.ensures.splits c.args.factor c.requires.can.bounded c.requires.parts) c.in_ok-ta.ensures.opens c.in-Ok.ensures.opens h)
     c.pair_of.ensures.yields
 
 pub open_parts-returns-clause-pays : goal.open_parts-returns-clause-pays
@@ -353,9 +353,9 @@ open_parts-returns-clause-pays g t c =
     let read = (c.split_parts.ensures.splits c.args.factor c.requires.can.bounded c.requires.parts).readings c.args.index.now.live.documents in
     IfOk-weaker c.pair_of.result _ _
     (λ p paid. record {
-      paid = omega (arith, paid, c.in_ok-ta.ensures.pays.paid, c.in_ok-tb.ensures.pays.paid);
-      within = omega (arith, read, c.in_ok-ta.ensures.pays.within, c.in_ok-tb.ensures.pays.within);
-      room = omega (arith, paid, c.in_ok-ta.ensures.pays.paid, c.in_ok-tb.ensures.pays.paid, c.requires.can.read.room);
+      paid = omega (arith, paid, c.in_ok-ta.ensures.pays.paid, c.in-Ok.ensures.pays.paid);
+      within = omega (arith, read, c.in_ok-ta.ensures.pays.within, c.in-Ok.ensures.pays.within);
+      room = omega (arith, paid, c.in_ok-ta.ensures.pays.paid, c.in-Ok.ensures.pays.paid, c.requires.can.read.room);
     }) c.pair_of.ensures.paid
 
 pub open_sides-returns-in-Some-clause-opens : goal.open_sides-returns-in-Some-clause-opens

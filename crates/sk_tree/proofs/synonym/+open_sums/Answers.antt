@@ -22,14 +22,14 @@ open_sums-requires-2 g t c κs within =
 pub pair_of-requires-clause-pair : goal.pair_of-requires-clause-pair
 pair_of-requires-clause-pair g t c =
     let a = c.in_ok-ta.ensures.opens in
-    let b = c.in_ok-tb.ensures.opens in
+    let b = c.in-Ok.ensures.opens in
     record { first = a.top; second = b.top; first_sound = a.sound; second_sound = b.sound; fits = omega (arith, a.ceiling, b.ceiling) }
 
 pub returns-clause-pays : goal.returns-clause-pays
 returns-clause-pays g t c =
     let halves = c.number_halves.ensures c.args.index.now c.requires.there c.requires.apart in
     let first = c.in_ok-ta.ensures.pays in
-    let others = c.in_ok-tb.ensures.pays in
+    let others = c.in-Ok.ensures.pays in
     record {
       paid = omega (arith, c.in_ok-top.ensures.paid, first.paid, others.paid);
       within = omega (arith, halves.readings, first.within, others.within);
@@ -41,9 +41,9 @@ returns-clause-opens g t c =
     let i = c.args.index.now in
     sums_capped i c.in_ok-top.top c.capped.result (shape_of c.in_ok-top.node) c.args.numbers.now c.capped.ensures.head c.capped.ensures.weight (c.capped.ensures.greatest ∙ ap (λ n. min c.in_ok-top.top.greatest n) c.from.ensures)
     c.requires.apart c.requires.can.light c.in_ok-top.ensures.yields.top c.in_ok-top.ensures.yields.sound
-    (λ id. c.in_ok-top.ensures.yields.gives id ∙ (λ j. paired Form.Or (c.in_ok-ta.ensures.opens.gives id j) (c.in_ok-tb.ensures.opens.gives id j)) ∙ sym ((c.number_halves.ensures i c.requires.there c.requires.apart).wdfs (document_at id i.live.documents)))
+    (λ id. c.in_ok-top.ensures.yields.gives id ∙ (λ j. paired Form.Or (c.in_ok-ta.ensures.opens.gives id j) (c.in-Ok.ensures.opens.gives id j)) ∙ sym ((c.number_halves.ensures i c.requires.there c.requires.apart).wdfs (document_at id i.live.documents)))
 
 pub returns-clause-nest : goal.returns-clause-nest
 returns-clause-nest g t c =
     let i = c.args.index.now in
-    halves_nest i (shape_of c.in_ok-ta.a) (shape_of c.in_ok-tb.b) (shape_of c.in_ok-top.node) _ _ _ _ _ _ _ c.in_ok-ta.ensures.nest c.in_ok-tb.ensures.nest (λ joint first second. paired_nest i Form.Or _ _ c.in_ok-ta.ta (shape_of c.in_ok-ta.a) c.in_ok-tb.tb (shape_of c.in_ok-tb.b) (shape_of c.in_ok-top.node) c.in_ok-top.ensures.accounts.all first second joint) (c.number_halves.ensures i c.requires.there c.requires.apart).terms
+    halves_nest i (shape_of c.in_ok-ta.a) (shape_of c.in-Ok.b) (shape_of c.in_ok-top.node) _ _ _ _ _ _ _ c.in_ok-ta.ensures.nest c.in-Ok.ensures.nest (λ joint first second. paired_nest i Form.Or _ _ c.in_ok-ta.ta (shape_of c.in_ok-ta.a) c.in-Ok.tb (shape_of c.in-Ok.b) (shape_of c.in_ok-top.node) c.in_ok-top.ensures.accounts.all first second joint) (c.number_halves.ensures i c.requires.there c.requires.apart).terms
