@@ -98,6 +98,8 @@ def asked(picks):
         query = many(picks)
     else:
         query = tree(picks, picks.randint(0, 3))
+    if picks.random() < 0.2:
+        query = {"filter": [{"all": []}, query]}
     return {"tree": query} | options(picks, ["site", "year"])
 
 

@@ -1,5 +1,5 @@
 -- Equal parts of an or or an and score what one of them does under the factor of all.
-use Rattle.std.proofs.Common.{◌≡◌, ◌<◌, ◌≤◌, ◌+◌, ◌*◌, ℕ, zero, suc, Bool, true, false, List, [], ◌∷◌, length, slice_index_or, Option, None, Some, inl, inr, refl, sym, subst, ap, ◌∙◌, arith, if◌then◌else◌}
+use Rattle.std.proofs.Common.{◌≡◌, ◌<◌, ◌≤◌, ◌+◌, ◌*◌, ℕ, zero, suc, Bool, true, false, List, [], ◌∷◌, length, slice_index_or, Option, None, Some, IfSome, Bor, inl, inr, refl, sym, subst, ap, ◌∙◌, arith, if◌then◌else◌}
 use Rattle.std.specs.List.{list_any}
 use Rattle.std.specs.Option.{option_map}
 use Rattle.std.proofs.Math.Nat.{mul_assoc}
@@ -145,8 +145,14 @@ are_as_one form factor (Trees.tree t us) query all adding equal is are =
     }
 
 -- the same of a list of queries
-pub as_one_of : (form : Form) (factor : ℕ) (parts : List Query) (query : Trees.Tree) (all : ℕ) → IsAdding form → AreEqual query (queries_view parts) → all ≡ factor * length parts → AreParts form factor (queries_view parts) → AreAsOne form factor (queries_view parts) query all
+as_one_of : (form : Form) (factor : ℕ) (parts : List Query) (query : Trees.Tree) (all : ℕ) → IsAdding form → AreEqual query (queries_view parts) → all ≡ factor * length parts → AreParts form factor (queries_view parts) → AreAsOne form factor (queries_view parts) query all
 as_one_of form factor parts query all adding equal is are = are_as_one form factor (queries_view parts) query all adding equal (is ∙ ap (λ n. factor * n) (sym (counted parts))) are
+
+-- and where they were looked for
+pub found_as_one : (form : Form) (factor : ℕ) (parts : List Query) (found : Option (Bor Query × ℕ)) → IfSome found (λ p. IsAdding form) → IfSome found (λ p. AreEqual (query_view p.0.now) (queries_view parts)) → IfSome found (λ p. p.1 ≡ factor * length parts)
+    → IfSome found (λ p. AreParts form factor (queries_view parts) → AreAsOne form factor (queries_view parts) (query_view p.0.now) p.1)
+found_as_one form factor parts None adding equal is = tt
+found_as_one form factor parts (Some p) adding equal is = λ are. as_one_of form factor parts (query_view p.0.now) p.1 adding equal is are
 
 -- that are not all terms
 pub not_terms : (ts : Trees.Trees) (lists : List (List ℕ)) → terms_in ts ≡ None → terms_in ts ≡ Some lists → ⊥

@@ -7,6 +7,7 @@ pub mod WordLaws
 pub mod NestLaws
 pub mod PartsLaws
 pub mod EqualLaws
+pub mod FilterLaws
 pub mod FormLaws
 pub mod OrManyOpenLaws
 pub mod MergeOpenLaws

@@ -1,4 +1,4 @@
--- Parts that are all the same wildcard or the same synonym, and what they are as one.
+-- Parts that are opened as one query: those that are all the same wildcard or the same synonym, and a filter of all documents.
 use Rattle.std.specs.Prelude.{◌≡◌, ◌≤◌, ◌⊎◌, ℕ, Option, None}
 use Rattle.sk_base.specs.declared.find.Scheme.{Scheme}
 use Rattle.sk_base.specs.Numbers.{Docs}

@@ -7,7 +7,7 @@ ghost use Rattle.sk_query.specs.Trees.{query_view, queries_view, form_of};
 ghost use Rattle.sk_query.specs.Fits.{leaves_in};
 ghost use Rattle.sk_model.specs.Sharp.{terms_in};
 ghost use Rattle.sk_tree.specs.Parts.{Splits, Halves};
-ghost use Rattle.sk_tree.specs.Equal.{IsAsOne, IsAdding, AreEqual};
+ghost use Rattle.sk_tree.specs.Equal.{IsAsOne, IsAdding, AreEqual, AreAsOne};
 ghost use Rattle.sk_tree.specs.OpenedLed.{first_length, last_length, CanLead, SplitsOff, IsOrdered, SplitsLed};
 ghost use Rattle.sk_tree.specs.Opened.{part_count, is_nest, others_of, AreParts};
 
@@ -46,8 +46,30 @@ pub(crate) fn only_part(parts: &[Query]) -> Option<&Query>
     }
 }
 
-/// One of the parts of an or or an and, and the factor of all of them, where all are the same wildcard or the same synonym.
+/// One query as which the parts of a form are opened, and its factor: what filters all documents, under the factor 0, since
+/// these weigh nothing, or one of equal parts, under the factor of all.
 pub(crate) fn as_one(form: Form, parts: &[Query], factor: u64) -> Option<(&Query, u64)>
+    ensures one { IfSome result (λ p. AreParts form factor (queries_view parts.now) → AreAsOne form factor (queries_view parts.now) (query_view p.0.now) p.1) }
+    ensures bounded { IfSome result (λ p. p.1 ≤ 65536) }
+{
+    match form {
+        Form::Filter => Some((filter_of_all(parts)?, 0)),
+        _ => equal_as_one(form, parts, factor),
+    }
+}
+
+/// The second of two parts, where the first is all documents.
+fn filter_of_all(parts: &[Query]) -> Option<&Query>
+    ensures { IfSome result (λ part. queries_view parts.now ≡ QueryTree.tree QueryTree.all (QueryTree.tree (query_view part.now) QueryTree.no_trees)) }
+{
+    match parts {
+        [Query::All, part] => Some(part),
+        _ => None,
+    }
+}
+
+/// One of the parts of an or or an and, and the factor of all of them, where all are the same wildcard or the same synonym.
+fn equal_as_one(form: Form, parts: &[Query], factor: u64) -> Option<(&Query, u64)>
     ensures form { IfSome result (λ p. IsAdding form) }
     ensures equal { IfSome result (λ p. AreEqual (query_view p.0.now) (queries_view parts.now)) }
     ensures factor { IfSome result (λ p. p.1 ≡ factor * length parts.now) }

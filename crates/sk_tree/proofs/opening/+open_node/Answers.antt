@@ -21,7 +21,7 @@ use Rattle.sk_tree.proofs.LedLaws.{lone_following}
 use Rattle.sk_model.specs.Edits.{document_at}
 use Rattle.sk_tree.proofs.PartsLaws.{of_parts, only_part, xor_sides, or_sides}
 use Rattle.sk_tree.proofs.FormLaws.{none_left}
-use Rattle.sk_tree.proofs.EqualLaws.{as_one_of, other_parts}
+use Rattle.sk_tree.proofs.EqualLaws.{other_parts}
 use Rattle.sk_tree.proofs.CountLaws.{counted}
 use Rattle.sk_tree.proofs.OpenedQueryLaws.{other_query, term_query, synonym_query, wildcard_query, parts_query, only_query, xor_parts_query, or_parts_query, pair_parts_query, sides_opened, pair_opened, one_side_opened}
 use Rattle.sk_tree.specs.Nests.{OpensTerms}
@@ -259,28 +259,28 @@ open_parts-returns-in-Some-clause-pays g t c =
     let only = only_part c.args.form c.args.factor (queries_view c.args.parts.now) (query_view c.in-Some.part.now) c.in-Some.ensures.alone c.requires.parts in
     IfOk-weaker c.open_node.result _ _ (λ p h. record { paid = h.paid; within = omega (arith, h.within, only.readings c.args.index.now.live.documents); room = h.room }) c.open_node.ensures.pays
 
--- ---- equal parts
+-- ---- parts as one
 
 pub open_parts-open_node-requires-in-Some-as_one : goal.open_parts-open_node-requires-in-Some-as_one
 open_parts-open_node-requires-in-Some-as_one g t c κs within =
-    let one = as_one_of c.args.form c.args.factor c.args.parts.now (query_view c.in-Some-as_one.part.now) c.in-Some-as_one.all c.in-Some-as_one.ensures.form c.in-Some-as_one.ensures.equal c.in-Some-as_one.ensures.factor c.requires.parts in
+    let one = c.in-Some-as_one.ensures.one c.requires.parts in
     (omega (arith, c.decreases, one.size), (within, (record { read = c.requires.can.read; bounded = c.in-Some-as_one.ensures.bounded; light = c.requires.can.light }, one.part)))
 
 pub open_parts-returns-in-Some-as_one-clause-opens : goal.open_parts-returns-in-Some-as_one-clause-opens
 open_parts-returns-in-Some-as_one-clause-opens g t c =
     let docs = c.args.index.now.live.documents in
-    let one = as_one_of c.args.form c.args.factor c.args.parts.now (query_view c.in-Some-as_one.part.now) c.in-Some-as_one.all c.in-Some-as_one.ensures.form c.in-Some-as_one.ensures.equal c.in-Some-as_one.ensures.factor c.requires.parts in
+    let one = c.in-Some-as_one.ensures.one c.requires.parts in
     IfOk-weaker c.open_node-in-Some-as_one.result _ _
     (λ p h. record { top = h.top; sound = h.sound; gives = λ id. h.gives id ∙ sym (one.scores c.args.scheme (document_at id docs)); ceiling = omega (arith, h.ceiling, one.ceiling c.args.scheme docs) }) c.open_node-in-Some-as_one.ensures.opens
 
 pub open_parts-returns-in-Some-as_one-clause-pays : goal.open_parts-returns-in-Some-as_one-clause-pays
 open_parts-returns-in-Some-as_one-clause-pays g t c =
-    let one = as_one_of c.args.form c.args.factor c.args.parts.now (query_view c.in-Some-as_one.part.now) c.in-Some-as_one.all c.in-Some-as_one.ensures.form c.in-Some-as_one.ensures.equal c.in-Some-as_one.ensures.factor c.requires.parts in
+    let one = c.in-Some-as_one.ensures.one c.requires.parts in
     IfOk-weaker c.open_node-in-Some-as_one.result _ _ (λ p h. record { paid = h.paid; within = omega (arith, h.within, one.readings c.args.index.now.live.documents); room = h.room }) c.open_node-in-Some-as_one.ensures.pays
 
 pub open_parts-returns-in-Some-as_one-clause-accounts : goal.open_parts-returns-in-Some-as_one-clause-accounts
 open_parts-returns-in-Some-as_one-clause-accounts g t c =
-    let one = as_one_of c.args.form c.args.factor c.args.parts.now (query_view c.in-Some-as_one.part.now) c.in-Some-as_one.all c.in-Some-as_one.ensures.form c.in-Some-as_one.ensures.equal c.in-Some-as_one.ensures.factor c.requires.parts in
+    let one = c.in-Some-as_one.ensures.one c.requires.parts in
     IfOk-weaker c.open_node-in-Some-as_one.result _ _ (λ p h. other_parts c.args.index.now c.args.form (queries_view c.args.parts.now) c.args.scheme c.args.factor p.0 (shape_of p.1) c.args.spent.now c.open_node-in-Some-as_one.new.spent one.others) c.open_node-in-Some-as_one.ensures.accounts
 
 pub open_sides-open_node-requires : goal.open_sides-open_node-requires
