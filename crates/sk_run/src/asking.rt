@@ -127,8 +127,9 @@ fn shown(alloc: Global, schema: &Schema, join: Join, text: &str) -> Result<Respo
 {
     match text_query(alloc, schema, join, text) {
         Ok(query) => {
-            let text = compact_text(alloc, &query)?;
-            Ok(Response::Query(Text::from_string(text)))
+            let text = compact_text(alloc, &query);
+            drop(query);
+            Ok(Response::Query(Text::from_string(text?)))
         }
         Err(why) => refused(why),
     }

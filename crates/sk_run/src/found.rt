@@ -3,60 +3,65 @@ ghost use Rattle.std.specs.Prelude.{◌≡◌, ◌++◌, ◌+◌, codes, decimal
 ghost use Rattle.json.specs.Print.{quoted};
 ghost use Rattle.sk_run.specs.Found.{found_line, found_rest, hit_line, found_text};
 
-use serde_json::Value;
+use json::Writer;
 use sk_base::{Ranked, Report};
 use std::alloc::{AllocError, Global};
 
 /// For how many bytes of each line room is taken at once. Most lines have fewer.
-const LINE: usize = 128;
+const LINE: usize = 64;
 
 /// The line of a report, and one line for each hit.
 pub(crate) fn found_lines(alloc: Global, first: u32, report: &Report) -> Result<String, AllocError>
     ensures { IfOk result (λ s. string_bytes s ≡ found_text first report.now) }
 {
     let hits = report.hits.as_slice();
-    let mut text = String::with_capacity(alloc, LINE.saturating_mul(hits.len().saturating_add(1)))?;
-    let line = found_line(alloc, report)?;
-    text.push_str(line.as_str())?;
+    let mut text = String::with_capacity(alloc, LINE.saturating_mul(hits.len().saturating_add(2)))?;
+    push_found_line(&mut text, report)?;
+    let mut payload = String::new(alloc);
     'hits: for (i, hit) in hits.iter().enumerate() {
-        push_hit_line(&mut text, first as usize + i, hit)?;
+        payload = json_string_in(payload, hit.payload.as_str())?;
+        push_hit_line(&mut text, first as usize + i, hit, payload.as_str())?;
     }
     Ok(text)
 }
 
-fn found_line(alloc: Global, report: &Report) -> Result<String, AllocError>
-    ensures { IfOk result (λ s. string_bytes s ≡ found_line report.now) }
+/// Writes the line of a report behind the text.
+fn push_found_line(text: &mut String, report: &Report) -> Result<(), AllocError>
+    ensures { OnOk result (string_bytes text.new ≡ string_bytes text.old ++ found_line report.now) }
 {
     let hits = report.hits.as_slice().len();
     let lower = report.lower;
     let estimate = report.estimate;
-    let mut text = format!(in alloc; "found hits={hits} lower={lower} estimate={estimate}")?;
-    let rest = found_rest(alloc, report)?;
-    text.push_str(rest.as_str())?;
-    Ok(text)
+    write!(text, "found hits={hits} lower={lower} estimate={estimate}")?;
+    push_found_rest(text, report)
 }
 
-fn found_rest(alloc: Global, report: &Report) -> Result<String, AllocError>
-    ensures { IfOk result (λ s. string_bytes s ≡ found_rest report.now) }
+/// Writes its second half.
+fn push_found_rest(text: &mut String, report: &Report) -> Result<(), AllocError>
+    ensures { OnOk result (string_bytes text.new ≡ string_bytes text.old ++ found_rest report.now) }
 {
     let upper = report.upper;
     let greatest = report.greatest;
     let steps = report.steps;
-    format!(in alloc; " upper={upper} max={greatest} steps={steps}\n")
+    write!(text, " upper={upper} max={greatest} steps={steps}\n")
 }
 
-/// Writes the line of a hit behind the text.
-fn push_hit_line(text: &mut String, rank: usize, hit: &Ranked) -> Result<(), AllocError>
+/// Writes the line of a hit behind the text. `payload` is its own in JSON.
+fn push_hit_line(
+    text: &mut String,
+    rank: usize,
+    hit: &Ranked,
+    payload: &str,
+) -> Result<(), AllocError>
+    requires { payload.now ≡ quoted hit.now.payload }
     ensures { OnOk result (string_bytes text.new ≡ string_bytes text.old ++ hit_line rank hit.now) }
 {
     let id = hit.id;
     let weight = hit.weight;
     let collapsed = hit.collapsed;
-    let data = json_string(*text.allocator(), hit.payload.as_str())?;
-    let data = data.as_str();
     write!(
         text,
-        "hit rank={rank} id={id} weight={weight} collapsed={collapsed} data={data}\n"
+        "hit rank={rank} id={id} weight={weight} collapsed={collapsed} data={payload}\n"
     )
 }
 
@@ -64,6 +69,19 @@ fn push_hit_line(text: &mut String, rank: usize, hit: &Ranked) -> Result<(), All
 pub(crate) fn json_string(alloc: Global, text: &str) -> Result<String, AllocError>
     ensures { IfOk result (λ s. string_bytes s ≡ quoted text.now) }
 {
-    let value = Value::String(String::from_str(alloc, text)?);
-    value.to_string(alloc)
+    json_string_in(String::new(alloc), text)
+}
+
+/// The same, in the memory of another string.
+fn json_string_in(room: String, text: &str) -> Result<String, AllocError>
+    ensures { IfOk result (λ s. string_bytes s ≡ quoted text.now) }
+{
+    let mut bytes = room.into_bytes();
+    bytes.clear();
+    let mut writer = Writer::new(bytes);
+    writer.string(text)?;
+    match String::from_utf8(writer.into_inner()) {
+        Ok(text) => Ok(text),
+        Err(_) => unreachable!(),
+    }
 }

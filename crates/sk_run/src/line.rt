@@ -68,13 +68,16 @@ pub(crate) fn answer_request<M: Store, K: Sink, L: Ledger>(
 {
     let stays = !request.may_read();
     let Ok(()) = waiting.put_unless(stays, output) else {
+        drop(request);
         return Err(Status::WriteFault);
     };
     let Ok((next, answer)) = machine.answer(alloc, request, steps) else {
         return Err(waiting.put_last(output));
     };
     let refuses = answer.refuses();
-    let Ok(text) = answer.text_under(alloc, printing) else {
+    let text = answer.text_under(alloc, printing);
+    drop(answer);
+    let Ok(text) = text else {
         return Err(waiting.put_last(output));
     };
     let Ok(()) = waiting.join(text.as_bytes(), output) else {

@@ -109,7 +109,9 @@ pub(crate) fn close<M: Store, K: Sink>(
         return Status::Memory;
     };
     let refuses = refused | answer.refuses();
-    let Ok(text) = answer.text_under(alloc, printing) else {
+    let text = answer.text_under(alloc, printing);
+    drop(answer);
+    let Ok(text) = text else {
         return Status::Memory;
     };
     let Ok(()) = put_all(output, text.as_bytes()) else {

@@ -151,8 +151,9 @@ fn obey<M: Store, L: Ledger>(
         Command::Schema(_, _) => unreachable!(),
         Command::Edit(edit) => apply(store, edit),
         Command::Ask(question) => {
-            let response = answer_question(alloc, &store, &question, steps)?;
-            Ok((store, response))
+            let response = answer_question(alloc, &store, &question, steps);
+            drop(question);
+            Ok((store, response?))
         }
         Command::Flight(command) => {
             let mut store = store;
