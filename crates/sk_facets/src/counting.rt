@@ -38,10 +38,15 @@ pub fn count<L: Ledger>(
     let mut tree = Tree::open(alloc, index, query, Scheme::Bool, steps)?;
     let mut tally = Tally::new(alloc);
     'matches: while let Some(id) = tree.head() {
-        tally.note(index.value(slot, id, steps))?;
+        let Ok(()) = tally.note(index.value(slot, id, steps)) else {
+            drop(tree);
+            return Err(AllocError);
+        };
         pass(&mut tree, index, id, steps);
     }
-    tally.finish(size, tree.spent())
+    let spent = tree.spent();
+    drop(tree);
+    tally.finish(size, spent)
 }
 
 /// Moves past the document at the head, which has this id.

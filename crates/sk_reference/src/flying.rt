@@ -60,6 +60,7 @@ impl Shelf {
         ensures told { IfOk result (λ answer. steps_of answer ≡ 0) }
     {
         if self.flights.count() >= MOST_OPEN {
+            drop(query);
             return Ok(Response::Refused(Refusal::TooManyOpen));
         }
         let search = Search::open(alloc, self.documents(), query, paging)?;

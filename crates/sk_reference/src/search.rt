@@ -5,7 +5,7 @@ ghost use Rattle.sk_base.specs.Loads.{IsLight};
 ghost use Rattle.sk_query.specs.Trees.{query_view};
 ghost use Rattle.sk_query.specs.Fits.{is_sound, leaves_of};
 ghost use Rattle.sk_model.specs.Counts.{wanted};
-ghost use Rattle.sk_reference.specs.Searches.{Stands, Tells, begun, turned};
+ghost use Rattle.sk_reference.specs.Searches.{Stands, Tells, begun, due, turned};
 
 use sk_base::{Doc, DocId, Paging, Report};
 use sk_plain::found_by;
@@ -61,9 +61,14 @@ impl Search {
         ensures begun { IfOk result (λ search. search ≡ begun paging (query_view query) docs.now.entries) }
         ensures stands { IfOk result Stands }
     {
-        let documents = copy_of(alloc, docs)?;
-        let found = found_by(alloc, &documents, &query, &paging)?;
-        let due = wanted(&paging).min(found.len() as u64);
+        let Ok(due) = due_of(alloc, docs, &query, &paging) else {
+            drop(query);
+            return Err(AllocError);
+        };
+        let Ok(documents) = copy_of(alloc, docs) else {
+            drop(query);
+            return Err(AllocError);
+        };
         Ok(Search {
             paging,
             query,
@@ -105,6 +110,22 @@ impl Search {
     {
         report_of(alloc, &self.documents, &self.query, &self.paging)
     }
+}
+
+/// How many turns of a search of this query and page move on, over these documents.
+fn due_of(
+    alloc: Global,
+    docs: &BTreeMap<DocId, Doc>,
+    query: &Query,
+    paging: &Paging,
+) -> Result<u64, AllocError>
+    requires sound { is_sound 1 (query_view query.now) ≡ true }
+    requires leaves { leaves_of (query_view query.now) ≤ 1024 }
+    requires light { All IsLight docs.now.entries }
+    ensures { IfOk result (λ turns. turns ≡ due (begun paging.now (query_view query.now) docs.now.entries)) }
+{
+    let found = found_by(alloc, docs, query, paging)?;
+    Ok(wanted(paging).min(found.len() as u64))
 }
 
 /// How many matches a find wants to see.

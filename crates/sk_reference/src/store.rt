@@ -51,7 +51,9 @@ impl Store for Shelf {
     ) -> Result<Report, AskError> {
         let alloc = self.allocator();
         let query = query_of(alloc, Shelf::schema(self), &find.ask)?;
-        match self.report(alloc, &query, &find.paging) {
+        let report = self.report(alloc, &query, &find.paging);
+        drop(query);
+        match report {
             Ok(report) => {
                 count(report.steps, steps);
                 Ok(report)
@@ -69,7 +71,9 @@ impl Store for Shelf {
         let alloc = self.allocator();
         let schema = Shelf::schema(self);
         let query = text_query(alloc, schema, wanted.join, wanted.text.as_str())?;
-        match facets_of(alloc, self.documents(), &query, wanted.slot, wanted.size) {
+        let facets = facets_of(alloc, self.documents(), &query, wanted.slot, wanted.size);
+        drop(query);
+        match facets {
             Ok(facets) => {
                 count(facets.steps, steps);
                 Ok(facets)

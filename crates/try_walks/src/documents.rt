@@ -32,8 +32,13 @@ fn record(alloc: Global, text: &[u8]) -> Result<Record, AllocError> {
 
 /// The index with a document of this text.
 pub(crate) fn add(alloc: Global, index: Index, text: &[u8]) -> Result<Index, AllocError> {
-    let edit = Edit::Add(record(alloc, text)?);
+    let Ok(record) = record(alloc, text) else {
+        drop(index);
+        return Err(AllocError);
+    };
+    let edit = Edit::Add(record);
     if !edit.fits(index.schema()) {
+        drop(index);
         return Err(AllocError);
     }
     let (index, _) = index.apply(edit)?;

@@ -3,7 +3,7 @@
 //! ask for walks through one tree first, for `bench/nodes.py`.
 #![tactic(auto)]
 
-ghost use Rattle.std.specs.Prelude.{◌≡◌, ◌≤◌, true};
+ghost use Rattle.std.specs.Prelude.{◌≡◌, ◌≤◌, true, IfSome};
 ghost use Rattle.sk_query.specs.Trees.{query_view};
 ghost use Rattle.sk_query.specs.Fits.{fits_tree};
 ghost use Rattle.sk_tree.specs.Built.{IsTree};
@@ -57,6 +57,23 @@ fn is_lawful<L: Ledger>(
     requires fits { fits_tree (query_view query.now) ≡ true }
 {
     let mut tree = Tree::open(alloc, index, query, Scheme::Nnn, steps)?;
+    let lawful = seeks_lawfully(alloc, index, &mut tree, all, walk, steps);
+    drop(tree);
+    lawful
+}
+
+/// The same of a tree at its first match.
+fn seeks_lawfully<L: Ledger>(
+    alloc: Global,
+    index: &Index,
+    tree: &mut Tree,
+    all: &[Left],
+    walk: Walk,
+    steps: &mut Steps<L>,
+) -> Result<bool, AllocError>
+    requires tree { IsTree index.now tree.old }
+    requires need { tree.old.need ≡ 0 }
+{
     tree.seek(index, walk.target, walk.need, steps);
     let Some(head) = tree.head() else {
         return Ok(keeps_what_is_wanted(all, &[], walk.target, walk.need));
@@ -72,11 +89,27 @@ fn is_lawful<L: Ledger>(
     }
     tree.seek(index, head + 1, second, steps);
     let ceiling = tree.ceiling();
-    let left = left_of(alloc, index, &mut tree, second, steps)?;
+    let left = left_of(alloc, index, tree, second, steps)?;
     let left = left.as_slice();
     let is_rest = left.iter().all(|one| was_left(all, head + 1, one.id, one.weight)
         && one.weight <= ceiling);
     Ok(is_first && is_rest && keeps_what_is_wanted(all, left, head + 1, second))
+}
+
+/// One more than the greatest weight that the tree of a query speaks of, and all that it gives.
+fn all_of<L: Ledger>(
+    alloc: Global,
+    index: &Index,
+    query: &Query,
+    steps: &mut Steps<L>,
+) -> Result<(Weight, Vec<Left>), AllocError>
+    requires fits { fits_tree (query_view query.now) ≡ true }
+{
+    let mut tree = Tree::open(alloc, index, query, Scheme::Nnn, steps)?;
+    let greatest = tree.ceiling().saturating_add(1);
+    let all = left_of(alloc, index, &mut tree, 0, steps);
+    drop(tree);
+    Ok((greatest, all?))
 }
 
 /// How many seeks there were in all walks through the tree of a query; none where one leaves what it may not.
@@ -93,9 +126,7 @@ fn seeks_of<R: Env, L: Ledger>(
     requires fits { fits_tree (query_view query.now) ≡ true }
 {
     let mut steps = Steps::<L>::open(rt, blank);
-    let mut tree = Tree::open(alloc, index, query, Scheme::Nnn, &mut steps)?;
-    let greatest = tree.ceiling().saturating_add(1);
-    let all = left_of(alloc, index, &mut tree, 0, &mut steps)?;
+    let (greatest, all) = all_of(alloc, index, query, &mut steps)?;
     let mut seeks = 0u64;
     'targets: for target in TARGETS {
         'needs: for need in 0..=greatest {
@@ -111,6 +142,16 @@ fn seeks_of<R: Env, L: Ledger>(
     Ok(Some(seeks))
 }
 
+/// The query whose JSON a line is.
+fn query_in(alloc: Global, line: &[u8]) -> Option<Query>
+    ensures { IfSome result (λ query. fits_tree (query_view query) ≡ true) }
+{
+    let value = Value::from_slice(alloc, line).ok()?;
+    let query = from_json(alloc, &value);
+    drop(value);
+    query.ok()
+}
+
 /// The same of a line, under a counter of its own; none where the line is no query.
 fn outcome<R: Env>(
     rt: &R,
@@ -118,14 +159,12 @@ fn outcome<R: Env>(
     index: &Index,
     line: &[u8],
 ) -> Result<Option<u64>, AllocError> {
-    let Ok(value) = Value::from_slice(alloc, line) else {
+    let Some(query) = query_in(alloc, line) else {
         return Ok(None);
     };
-    let Ok(query) = from_json(alloc, &value) else {
-        return Ok(None);
-    };
-    let seeks = seeks_of::<_, Brand>(rt, Blank::new(1), alloc, index, &query)?;
-    Ok(seeks)
+    let seeks = seeks_of::<_, Brand>(rt, Blank::new(1), alloc, index, &query);
+    drop(query);
+    seeks
 }
 
 /// What the lines came to.
@@ -158,9 +197,13 @@ fn take_line<R: Env>(
     if let Some(text) = line.strip_prefix(b"+ ") {
         return Ok((add(alloc, index, text)?, Step::Document));
     }
-    match outcome(rt, alloc, &index, line)? {
-        Some(seeks) => Ok((index, Step::Tree(seeks))),
-        None => Ok((index, Step::Unlawful)),
+    match outcome(rt, alloc, &index, line) {
+        Ok(Some(seeks)) => Ok((index, Step::Tree(seeks))),
+        Ok(None) => Ok((index, Step::Unlawful)),
+        Err(fault) => {
+            drop(index);
+            Err(fault)
+        }
     }
 }
 
@@ -178,7 +221,10 @@ fn seek_all<R: Env, S: Source>(
         let line = match lines.next(source) {
             Ok(Some(Line::Whole(line))) => line,
             Ok(None) => break,
-            _ => return Ok(Sought::Unread),
+            _ => {
+                drop(index);
+                return Ok(Sought::Unread);
+            }
         };
         let (next, told) = take_line(rt, alloc, index, line)?;
         index = next;
@@ -189,10 +235,12 @@ fn seek_all<R: Env, S: Source>(
                 seeks = seeks.saturating_add(more);
             }
             Step::Unlawful => {
+                drop(index);
                 return Ok(Sought::Unlawful(String::from_utf8_lossy(alloc, line)?));
             }
         }
     }
+    drop(index);
     Ok(Sought::Lawful(seeks, trees))
 }
 

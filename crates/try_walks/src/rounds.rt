@@ -2,6 +2,7 @@
 ghost use Rattle.std.specs.Prelude.{◌≡◌, true};
 ghost use Rattle.sk_query.specs.Trees.{query_view};
 ghost use Rattle.sk_query.specs.Fits.{fits_tree};
+ghost use Rattle.sk_tree.specs.Built.{IsTree};
 
 use crate::documents::{add, empty_index};
 use sk_base::{Scheme, Text, Weight};
@@ -59,7 +60,7 @@ fn query(alloc: Global, form: u32) -> Result<Query, AllocError> {
     }
 }
 
-/// Goes through all matches, and adds their weights.
+/// The weights of all matches, added.
 fn walk<L: Ledger>(
     alloc: Global,
     index: &Index,
@@ -69,18 +70,28 @@ fn walk<L: Ledger>(
     requires fits { fits_tree (query_view query.now) ≡ true }
 {
     let mut tree = Tree::open(alloc, index, query, Scheme::Nnn, steps)?;
+    let sum = weights_left(index, &mut tree, steps);
+    drop(tree);
+    Ok(sum)
+}
+
+/// Goes through all that is left of a tree, and adds the weights.
+fn weights_left<L: Ledger>(index: &Index, tree: &mut Tree, steps: &mut Steps<L>) -> Weight
+    requires tree { IsTree index.now tree.old }
+    requires need { tree.old.need ≡ 0 }
+{
     let mut sum: Weight = 0;
     'walk: for _ in 0..u32::MAX {
         let Some(id) = tree.head() else {
-            return Ok(sum);
+            return sum;
         };
         sum = sum.wrapping_add(tree.weight());
         if id == u32::MAX {
-            return Ok(sum);
+            return sum;
         }
         tree.seek(index, id + 1, 0, steps);
     }
-    Ok(sum)
+    sum
 }
 
 /// The sum of all weights in so many walks.
@@ -112,12 +123,29 @@ fn sum_of<R: Env, L: Ledger>(
     requires one { blank.parts ≡ 1 }
 {
     let mut steps = Steps::<L>::open(rt, blank);
-    let index = filled(alloc, rounds.documents)?;
     let query = query(alloc, rounds.form)?;
-    if !query.fits() {
-        return Err(AllocError);
-    }
-    sum_in(alloc, &index, &query, rounds.walks, &mut steps)
+    let sum = if query.fits() {
+        sum_over(alloc, &query, rounds, &mut steps)
+    } else {
+        Err(AllocError)
+    };
+    drop(query);
+    sum
+}
+
+/// The sum of all weights in all rounds of a query.
+fn sum_over<L: Ledger>(
+    alloc: Global,
+    query: &Query,
+    rounds: Rounds,
+    steps: &mut Steps<L>,
+) -> Result<Weight, AllocError>
+    requires fits { fits_tree (query_view query.now) ≡ true }
+{
+    let index = filled(alloc, rounds.documents)?;
+    let sum = sum_in(alloc, &index, query, rounds.walks, steps);
+    drop(index);
+    sum
 }
 
 /// The same, under a counter of its own.

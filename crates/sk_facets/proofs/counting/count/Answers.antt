@@ -18,8 +18,8 @@ pub matches-preserved : goal.matches-preserved
 matches-preserved g c =
     let counting = c.matches.invariant.0 in (
       passed c.args.index.now (query_view c.args.query.now) c.args.slot c.matches.tree c.matches.tally counting c.in-Some.id c.value.result.now c.pass.new.tree c.note.new.self
-          (sym (c.head.ensures c.args.index.now counting.built.tree) ∙ c.in-Some.is) c.value.ensures.value c.pass.ensures.left (c.pass.ensures.built _ _ counting.built) c.pass.ensures.need c.in_ok-note.ensures.knows,
-      omega (arith, c.pass.ensures.cost, c.value.ensures.cost, c.matches.invariant.1, more_matches c.matches.tally c.note.new.self c.value.result.now counting.seen counting.knows (c.in_ok-note.ensures.knows counting.seen counting.knows)),
+          (sym (c.head.ensures c.args.index.now counting.built.tree) ∙ c.in-Some.is) c.value.ensures.value c.pass.ensures.left (c.pass.ensures.built _ _ counting.built) c.pass.ensures.need c.in-Ok.ensures.knows,
+      omega (arith, c.pass.ensures.cost, c.value.ensures.cost, c.matches.invariant.1, more_matches c.matches.tally c.note.new.self c.value.result.now counting.seen counting.knows (c.in-Ok.ensures.knows counting.seen counting.knows)),
     )
 
 pub returns-clause-facets : goal.returns-clause-facets
@@ -27,5 +27,5 @@ returns-clause-facets g c =
     let counting = c.matches.invariant.0 in
     let knows = knows_all c.args.index.now (query_view c.args.query.now) c.args.slot c.matches.tree c.matches.tally counting (sym (c.head.ensures c.args.index.now counting.built.tree) ∙ c.in_default.is) in
     all_ok c.finish.result _ _ _ _
-    (λ facets first numbers steps. told c.args.index.now (query_view c.args.query.now) c.args.slot c.args.size c.spent.result c.matches.tally facets knows (first _ knows) numbers.0 numbers.1 steps (c.spent.ensures.within c.args.index.now _ _ counting.built))
+    (λ facets first numbers steps. told c.args.index.now (query_view c.args.query.now) c.args.slot c.args.size c.spent-spent.result c.matches.tally facets knows (first _ knows) numbers.0 numbers.1 steps (c.spent-spent.ensures.within c.args.index.now _ _ counting.built))
     c.finish.ensures.values c.finish.ensures.numbers c.finish.ensures.steps
