@@ -90,7 +90,7 @@ def many(picks):
 
 
 def asked(picks):
-    """A find by a random tree, with random options."""
+    """A find by a random tree, some of them behind a filter of all documents, with random options."""
     chance = picks.random()
     if chance < 0.4:
         query = terms(picks)
