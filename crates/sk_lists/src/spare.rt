@@ -5,8 +5,8 @@ use crate::directory::FULL;
 use sk_chunks::Chunk;
 use std::alloc::{AllocError, Global};
 
-/// Room is taken for a quarter of the chunks that a list has, and for this many at most.
-const SHARE: usize = 4;
+/// Room is taken for an eighth of the chunks that a list has, and for this many at most.
+const SHARE: usize = 8;
 
 const MOST: usize = 64;
 
