@@ -12,6 +12,11 @@ use std::marker::Model;
 /// There are so many buckets at least.
 const LEAST_BUCKETS: usize = 128;
 
+/// Up to so many there are several for each list, so that all lists are seldom dealt out anew.
+const SEVERAL_BUCKETS: usize = 2048;
+
+const FOR_EACH_LIST: usize = 4;
+
 /// Lists by the id at which each stands: a bucket queue. Contracts see the marks alone, in the order in which they were
 /// given; a list goes by its place among them.
 #[derive(Drop)]
@@ -47,7 +52,7 @@ impl Buckets {
         ensures { IfOk result (λ b. b ≡ marks.items) }
     {
         let count = marks.len();
-        let mut buckets = vec![in alloc; Bucket::EMPTY; count.max(LEAST_BUCKETS)]?;
+        let mut buckets = vec![in alloc; Bucket::EMPTY; room_for(count)]?;
         let mut next = vec![in alloc; 0usize; count]?;
         let greatest = greatest(&marks);
         let base = least_head(&marks);
@@ -144,4 +149,12 @@ impl Buckets {
         self.buckets.clear();
         self.next.clear();
     }
+}
+
+/// How many buckets so many lists have.
+fn room_for(count: usize) -> usize
+    ensures { 0 < result }
+{
+    let several = count.saturating_mul(FOR_EACH_LIST).min(SEVERAL_BUCKETS);
+    several.max(count).max(LEAST_BUCKETS)
 }

@@ -12,8 +12,8 @@ deal-requires-clause-from c = rw (c.least_head-base.ensures, c.deref-2.ensures.v
 
 pub deal-requires-clause-empty : goal.deal-requires-clause-empty
 deal-requires-clause-empty c =
-    let is : c.in_ok-buckets.buckets.items ≡ replicate c.max.result empty = c.in_ok-buckets.ensures.items_if_clones_equal (λ y e. e) in
-    rw (c.deref_mut.ensures.value, is) (none_dealt c.least_head-base.result c.max.result c.deref_mut-2.result.now)
+    let is : c.in_ok-buckets.buckets.items ≡ replicate c.room_for.result empty = c.in_ok-buckets.ensures.items_if_clones_equal (λ y e. e) in
+    rw (c.deref_mut.ensures.value, is) (none_dealt c.least_head-base.result c.room_for.result c.deref_mut-2.result.now)
 
 pub invariant_of-result : goal.invariant_of-result
 invariant_of-result c =
