@@ -1,3 +1,4 @@
 pub mod TurnLemmas
 pub mod PassLemmas
 pub mod FinishLemmas
+pub mod StrideLemmas

@@ -1,8 +1,9 @@
 -- What a search has seen, and what it still has to see.
-use Rattle.std.specs.Prelude.{◌≡◌, ◌≤◌, ◌<◌, ℕ, ◌+◌, ◌||◌, ◌⊎◌, max, nat_le, Bool, true, List, [], ◌∷◌, length, filter, is_none, None, Some, if◌then◌else◌}
+use Rattle.std.specs.Prelude.{◌≡◌, ◌≤◌, ◌<◌, ℕ, ◌+◌, ◌-◌, ◌^◌, ◌||◌, ◌⊎◌, min, max, nat_le, Bool, true, false, List, [], ◌∷◌, length, filter, is_none, Option, None, Some, if◌then◌else◌}
 use Rattle.std.specs.List.{AllByRecursion}
 use Rattle.sk_base.specs.declared.find.Paging.{Paging}
 use Rattle.sk_base.specs.declared.find.Scheme.{Scheme}
+use Rattle.sk_base.specs.declared.rank.SortKey.{SortKey}
 use Rattle.sk_sorted.specs.Entries.{first_id}
 use Rattle.sk_query.specs.declared.form.Form.TheVariants as Form
 use Rattle.sk_query.specs.Trees as Query
@@ -18,10 +19,11 @@ use Rattle.sk_tree.specs.Built.{gives, left, first_weight, Built}
 use Rattle.sk_tree.specs.Stops.{PaysToStop, MayMove}
 use Rattle.sk_tree.specs.Rare.{Rare}
 use Rattle.sk_tree.specs.Decays.{Decays, MayFall}
+use Rattle.sk_tree.specs.Skips.{Skips}
 use Rattle.sk_tree.specs.declared.tree.Tree.{Tree}
 use Rattle.sk_page.specs.Needs.{is_settled, need_for}
 use Rattle.sk_report.specs.Paces.{reached_by}
-use Rattle.sk_page.specs.Views.{PageOf, Sees}
+use Rattle.sk_page.specs.Views.{PageOf, Sees, IsEdge}
 use Rattle.sk_match.specs.declared.open_search.Search.{Search}
 
 -- What a search still has to see: ids and weights, by rising id.
@@ -103,10 +105,39 @@ pub record PassesUnseen (index : Indexed) (id : ℕ) (old new : Search) : Type 0
   pub page : new.page ≡ old.page
   pub bounds : new.bounds ≡ old.bounds
 
+-- A search went past a match that it saw, and past so many behind it that come behind its page by their values, which its page counts.
+pub record PassesBehind (index : Indexed) (old new : Search) : Type 0 where
+  pub key : SortKey
+  pub last : List ℕ
+  pub edge : IsEdge old.page key last
+  pub count : ℕ
+  pub skips : Skips index key last count old.tree new.tree
+  pub built : (query : Query.Tree) (scheme : Scheme) → Built old.tree index query scheme → Built new.tree index query scheme
+  pub tree_need : new.tree.need ≡ old.tree.need
+  pub need : new.need ≡ old.need
+  pub page : new.page ≡ record old.page { seen = min (2 ^ 32 - 1) (old.page.seen + count) }
+  pub bounds : new.bounds ≡ old.bounds
+
+-- A search went past the document with this id, and perhaps past more that come behind its page.
+abbrev pub PassesFar : Indexed → ℕ → Search → Search → Type 0
+PassesFar index id old new = PassesUnseen index id old new ⊎ PassesBehind index old new
+
 -- Its page saw the document with this id where that weighs the cutoff, and else it is as it was.
 abbrev pub SeesHead : Indexed → ℕ → ℕ → Search → Search → Type 0
 SeesHead index id weight old new =
     ((old.page.options.cutoff ≤ weight) × Sees index.live.documents id weight old.page new.page) ⊎ ((weight < old.page.options.cutoff) × (new.page ≡ old.page))
+
+-- A search that goes on looked at the document at its head, with this id: its page saw it where it weighs the cutoff, and nothing else changed.
+pub record LooksAt (index : Indexed) (id : ℕ) (old new : Search) : Type 0 where
+  pub goes : is_done index old ≡ false
+  pub first : first_id (ahead index old) ≡ Some id
+  pub sees : SeesHead index id (first_weight (ahead index old)) old new
+  pub rest : new ≡ record old { page = new.page }
+
+-- A search looked at the document at its head; without one it is done, and as it was.
+abbrev pub Looks : Indexed → Option ℕ → Search → Search → Type 0
+Looks index None old new = (is_done index old ≡ true) × (new ≡ old)
+Looks index (Some id) old new = LooksAt index id old new
 
 -- A search moved past the document at its head alone: it saw that where it weighs the cutoff, and what is left covers what was left behind it, under the need.
 pub record MovesPast (index : Indexed) (old new : Search) : Type 0 where

@@ -16,7 +16,7 @@ ghost use Rattle.sk_tree.specs.Built.{scored, IsTree};
 ghost use Rattle.sk_page.specs.Needs.{is_whole};
 ghost use Rattle.sk_report.specs.Paces.{IsEarly};
 ghost use Rattle.sk_match.specs.Paces.{ups_seen};
-ghost use Rattle.sk_match.specs.Searches.{IsOn, Stands, Asks, PassesUnseen, MovesPast, ahead, left_to_stop, is_done, spent_by};
+ghost use Rattle.sk_match.specs.Searches.{IsOn, Stands, Asks, PassesUnseen, PassesFar, MovesPast, Looks, ahead, left_to_stop, is_done, spent_by};
 ghost use Rattle.sk_match.specs.declared.open_search.Turn.TheVariants as Turn;
 
 use crate::reader::IndexReader;
@@ -121,19 +121,78 @@ impl Search {
         ensures cost { IfOk result (λ turn. steps.new + spent_by self.old ≡ steps.old + spent_by self.new) }
         ensures later { steps.old ≤ steps.new }
     {
-        let ceiling = self.tree.ceiling();
-        let Some(id) = self.tree.head() else {
+        let Some(id) = self.look(index, steps)? else {
             return Ok(Turn::Done);
         };
-        if self.page.is_settled(ceiling) {
+        self.pass(index, id, steps);
+        Ok(Turn::More)
+    }
+
+    /// As `turn`, but where the matches are a range and go by their values in it, it sees those too that come behind the next
+    /// one and behind a full page, up to the first that may not: they change nothing but how many were seen.
+    pub fn stride<L: Ledger>(
+        &mut self,
+        index: &Index,
+        steps: &mut Steps<L>,
+    ) -> Result<Turn, AllocError>
+        requires on { IsOn self.old index.now }
+        ensures stands { IfOk result (λ turn. (paging : Paging) (query : QueryTree.Tree) → Stands self.old index.now paging query → Stands self.new index.now paging query) }
+        ensures done { IfOk result (λ turn. turn ≡ (if is_done index.now self.old then Turn.Done else Turn.More)) }
+        ensures same { IfOk result (λ turn. turn ≡ Turn.Done → (self.new ≡ self.old) × (steps.new ≡ steps.old)) }
+        ensures fewer { IfOk result (λ turn. turn ≡ Turn.More → length (ahead index.now self.new) < length (ahead index.now self.old)) }
+        ensures cost { IfOk result (λ turn. steps.new + spent_by self.old ≡ steps.old + spent_by self.new) }
+        ensures later { steps.old ≤ steps.new }
+    {
+        let Some(id) = self.look(index, steps)? else {
             return Ok(Turn::Done);
+        };
+        self.pass_far(index, id, steps);
+        Ok(Turn::More)
+    }
+
+    /// Sees the next document, unless that weighs less than the cutoff, and answers its id; `None` where nothing that is left
+    /// can change the page.
+    fn look<L: Ledger>(
+        &mut self,
+        index: &Index,
+        steps: &mut Steps<L>,
+    ) -> Result<Option<DocId>, AllocError>
+        requires on { IsOn self.old index.now }
+        ensures looks { IfOk result (λ id. Looks index.now id self.old self.new) }
+        ensures free { self.old.page.collapse ≡ None → self.old.page.order.by ≡ OrderBy.Relevance → IsOk result }
+        ensures cost { IfOk result (λ id. steps.new + self.old.page.read ≡ steps.old + self.new.page.read) }
+        ensures later { steps.old ≤ steps.new }
+    {
+        let ceiling = self.tree.ceiling();
+        let Some(id) = self.tree.head() else {
+            return Ok(None);
+        };
+        if self.page.is_settled(ceiling) {
+            return Ok(None);
         }
         let weight = self.tree.weight();
         if weight >= self.page.cutoff() {
             self.page.see(&IndexReader { index }, id, weight, steps)?;
         }
+        Ok(Some(id))
+    }
+
+    /// Moves past the document with this id, and past those behind it that come behind the page by their values alone.
+    fn pass_far<L: Ledger>(&mut self, index: &Index, id: DocId, steps: &mut Steps<L>)
+        requires tree { IsTree index.now self.old.tree }
+        requires need { self.old.need ≡ self.old.tree.need }
+        ensures passes { PassesFar index.now id self.old self.new }
+        ensures read { self.new.page.read ≡ self.old.page.read }
+        ensures cost { steps.new + self.old.tree.spent ≡ steps.old + self.new.tree.spent }
+        ensures later { steps.old ≤ steps.new }
+    {
+        if let Some((key, last)) = self.page.edge() {
+            if let Some(count) = self.tree.skip_behind(index, key, last, steps) {
+                self.page.count_in(count);
+                return;
+            }
+        }
         self.pass(index, id, steps);
-        Ok(Turn::More)
     }
 
     /// Moves past the document with this id.

@@ -29,7 +29,7 @@ pub fn search<L: Ledger>(
 {
     let mut search = Search::open(alloc, index, paging, query, steps)?;
     'turns: loop {
-        match search.turn(index, steps) {
+        match search.stride(index, steps) {
             Ok(Turn::More) => {}
             Ok(Turn::Done) => return search.finish(index, steps),
             Err(fault) => {

@@ -3,6 +3,7 @@ pub mod NodeLaws
 pub mod ListLaws
 pub mod BlockLaws
 pub mod RangeLaws
+pub mod RangeSkipLaws
 pub mod SumLaws
 pub mod ManyLaws
 pub mod RepeatLaws

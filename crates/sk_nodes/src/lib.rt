@@ -24,6 +24,6 @@ pub use merge::{mark_of, merge_of};
 pub use moves::reach;
 pub use node::Node;
 pub use proximity::{Proximity, ProximityKind};
-pub use range_node::RangeNode;
+pub use range_node::{RangeNode, skip_behind};
 pub use sk_buckets::Mark;
 pub use top::{END, Top};

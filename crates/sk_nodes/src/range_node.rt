@@ -1,5 +1,5 @@
 //! The documents whose value in a slot lies in a range.
-ghost use Rattle.std.specs.Prelude.{◌≡◌, ◌≤◌, ◌<◌, ◌+◌, ◌^◌, ℕ, length};
+ghost use Rattle.std.specs.Prelude.{◌≡◌, ◌≤◌, ◌<◌, ◌+◌, ◌^◌, ℕ, length, IfSome, IfNone};
 ghost use Rattle.sk_base.specs.declared.find.Scheme.{Scheme};
 ghost use Rattle.sk_sorted.specs.Entries.{AreSorted};
 ghost use Rattle.sk_values.specs.RangeCursor.{in_range};
@@ -7,12 +7,16 @@ ghost use Rattle.sk_index.specs.Indexed.{Indexed, slot_values};
 ghost use Rattle.sk_nodes.specs.Accounts.{Spends};
 ghost use Rattle.sk_nodes.specs.Leaves.{weighed, head_of};
 ghost use Rattle.sk_nodes.specs.Shapes as Shapes;
-ghost use Rattle.sk_nodes.specs.Sound.{IsTop, Lands};
+ghost use Rattle.sk_nodes.specs.Shapes.{shape_of};
+ghost use Rattle.sk_nodes.specs.Left.{unread_of};
+ghost use Rattle.sk_nodes.specs.Sound.{IsTop, Lands, Sound};
 ghost use Rattle.sk_nodes.specs.Begun.{Yields};
 ghost use Rattle.sk_nodes.specs.RangeNode.{unweighed, range_entries, range_unread, IsRangeOn};
+ghost use Rattle.sk_nodes.specs.RangeSkips.{RangeSkips, NodeSkips};
 
+use crate::node::Node;
 use crate::top::{END, Top};
-use sk_base::Bytes;
+use sk_base::{Bytes, SortKey};
 use sk_decay::Head;
 use sk_index::Index;
 use sk_steps::Steps;
@@ -73,6 +77,35 @@ impl RangeNode {
         self.show(top);
     }
 
+    /// Moves past its first value, and past those behind it that are numbers and come behind another one in the order of the
+    /// key. Answers how many, the first not counted; `None` where it has ended, is by another slot, or the other is no number,
+    /// and then it stays.
+    fn skip_behind<L: Ledger>(
+        &mut self,
+        top: &mut Top,
+        index: &Index,
+        key: SortKey,
+        last: &[u8],
+        spent: &mut u128,
+        steps: &mut Steps<L>,
+    ) -> Option<u32>
+        requires sound { IsRangeOn index.now self.old }
+        requires room { spent.old + range_unread index.now self.old < 2 ^ 128 }
+        ensures none { IfNone result ((self.new ≡ self.old) × (top.new ≡ top.old)) }
+        ensures some { IfSome result (λ count. RangeSkips index.now key last.now count self.old self.new top.new) }
+        ensures spends { Spends (range_unread index.now self.old) (range_unread index.now self.new) spent.old spent.new steps.old steps.new }
+    {
+        if self.slot != key.slot {
+            return None;
+        }
+        let list = index.values(self.slot);
+        let before = self.cursor.passed();
+        let count = self.cursor.skip_behind(list, last, key.reverse, steps)?;
+        *spent += u128::from(self.cursor.passed() - before);
+        self.show(top);
+        Some(count)
+    }
+
     /// Writes where it stands.
     fn show(&self, top: &mut Top)
         ensures top { (i : Indexed) → IsRangeOn i self.now → IsTop i top.new (Shapes.range self.now) }
@@ -88,5 +121,29 @@ impl RangeNode {
             weight: 0,
             greatest: 0,
         };
+    }
+}
+
+/// Moves a node that is a range by the key's slot past its first value, and past those behind it that are numbers and come behind
+/// another one in the order of the key. Answers how many, the first not counted; `None` where it is no such range or has ended,
+/// or the other is no number, and then it stays.
+pub fn skip_behind<L: Ledger>(
+    top: &mut Top,
+    node: &mut Node,
+    index: &Index,
+    key: SortKey,
+    last: &[u8],
+    spent: &mut u128,
+    steps: &mut Steps<L>,
+) -> Option<u32>
+    requires sound { Sound index.now (shape_of node.old) }
+    requires room { spent.old + unread_of index.now (shape_of node.old) < 2 ^ 128 }
+    ensures none { IfNone result ((node.new ≡ node.old) × (top.new ≡ top.old)) }
+    ensures some { IfSome result (λ count. NodeSkips index.now key last.now count (shape_of node.old) (shape_of node.new) top.new) }
+    ensures spends { Spends (unread_of index.now (shape_of node.old)) (unread_of index.now (shape_of node.new)) spent.old spent.new steps.old steps.new }
+{
+    match node {
+        Node::Range(range) => range.skip_behind(top, index, key, last, spent, steps),
+        _ => None,
     }
 }

@@ -13,3 +13,4 @@ pub mod SeeLaws
 pub mod EndLaws
 pub mod SpentLaws
 pub mod PaceLaws
+pub mod EdgeLaws

@@ -47,7 +47,7 @@ use Rattle.sk_page.proofs.SharpLaws.{plain_is}
 -- ---- lists
 
 -- no more match than there are
-found_few : (query : Tree) (paging : Paging) (docs : Docs) → length (found_by query paging docs) ≤ length docs
+pub found_few : (query : Tree) (paging : Paging) (docs : Docs) → length (found_by query paging docs) ≤ length docs
 found_few query paging [] = omega arith
 found_few query paging (d ∷ docs) = few (scores query paging d) (found_step query paging d docs (scores query paging d) refl) (found_few query paging docs)
   where

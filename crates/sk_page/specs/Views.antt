@@ -1,7 +1,12 @@
 -- A page: what one is that was opened, that saw a match, and that is reported.
 -- Source: Own.
-use Rattle.std.specs.Prelude.{◌≡◌, ◌≢◌, ◌≤◌, ◌<◌, ◌+◌, ◌-◌, ◌/◌, ◌^◌, ℕ, Bool, true, List, [], length, drop, map, All, IfSome, Option, if◌then◌else◌}
+use Rattle.std.specs.Prelude.{◌≡◌, ◌≢◌, ◌≤◌, ◌<◌, ◌+◌, ◌-◌, ◌/◌, ◌^◌, ◌⊎◌, ℕ, Bool, true, false, None, List, [], length, drop, map, All, IfSome, Option, if◌then◌else◌}
+use Rattle.std.specs.Ordering.{is_le}
+use Rattle.sk_base.specs.Before.{value_cmp}
 use Rattle.sk_base.specs.declared.find.Paging.{Paging}
+use Rattle.sk_base.specs.declared.rank.OrderBy.TheVariants as OrderBy
+use Rattle.sk_base.specs.declared.rank.SortKey.{SortKey}
+use Rattle.sk_heap.specs.Held.{offered}
 use Rattle.sk_base.specs.declared.rank.Rank.{Rank}
 use Rattle.sk_base.specs.declared.report.Report.{Report}
 use Rattle.sk_base.specs.Numbers.{Docs}
@@ -63,6 +68,12 @@ pub record Sees (docs : Docs) (id weight : ℕ) (old new : Page) : Type 0 where
   pub options : new.options ≡ old.options
   pub order : new.order ≡ old.order
   pub collapse : new.collapse ≡ old.collapse
+
+-- Nothing is collapsed, and a match whose value comes behind the last one in the order of the key falls out at once.
+pub record IsEdge (page : Page) (key : SortKey) (last : List ℕ) : Type 0 where
+  pub single : page.collapser ≡ None
+  pub by : (page.heap.order.by ≡ OrderBy.Value key) ⊎ (page.heap.order.by ≡ OrderBy.ValueThenRelevance key)
+  pub falls : (hit : Hit) → is_le (value_cmp key hit.rank.value last) ≡ false → offered hit page.heap ≡ page.heap
 
 -- How many of the matches that it saw are kept.
 abbrev pub kept_by_page : Page → ℕ

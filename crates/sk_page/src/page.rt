@@ -1,5 +1,5 @@
 //! What a search keeps of the matches that it saw.
-ghost use Rattle.std.specs.Prelude.{◌≡◌, ◌≤◌, ◌<◌, ◌+◌, ◌^◌, ℕ, List, [], true, IfOk, IsOk, OnOk, IfSome, None};
+ghost use Rattle.std.specs.Prelude.{◌≡◌, ◌≤◌, ◌<◌, ◌+◌, ◌-◌, ◌^◌, ℕ, List, [], true, min, IfOk, IsOk, OnOk, IfSome, None};
 ghost use Rattle.sk_base.specs.Finds.{FitsPaging};
 ghost use Rattle.sk_base.specs.declared.rank.OrderBy.TheVariants as OrderBy;
 ghost use Rattle.sk_base.specs.declared.rank.Rank as RankView;
@@ -8,12 +8,12 @@ ghost use Rattle.sk_model.specs.Counts.{wanted_by};
 ghost use Rattle.sk_page.specs.Hits.{kept_count};
 ghost use Rattle.sk_page.specs.Needs.{is_settled, is_whole, need_for};
 ghost use Rattle.sk_page.specs.Pages.{CollapsesBy};
-ghost use Rattle.sk_page.specs.Views.{OpensPage, MaySee, Sees, MayReport, Reports};
+ghost use Rattle.sk_page.specs.Views.{OpensPage, MaySee, Sees, IsEdge, MayReport, Reports};
 
 use crate::hits::hits_of;
 use crate::offer::show;
 use crate::reader::{Reader, key_of, value_of};
-use sk_base::{Collapse, DocId, Options, Order, OrderBy, Paging, Report, Weight};
+use sk_base::{Collapse, DocId, Options, Order, OrderBy, Paging, Report, SortKey, Weight};
 use sk_collapse::Collapser;
 use sk_heap::ResultHeap;
 use sk_steps::Steps;
@@ -93,6 +93,24 @@ impl Page {
         self.seen += 1;
         self.read += readings(self.order.by, self.collapse);
         Ok(())
+    }
+
+    /// Where nothing is collapsed and the page goes by value first, the key of its order and the value of its worst hit, once it
+    /// is full: a match whose value comes behind that changes nothing but how many were seen.
+    pub fn edge(&self) -> Option<(SortKey, &[u8])>
+        ensures { IfSome result (λ e. IsEdge self.now e.0 e.1.now) }
+    {
+        if self.collapser.is_some() {
+            return None;
+        }
+        self.heap.edge()
+    }
+
+    /// Sees so many matches that change nothing else, and of which nothing more is read.
+    pub fn count_in(&mut self, count: u32)
+        ensures { self.new ≡ record self.old { seen = min (2 ^ 32 - 1) (self.old.seen + count) } }
+    {
+        self.seen = self.seen.saturating_add(count);
     }
 
     /// The least weight of a match.

@@ -1,4 +1,5 @@
 pub mod TreeLaws
+mod RangeSkipLaws
 pub mod CountLaws
 pub mod OpenLaws
 pub mod SynonymLaws

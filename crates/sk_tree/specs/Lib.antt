@@ -12,3 +12,4 @@ pub mod OpenedAccounts
 pub mod Nests
 pub mod Sums
 pub mod Readings
+pub mod Skips

@@ -1,5 +1,5 @@
 //! The tree of a query, as a search sees it.
-ghost use Rattle.std.specs.Prelude.{◌≡◌, ◌≤◌, ◌<◌, ◌+◌, ℕ, List, [], ◌∷◌, Some, IfOk, true};
+ghost use Rattle.std.specs.Prelude.{◌≡◌, ◌≤◌, ◌<◌, ◌+◌, ℕ, List, [], ◌∷◌, Some, IfOk, IfSome, IfNone, true};
 ghost use Rattle.sk_base.specs.declared.find.Scheme.{Scheme};
 ghost use Rattle.sk_sorted.specs.Entries.{from, first_id};
 ghost use Rattle.sk_query.specs.declared.form.Form.TheVariants as Form;
@@ -18,12 +18,13 @@ ghost use Rattle.sk_tree.specs.Stops.{PaysToStop};
 ghost use Rattle.sk_tree.specs.Rare.{Rare};
 ghost use Rattle.sk_tree.specs.Decays.{Decays, DecaysBoth};
 ghost use Rattle.sk_tree.specs.Kept.{KeepsAccounts};
+ghost use Rattle.sk_tree.specs.Skips.{Skips};
 
 use crate::opening::open_node;
-use sk_base::{DocId, Scheme, Weight};
+use sk_base::{DocId, Scheme, SortKey, Weight};
 use sk_decay::Head;
 use sk_index::Index;
-use sk_nodes::{END, Node, Top, reach};
+use sk_nodes::{END, Node, Top, reach, skip_behind};
 use sk_query::Query;
 use sk_steps::Steps;
 use std::alloc::{AllocError, Global};
@@ -117,6 +118,35 @@ impl Tree {
             &mut self.spent,
             steps,
         );
+    }
+
+    /// Where the query is a range by the slot of the key: moves past the first match, and past those behind it whose values are
+    /// numbers that come behind another one in the order of the key. Answers how many, the first not counted; `None` where the
+    /// query is no such range, nothing is left, or the other value is no number, and then it stays.
+    pub fn skip_behind<L: Ledger>(
+        &mut self,
+        index: &Index,
+        key: SortKey,
+        last: &[u8],
+        steps: &mut Steps<L>,
+    ) -> Option<u32>
+        requires tree { IsTree index.now self.old }
+        ensures built { (query : QueryTree.Tree) (scheme : Scheme) → Built self.old index.now query scheme → Built self.new index.now query scheme }
+        ensures none { IfNone result (self.new ≡ self.old) }
+        ensures some { IfSome result (λ count. Skips index.now key last.now count self.old self.new) }
+        ensures need { self.new.need ≡ self.old.need }
+        ensures cost { steps.new + self.old.spent ≡ steps.old + self.new.spent }
+        ensures later { steps.old ≤ steps.new }
+    {
+        skip_behind(
+            &mut self.top,
+            &mut self.node,
+            index,
+            key,
+            last,
+            &mut self.spent,
+            steps,
+        )
     }
 
     /// The first id that is left.

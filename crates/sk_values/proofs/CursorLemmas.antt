@@ -53,7 +53,7 @@ entry_at runs now at passed i run view lt place le less is =
     subst (λ (s : SlotRuns). IsSameEntry (flat s) i run (i - passed)) view (subst (λ (r : SlotValues). IsSameEntry (flat runs) i r (i - passed)) (sym here) (same_entry runs at (i - passed) i lt (omega (arith, less, le)) on))
 
 -- the place one entry before
-place_before : (runs : SlotRuns) (i read passed : ℕ) → 0 < read → IsPlace runs i read passed → IsPlace runs i (read - 1) (passed - 1)
+pub place_before : (runs : SlotRuns) (i read passed : ℕ) → 0 < read → IsPlace runs i read passed → IsPlace runs i (read - 1) (passed - 1)
 place_before runs i read passed some at = record { bound = at.bound; within = omega (arith, at.within); counted = omega (arith, at.counted, some) }
 
 -- ---- reading in a piece
@@ -81,12 +81,9 @@ module _ (lo hi : Option (List ℕ)) (runs : SlotRuns) (i read passed : ℕ) (lt
       }
 
   -- what a reading in the piece found
-  module _ (run : SlotValues) (is : run ≡ get_or runs i []) (head : Option ℕ) (next : ℕ) (onward : read ≤ next) (on : IsHeadAt lo hi head next run) (left : in_range lo hi (ahead head next run) ≡ in_range lo hi (drop read run)) where
-    here : IsHeadAt lo hi head next (get_or runs i [])
+  module _ (run : SlotValues) (is : run ≡ get_or runs i []) (head : Option ℕ) (next : ℕ) (onward : read ≤ next) (on : IsHeadAt lo hi head next run) where
+    pub here : IsHeadAt lo hi head next (get_or runs i [])
     here = subst (λ (es : SlotValues). IsHeadAt lo hi head next es) is on
-
-    left_here : in_range lo hi (ahead head next (get_or runs i [])) ≡ in_range lo hi (drop read (get_or runs i []))
-    left_here = subst (λ (es : SlotValues). in_range lo hi (ahead head next es) ≡ in_range lo hi (drop read es)) is left
 
     -- it came so far
     next_within : (o : Option ℕ) (n : ℕ) (es : SlotValues) → IsHeadAt lo hi o n es → n ≤ length es
@@ -107,16 +104,8 @@ module _ (lo hi : Option (List ℕ)) (runs : SlotRuns) (i read passed : ℕ) (lt
         by None e stop = absurd (true≢false (sym e))
         by (Some id) e stop = stop_whole id next (passed + (next - read)) next_place stop
 
-    pub stops_left : is_some head ≡ true → in_range lo hi (ahead head (passed + (next - read)) (flat runs)) ≡ in_range lo hi (drop passed (flat runs))
-    stops_left some = by head some here left_here
-      where
-        by : (o : Option ℕ) → is_some o ≡ true → IsHeadAt lo hi o next (get_or runs i []) → in_range lo hi (ahead o next (get_or runs i [])) ≡ in_range lo hi (drop read (get_or runs i []))
-            → in_range lo hi (ahead o (passed + (next - read)) (flat runs)) ≡ in_range lo hi (drop passed (flat runs))
-        by None e stop l = absurd (true≢false (sym e))
-        by (Some id) e stop l = range_behind (next - 1) (passed + (next - read) - 1) (place_before runs i next (passed + (next - read)) stop.begun next_place) l
-
     -- none, so the piece is at its end
-    ended : is_some head ≡ false → next ≡ length (get_or runs i [])
+    pub ended : is_some head ≡ false → next ≡ length (get_or runs i [])
     ended none = by head none here
       where
         by : (o : Option ℕ) → is_some o ≡ false → IsHeadAt lo hi o next (get_or runs i []) → next ≡ length (get_or runs i [])
@@ -126,12 +115,25 @@ module _ (lo hi : Option (List ℕ)) (runs : SlotRuns) (i read passed : ℕ) (lt
     pub goes_on : is_some head ≡ false → IsPlace runs (i + 1) 0 (passed + (next - read))
     goes_on none = subst (λ n. IsPlace runs (i + 1) 0 (passed + (n - read))) (sym (ended none)) (place_next runs i read passed lt at)
 
-    pub goes_on_left : is_some head ≡ false → in_range lo hi (drop (passed + (next - read)) (flat runs)) ≡ in_range lo hi (drop passed (flat runs))
-    goes_on_left none = range_behind next (passed + (next - read)) next_place (ap (in_range lo hi) (drop_all next (get_or runs i []) (omega (arith, ended none))) ∙ by head none left_here)
-      where
-        by : (o : Option ℕ) → is_some o ≡ false → in_range lo hi (ahead o next (get_or runs i [])) ≡ in_range lo hi (drop read (get_or runs i [])) → [] ≡ in_range lo hi (drop read (get_or runs i []))
-        by None e l = l
-        by (Some id) e l = absurd (true≢false e)
+    -- what lies in the range behind that
+    module _ (left : in_range lo hi (ahead head next run) ≡ in_range lo hi (drop read run)) where
+      left_here : in_range lo hi (ahead head next (get_or runs i [])) ≡ in_range lo hi (drop read (get_or runs i []))
+      left_here = subst (λ (es : SlotValues). in_range lo hi (ahead head next es) ≡ in_range lo hi (drop read es)) is left
+
+      pub stops_left : is_some head ≡ true → in_range lo hi (ahead head (passed + (next - read)) (flat runs)) ≡ in_range lo hi (drop passed (flat runs))
+      stops_left some = by head some here left_here
+        where
+          by : (o : Option ℕ) → is_some o ≡ true → IsHeadAt lo hi o next (get_or runs i []) → in_range lo hi (ahead o next (get_or runs i [])) ≡ in_range lo hi (drop read (get_or runs i []))
+              → in_range lo hi (ahead o (passed + (next - read)) (flat runs)) ≡ in_range lo hi (drop passed (flat runs))
+          by None e stop l = absurd (true≢false (sym e))
+          by (Some id) e stop l = range_behind (next - 1) (passed + (next - read) - 1) (place_before runs i next (passed + (next - read)) stop.begun next_place) l
+
+      pub goes_on_left : is_some head ≡ false → in_range lo hi (drop (passed + (next - read)) (flat runs)) ≡ in_range lo hi (drop passed (flat runs))
+      goes_on_left none = range_behind next (passed + (next - read)) next_place (ap (in_range lo hi) (drop_all next (get_or runs i []) (omega (arith, ended none))) ∙ by head none left_here)
+        where
+          by : (o : Option ℕ) → is_some o ≡ false → in_range lo hi (ahead o next (get_or runs i [])) ≡ in_range lo hi (drop read (get_or runs i [])) → [] ≡ in_range lo hi (drop read (get_or runs i []))
+          by None e l = l
+          by (Some id) e l = absurd (true≢false e)
 
 -- ---- passing over pieces
 

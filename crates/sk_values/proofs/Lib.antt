@@ -3,4 +3,5 @@ pub mod RangeLaws
 mod ByteLaws
 mod NumberLaws
 mod CursorLemmas
+mod SkipLaws
 mod Examples

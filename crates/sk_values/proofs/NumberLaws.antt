@@ -1,5 +1,5 @@
 -- Numbers in place of strings of eight bytes.
-use Rattle.std.proofs.Common.{◌≡◌, ℕ, ◌-◌, ◌^◌, ◌≤◌, ◌&&◌, nat_le, nat_lt, List, [], ◌∷◌, length, Option, None, Some, IfSome, true, sym, ap, ◌∙◌, arith}
+use Rattle.std.proofs.Common.{◌≡◌, ℕ, ◌-◌, ◌^◌, ◌&&◌, nat_le, nat_lt, List, [], ◌∷◌, length, Option, None, Some, IfSome, sym, ap, ◌∙◌, arith}
 use Rattle.std.proofs.lemmas.Bool.Decides.{nat_tests}
 use Rattle.std.specs.Int.{w64, from_be_bytes}
 use Rattle.std.specs.Slice.Scan.{big_endian}
@@ -45,9 +45,6 @@ pub greatest-if : (o : Option ℕ) (hi : List ℕ) → IfSome o (λ n. IsNumber 
 greatest-if None hi is = tt
 greatest-if (Some n) hi is = greatest-number n hi is
 
--- for a number that is not below the least, the greatest decides
-pub greatest-decides : (lo hi : Option (List ℕ)) (least greatest n : ℕ) (v : List ℕ) → IsLeast lo least → IsGreatest hi greatest → IsNumber n v → least ≤ n
-    → nat_le n greatest ≡ is_within lo hi v
-greatest-decides lo hi least greatest n v from to is le =
-    let begun : true ≡ nat_le least n = grind (arith, nat_tests, le) in
-    (λ k. begun k && nat_le n greatest) ∙ (λ k. sym (from n v is) k && sym (to n v is) k) ∙ ap (λ l. nat_lt 0 l && (is_from lo v && is_to hi v)) (sym is.eight)
+-- both numbers decide as both ends do
+pub both_decide : (lo hi : Option (List ℕ)) (least greatest n : ℕ) (v : List ℕ) → IsLeast lo least → IsGreatest hi greatest → IsNumber n v → (nat_le least n && nat_le n greatest) ≡ is_within lo hi v
+both_decide lo hi least greatest n v from to is = (λ k. sym (from n v is) k && sym (to n v is) k) ∙ ap (λ l. nat_lt 0 l && (is_from lo v && is_to hi v)) (sym is.eight)

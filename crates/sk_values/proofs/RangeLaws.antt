@@ -127,7 +127,7 @@ pub unread-ended : (c : RangeCursor) (runs : SlotRuns) → IsOn c runs → None 
 unread-ended c runs on e = ended_unread c.bounds.lo c.bounds.hi c.head c.place.passed (flat runs) on.head (e ∙ sym (head_is c.bounds.lo c.bounds.hi c.head c.place.passed (flat runs) on.head))
 
 -- a head, and then the unread in the range, by cases
-head_split : (lo hi : Option (List ℕ)) (head : Option ℕ) (read id : ℕ) (list : SlotValues) → IsHeadAt lo hi head read list → Some id ≡ head
+pub head_split : (lo hi : Option (List ℕ)) (head : Option ℕ) (read id : ℕ) (list : SlotValues) → IsHeadAt lo hi head read list → Some id ≡ head
     → in_range lo hi (ahead head read list) ≡ (id, value_at_place list (read - 1)) ∷ in_range lo hi (drop read list)
 head_split lo hi None read id list on e = cc
 head_split lo hi (Some at) read id list on e = let same : at ≡ id = cc in stop-split lo hi at read list on ∙ (λ k. (same k, value_at_place list (read - 1)) ∷ in_range lo hi (drop read list))

@@ -2,3 +2,4 @@ pub mod SlotValues
 pub mod Held
 pub mod Numbers
 pub mod RangeCursor
+pub mod Behind

@@ -47,7 +47,7 @@ impl Bounds {
         ensures { result ≡ is_within self.now.lo self.now.hi value.now }
     {
         match (self.numbers, value.number()) {
-            (Some((least, greatest)), Some(n)) => least <= n && n <= greatest,
+            (Some((least, greatest)), Some(n)) => (least <= n) & (n <= greatest),
             _ => is_within(&self.lo, &self.hi, value.as_slice()),
         }
     }

@@ -2,6 +2,7 @@
 #![tactic(auto)]
 
 mod bounds;
+mod edge;
 mod range;
 mod range_cursor;
 mod slot_list;

@@ -1,13 +1,16 @@
 //! A place in a slot's list, which only moves on, and stops only at values in a range.
-ghost use Rattle.std.specs.Prelude.{◌≡◌, ◌+◌, ◌≤◌, ◌<◌, true, length, drop, IfSome};
+ghost use Rattle.std.specs.Prelude.{◌≡◌, ◌+◌, ◌≤◌, ◌<◌, ℕ, List, true, length, drop, IfSome, IfNone};
 ghost use Rattle.sk_sorted.specs.Entries.{from, first_id};
 ghost use Rattle.sk_sorted.specs.Places.{id_at};
 ghost use Rattle.sk_sorted.specs.Runs.{flat};
 ghost use Rattle.sk_values.specs.SlotValues.{SlotRuns, value_at_place};
+ghost use Rattle.sk_values.specs.Numbers.{IsNumber};
+ghost use Rattle.sk_values.specs.Behind.{Skips, SkipsOn};
 ghost use Rattle.sk_values.specs.RangeCursor.{in_range, unread, ahead, left, IsHeadAt, IsPlaceIn, IsOn, is_head_below};
 
 use crate::SlotList;
 use crate::bounds::Bounds;
+use crate::edge::Edge;
 use crate::value::Value;
 use sk_base::{Bytes, DocId};
 use sk_pieces::Piece;
@@ -88,6 +91,33 @@ impl RangeCursor {
         self.place = stop;
         self.head = head;
         stop.passed - place.passed
+    }
+
+    /// Moves past the head, and past the values in the range behind it as long as they are numbers that come behind another
+    /// one: above it, or in reverse below it. Answers how many it passed over so, the head not counted; where it has ended, or
+    /// the other is no number, `None`, and then it stays.
+    pub fn skip_behind<L: Ledger>(
+        &mut self,
+        list: &SlotList,
+        last: &[u8],
+        reverse: bool,
+        steps: &mut Steps<L>,
+    ) -> Option<u32>
+        requires on { IsOn self.old list.now }
+        ensures on { IsOn self.new list.now }
+        ensures none { IfNone result (self.new ≡ self.old) }
+        ensures some { IfSome result (λ count. SkipsOn reverse last.now count (left self.old (flat list.now)) (left self.new (flat list.now))) }
+
+        // What it came past it has read once.
+        ensures cost { steps.new + length (unread self.new (flat list.now)) ≡ steps.old + length (unread self.old (flat list.now)) }
+        ensures later { steps.old ≤ steps.new }
+    {
+        let _head = self.head?;
+        let edge = Edge::new(last, reverse)?;
+        let (place, head, count) = skip_from(list, self.place, &self.bounds, &edge, steps);
+        self.place = place;
+        self.head = head;
+        Some(count)
     }
 
     /// The head's id; none where the cursor has ended.
@@ -210,6 +240,74 @@ fn stop_in<L: Ledger>(
         }
     }
     (end, None)
+}
+
+/// Reads on from a place to the first value between the ends that is not told to come behind the edge, and gives the place
+/// behind it with its id, or the end; and how many values between the ends were passed over.
+fn skip_from<L: Ledger>(
+    list: &SlotList,
+    start: Place,
+    bounds: &Bounds,
+    edge: &Edge,
+    steps: &mut Steps<L>,
+) -> (Place, Option<DocId>, u32)
+    requires { IsPlaceIn start list.now }
+    ensures at { IsPlaceIn result.0 list.now }
+    ensures head { IsHeadAt bounds.now.lo bounds.now.hi result.1 result.0.passed (flat list.now) }
+    ensures skips { (last : List ℕ) → IsNumber edge.now.number last → Skips edge.now.reverse last result.2
+        (in_range bounds.now.lo bounds.now.hi (drop start.passed (flat list.now)))
+        (in_range bounds.now.lo bounds.now.hi (ahead result.1 result.0.passed (flat list.now))) }
+    ensures behind { start.passed ≤ result.0.passed }
+    ensures cost { steps.new + start.passed ≡ steps.old + result.0.passed }
+{
+    let _sound = list.length();
+    let pieces = list.pieces();
+    let mut place = start;
+    let mut count = 0u32;
+    'pieces: while place.piece < pieces.len() {
+        let (read, head, few) = skip_in(&pieces[place.piece], place.read, bounds, edge, steps);
+        place.passed += read - place.read;
+        place.read = read;
+        count += few;
+        if head.is_some() {
+            return (place, head, count);
+        }
+        place.piece += 1;
+        place.read = 0;
+    }
+    (place, None, count)
+}
+
+/// The same within a piece.
+fn skip_in<L: Ledger>(
+    piece: &Piece<Value>,
+    place: u32,
+    bounds: &Bounds,
+    edge: &Edge,
+    steps: &mut Steps<L>,
+) -> (u32, Option<DocId>, u32)
+    requires { place ≤ length piece.now }
+    ensures head { IsHeadAt bounds.now.lo bounds.now.hi result.1 result.0 piece.now }
+    ensures skips { (last : List ℕ) → IsNumber edge.now.number last → Skips edge.now.reverse last result.2
+        (in_range bounds.now.lo bounds.now.hi (drop place piece.now))
+        (in_range bounds.now.lo bounds.now.hi (ahead result.1 result.0 piece.now)) }
+    ensures few { place + result.2 ≤ result.0 }
+    ensures cost { steps.new + place ≡ steps.old + result.0 }
+{
+    let end = piece.count();
+    let mut read = place;
+    let mut count = 0u32;
+    'entries: while read < end {
+        let (id, value) = entry(piece, read, steps);
+        read += 1;
+        // `&`, and not `&&`: values in the range and others come in any order, so a branch would often be guessed wrong.
+        let is_in = bounds.contains(value);
+        if is_in & !edge.is_before(value) {
+            return (read, Some(id), count);
+        }
+        count += u32::from(is_in);
+    }
+    (end, None, count)
 }
 
 /// Reads the entry at this place of a piece, counted from 0. All that a cursor reads it reads by this.

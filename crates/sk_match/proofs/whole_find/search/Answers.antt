@@ -3,8 +3,8 @@ use Rattle.std.proofs.lemmas.Result.{IfOk-weaker}
 use Rattle.sk_query.specs.Trees.{query_view}
 use Rattle.sk_match.proofs.whole_find.search.Goals as goal
 
-pub turn-requires : goal.turn-requires
-turn-requires g c = record { on = (c.args.paging.now, query_view c.args.query.now, c.turns.invariant.0) }
+pub stride-requires : goal.stride-requires
+stride-requires g c = record { on = (c.args.paging.now, query_view c.args.query.now, c.turns.invariant.0) }
 
 pub turns-preserved : goal.turns-preserved
 turns-preserved g c = (c.in-Ok-More.ensures.stands c.args.paging.now (query_view c.args.query.now) c.turns.invariant.0, omega (arith, c.turns.invariant.1, c.in-Ok-More.ensures.cost))

@@ -14,7 +14,7 @@ overflow_add-place g c =
     omega (
       arith,
       next_fits c.args.bounds.now.lo c.args.bounds.now.hi c.args.list.now c.pieces.place.piece c.pieces.place.read c.pieces.place.passed lt c.pieces.invariant.at c.index-pieces-place.result run c.stop_in-read.result.1 c.stop_in-read.result.0
-          c.stop_in-read.ensures.behind c.stop_in-read.ensures.head c.stop_in-read.ensures.left,
+          c.stop_in-read.ensures.behind c.stop_in-read.ensures.head,
       length_fits (flat c.args.list.now) c.length-sound.ensures.sound.sorted,
     )
 
@@ -23,7 +23,7 @@ returns-then-is_some-clause-head g c =
     let lt : c.pieces.place.piece < length c.args.list.now = omega (arith, c.pieces-test.true, ap (λ (s : SlotRuns). length s) c.pieces-pieces.ensures.value) in
     let run : c.index-pieces-place.result ≡ get_or c.args.list.now c.pieces.place.piece [] = run_read c.pieces-pieces.result.now c.args.list.now c.pieces.place.piece c.index-pieces-place.result c.pieces-pieces.ensures.value c.index-pieces-place.is lt in
     stops c.args.bounds.now.lo c.args.bounds.now.hi c.args.list.now c.pieces.place.piece c.pieces.place.read c.pieces.place.passed lt c.pieces.invariant.at c.index-pieces-place.result run c.stop_in-read.result.1 c.stop_in-read.result.0
-    c.stop_in-read.ensures.behind c.stop_in-read.ensures.head c.stop_in-read.ensures.left (sym c.is_some.ensures ∙ c.if-is_some.true)
+    c.stop_in-read.ensures.behind c.stop_in-read.ensures.head (sym c.is_some.ensures ∙ c.if-is_some.true)
 
 pub returns-then-is_some-clause-left : goal.returns-then-is_some-clause-left
 returns-then-is_some-clause-left g c =
@@ -38,7 +38,7 @@ pieces-preserved g c =
     let run : c.index-pieces-place.result ≡ get_or c.args.list.now c.pieces.place.piece [] = run_read c.pieces-pieces.result.now c.args.list.now c.pieces.place.piece c.index-pieces-place.result c.pieces-pieces.ensures.value c.index-pieces-place.is lt in
     record {
       at = goes_on c.args.bounds.now.lo c.args.bounds.now.hi c.args.list.now c.pieces.place.piece c.pieces.place.read c.pieces.place.passed lt c.pieces.invariant.at c.index-pieces-place.result run c.stop_in-read.result.1 c.stop_in-read.result.0
-          c.stop_in-read.ensures.behind c.stop_in-read.ensures.head c.stop_in-read.ensures.left (sym c.is_some.ensures ∙ c.if-is_some.false);
+          c.stop_in-read.ensures.behind c.stop_in-read.ensures.head (sym c.is_some.ensures ∙ c.if-is_some.false);
       behind = omega (arith, c.pieces.invariant.behind);
       left = goes_on_left c.args.bounds.now.lo c.args.bounds.now.hi c.args.list.now c.pieces.place.piece c.pieces.place.read c.pieces.place.passed lt c.pieces.invariant.at c.index-pieces-place.result run c.stop_in-read.result.1 c.stop_in-read.result.0
           c.stop_in-read.ensures.behind c.stop_in-read.ensures.head c.stop_in-read.ensures.left (sym c.is_some.ensures ∙ c.if-is_some.false) ∙ c.pieces.invariant.left;

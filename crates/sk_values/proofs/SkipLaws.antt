@@ -1,0 +1,125 @@
+-- Entries that are passed over because their values come behind the last one wanted.
+use Rattle.std.proofs.Common.{◌≡◌, ℕ, ◌+◌, ◌-◌, ◌<◌, ◌≤◌, Bool, true, false, not, ◌&&◌, List, [], ◌∷◌, ◌++◌, length, drop, get_or, is_some, Option, None, Some, if◌then◌else◌, refl, sym, ap, subst, ◌∙◌, arith, true≢false, append_assoc}
+use Rattle.std.specs.List.{AllByRecursion}
+use Rattle.std.proofs.lemmas.Bool.{lt-leb}
+use Rattle.std.proofs.lemmas.List.{drop_all, length-append}
+use Rattle.std.proofs.lemmas.List.Elements.{filter-append}
+use Rattle.sk_sorted.specs.Places.{id_at}
+use Rattle.sk_sorted.specs.Runs.{flat, IsPlace}
+use Rattle.sk_sorted.proofs.RunPlaceLaws.{place_drop}
+use Rattle.sk_model.specs.Ranges.{is_within}
+use Rattle.sk_values.specs.Numbers.{IsNumber}
+use Rattle.sk_values.specs.SlotValues.{SlotValues, SlotRuns, value_at_place}
+use Rattle.sk_values.specs.RangeCursor.{in_range, ahead, IsHeadAt}
+use Rattle.sk_values.specs.Behind.{is_behind, Skips}
+use Rattle.sk_values.proofs.NumberLaws.{least-number, greatest-number}
+use Rattle.sk_values.proofs.RangeLaws.{in_range-here, in_range-past}
+use Rattle.sk_values.proofs.CursorLemmas.{place_before, here, next_place, ended}
+use Rattle.sk_values.proofs.ValueLaws.{drop-entry}
+
+-- ---- numbers
+
+pub above_behind : (last n : ℕ) (v w : List ℕ) → IsNumber last v → IsNumber n w → last < n → is_behind false v w ≡ true
+above_behind last n v w is number lt = ap not (greatest-number last v is n w number ∙ lt-leb n last lt)
+
+pub below_behind : (last n : ℕ) (v w : List ℕ) → IsNumber last v → IsNumber n w → n < last → is_behind true v w ≡ true
+below_behind last n v w is number lt = ap not (least-number last v is n w number ∙ lt-leb last n lt)
+
+-- ---- what was passed over
+
+all_both : {X : Type 0} (P : X → Type 0) (xs ys : List X) → AllByRecursion P xs → AllByRecursion P ys → AllByRecursion P (xs ++ ys)
+all_both P [] ys h g = g
+all_both P (x ∷ xs) ys h g = (h.0, all_both P xs ys h.1 g)
+
+module _ (reverse : Bool) (last : List ℕ) where
+  abbrev Behind : ℕ × List ℕ → Type 0
+  Behind e = is_behind reverse last e.1 ≡ true
+
+  pub skips_none : (es : SlotValues) → Skips reverse last 0 es es
+  skips_none es = record { passed = []; is = refl; counted = refl; behind = tt }
+
+  pub skips_then : (n m : ℕ) (xs ys zs : SlotValues) → Skips reverse last n xs ys → Skips reverse last m ys zs → Skips reverse last (n + m) xs zs
+  skips_then n m xs ys zs one two =
+      let both : length (one.passed ++ two.passed) ≡ length one.passed + length two.passed = length-append one.passed two.passed in
+      record {
+        passed = one.passed ++ two.passed;
+        is = one.is ∙ ap (λ (es : SlotValues). one.passed ++ es) two.is ∙ sym (append_assoc one.passed two.passed zs);
+        counted = omega (arith, both, one.counted, two.counted);
+        behind = all_both Behind one.passed two.passed one.behind two.behind;
+      }
+
+  pub skips_before : (n : ℕ) (xs ys rest : SlotValues) → Skips reverse last n xs ys → Skips reverse last n (xs ++ rest) (ys ++ rest)
+  skips_before n xs ys rest one = record {
+    passed = one.passed;
+    is = ap (λ (es : SlotValues). es ++ rest) one.is ∙ append_assoc one.passed ys rest;
+    counted = one.counted;
+    behind = one.behind;
+  }
+
+  module _ (lo hi : Option (List ℕ)) where
+    -- one entry, in the range or not
+    pub skips_one : (es : SlotValues) (read : ℕ) (b : Bool) → read < length es → is_within lo hi (value_at_place es read) ≡ b → (b ≡ true → is_behind reverse last (value_at_place es read) ≡ true)
+        → Skips reverse last (if b then 1 else 0) (in_range lo hi (drop read es)) (in_range lo hi (drop (read + 1) es))
+    skips_one es read true lt inside behind = record {
+      passed = (id_at es read, value_at_place es read) ∷ [];
+      is = ap (in_range lo hi) (drop-entry es read lt) ∙ in_range-here lo hi (id_at es read, value_at_place es read) (drop (read + 1) es) inside;
+      counted = refl;
+      behind = (behind refl, tt);
+    }
+    skips_one es read false lt outside behind = record { passed = []; is = sym (in_range-past lo hi es read lt outside); counted = refl; behind = tt }
+
+    -- the same in the whole as in a piece
+    pub skips_whole : (runs : SlotRuns) (i read passed next passed2 n : ℕ) → i < length runs → IsPlace runs i read passed → IsPlace runs i next passed2
+        → Skips reverse last n (in_range lo hi (drop read (get_or runs i []))) (in_range lo hi (drop next (get_or runs i [])))
+        → Skips reverse last n (in_range lo hi (drop passed (flat runs))) (in_range lo hi (drop passed2 (flat runs)))
+    skips_whole runs i read passed next passed2 n lt at later skips =
+        let run : SlotValues = get_or runs i [] in
+        let rest : SlotValues = flat (drop (i + 1) runs) in
+        let whole : (k p : ℕ) → IsPlace runs i k p → in_range lo hi (drop k run) ++ in_range lo hi rest ≡ in_range lo hi (drop p (flat runs))
+        = λ k p on. sym (ap (in_range lo hi) (place_drop runs i k p lt on) ∙ filter-append (λ (e : ℕ × List ℕ). is_within lo hi e.1) (drop k run) rest) in
+        subst (λ (es : SlotValues). Skips reverse last n es (in_range lo hi (drop passed2 (flat runs)))) (whole read passed at)
+        (subst (λ (es : SlotValues). Skips reverse last n (in_range lo hi (drop read run) ++ in_range lo hi rest) es) (whole next passed2 later)
+        (skips_before n (in_range lo hi (drop read run)) (in_range lo hi (drop next run)) (in_range lo hi rest) skips))
+
+-- ---- what a reading in a piece passed over
+
+module _ (reverse : Bool) (last : List ℕ) (lo hi : Option (List ℕ)) (runs : SlotRuns) (i read passed : ℕ) (lt : i < length runs) (at : IsPlace runs i read passed)
+    (run : SlotValues) (is : run ≡ get_or runs i []) (head : Option ℕ) (next : ℕ) (onward : read ≤ next) (on : IsHeadAt lo hi head next run) (n : ℕ)
+    (skips : Skips reverse last n (in_range lo hi (drop read run)) (in_range lo hi (ahead head next run))) where
+  later : IsPlace runs i next (passed + (next - read))
+  later = next_place lo hi runs i read passed lt at run is head next onward on
+
+  skips_here : Skips reverse last n (in_range lo hi (drop read (get_or runs i []))) (in_range lo hi (ahead head next (get_or runs i [])))
+  skips_here = subst (λ (es : SlotValues). Skips reverse last n (in_range lo hi (drop read es)) (in_range lo hi (ahead head next es))) is skips
+
+  -- up to a stop
+  pub skips_stop : is_some head ≡ true → Skips reverse last n (in_range lo hi (drop passed (flat runs))) (in_range lo hi (ahead head (passed + (next - read)) (flat runs)))
+  skips_stop some = by head some (here lo hi runs i read passed lt at run is head next onward on) skips_here
+    where
+      by : (o : Option ℕ) → is_some o ≡ true → IsHeadAt lo hi o next (get_or runs i []) → Skips reverse last n (in_range lo hi (drop read (get_or runs i []))) (in_range lo hi (ahead o next (get_or runs i [])))
+          → Skips reverse last n (in_range lo hi (drop passed (flat runs))) (in_range lo hi (ahead o (passed + (next - read)) (flat runs)))
+      by None e stop s = absurd (true≢false (sym e))
+      by (Some id) e stop s = skips_whole reverse last lo hi runs i read passed (next - 1) (passed + (next - read) - 1) n lt at (place_before runs i next (passed + (next - read)) stop.begun later) s
+
+  -- to the end of the piece
+  pub skips_on : is_some head ≡ false → Skips reverse last n (in_range lo hi (drop passed (flat runs))) (in_range lo hi (drop (passed + (next - read)) (flat runs)))
+  skips_on none =
+      skips_whole reverse last lo hi runs i read passed next (passed + (next - read)) n lt at later
+      (subst (λ (es : SlotValues). Skips reverse last n (in_range lo hi (drop read (get_or runs i []))) (in_range lo hi es)) (sym (drop_all next (get_or runs i []) (let end = ended lo hi runs i read passed lt at run is head next onward on none in omega (arith, end))))
+      (by head none skips_here))
+    where
+      by : (o : Option ℕ) → is_some o ≡ false → Skips reverse last n (in_range lo hi (drop read (get_or runs i []))) (in_range lo hi (ahead o next (get_or runs i [])))
+          → Skips reverse last n (in_range lo hi (drop read (get_or runs i []))) (in_range lo hi [])
+      by None e s = s
+      by (Some id) e s = absurd (true≢false e)
+
+-- one entry counts as one at the most
+pub at_most_one : (b : Bool) (n : ℕ) → n ≡ (if b then 1 else 0) → n ≤ 1
+at_most_one true n e = omega (arith, e)
+at_most_one false n e = omega (arith, e)
+
+-- what lies in the range and does not stop the walk comes before it
+pub not_stopped : (is_in before : Bool) → is_in ≡ true → (is_in && not before) ≡ false → before ≡ true
+not_stopped true true e f = refl
+not_stopped true false e f = absurd (true≢false f)
+not_stopped false before e f = absurd (true≢false (sym e))
