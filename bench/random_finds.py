@@ -89,8 +89,21 @@ def many(picks):
     return {picks.choice(["and", "or", "xor", "max", "and_not", "and_maybe", "filter"]): parts}
 
 
+def ranged(picks):
+    """A find by a range alone, mostly in the order of its own values, with random options."""
+    of_year = {"range": [1, picks.choice([None, 0, 3, 100]), picks.choice([None, 7, 200, 900])]}
+    of_site = {"range": [0, picks.choice([None, "x", "y"]), picks.choice([None, "y", "z"])]}
+    query, slot = picks.choice([(of_year, "year"), (of_year, "year"), (of_site, "site")])
+    find = {"tree": query} | options(picks, ["site", "year"])
+    if picks.random() < 0.7:
+        find |= {"order": picks.choice(["value", "value", "value_relevance", "relevance_value"]), "by": slot}
+    return find
+
+
 def asked(picks):
     """A find by a random tree, some of them behind a filter of all documents, with random options."""
+    if picks.random() < 0.1:
+        return ranged(picks)
     chance = picks.random()
     if chance < 0.4:
         query = terms(picks)
@@ -144,6 +157,7 @@ def commands(picks, texts=STEMMED):
     stem = picks.random() < 0.5
     parts = picks.randint(2, 16) if picks.random() < 0.5 else 1
     yield SCHEMA | ({"stem": True} if stem else {}) | ({"parts": parts} if parts > 1 else {})
+    latest = picks.choice([9, 9, 1000])
     for number in range(picks.randint(5, 60) if picks.random() < 0.8 else picks.randint(200, 600)):
         words = picks.choices("abcde", [5, 3, 2, 1, 1], k=picks.randint(0, 8))
         words += [*picks.choices(FORMS, k=picks.randint(0, 3)), *picks.choices(MANY, k=picks.randint(0, 6))]
@@ -153,7 +167,7 @@ def commands(picks, texts=STEMMED):
         if picks.random() < 0.8:
             record["site"] = picks.choice(["x", "y", "z", ""])
         if picks.random() < 0.8:
-            record["year"] = picks.randint(0, 9)
+            record["year"] = picks.randint(0, latest)
         yield {"add": record, "data": f"d{number}"}
         if picks.random() < 0.05:
             yield {"delete": picks.randint(1, number + 1)}
