@@ -1,13 +1,13 @@
 //! The documents of an index, packed, and its lists.
-ghost use Rattle.std.specs.Prelude.{◌≡◌, ℕ, [], length, IfOk, IfSome};
+ghost use Rattle.std.specs.Prelude.{◌≡◌, ◌≤◌, ℕ, [], length, None, IfOk, OnOk, IfSome};
 ghost use Rattle.std.specs.Option.{option_map};
 ghost use Rattle.sk_base.specs.Documents.{AreTerms};
 ghost use Rattle.sk_sorted.specs.Runs.{flat};
-ghost use Rattle.sk_model.specs.Edits.{document_at};
+ghost use Rattle.sk_model.specs.Edits.{document_at, put_document};
 ghost use Rattle.sk_index.specs.Indexed.{HavePositions, all_postings};
 ghost use Rattle.sk_index.specs.Packed.{AreKnown};
 ghost use Rattle.sk_index.specs.Stands.{AreListsOf, AreSlotsOf};
-ghost use Rattle.sk_index.specs.Unpacked.{named_all, unpacked};
+ghost use Rattle.sk_index.specs.Unpacked.{named_all, unpacked, unpacked_all, AreWhole};
 
 use crate::packed_terms::{PackedTerms, TermsCopier};
 use crate::payloads::Payloads;
@@ -144,16 +144,15 @@ impl Keeper for Lists {
             mut slots,
             mut payloads,
         } = self;
-        let Doc {
-            terms: texts,
-            values,
-            payload,
-        } = doc;
-        all.insert(id, 0)?;
-        let packed = terms.put_all(id, texts.as_slice())?;
-        slots.set_all(id, values.into_vec())?;
-        payloads.set(id, payload)?;
-        map.put(id, packed)?;
+        put_into(
+            &mut map,
+            &mut all,
+            &mut terms,
+            &mut slots,
+            &mut payloads,
+            id,
+            doc,
+        )?;
         Ok(Lists {
             map,
             none,
@@ -178,4 +177,35 @@ impl Keeper for Lists {
     fn ids_with(&mut self, term: &[u8]) -> Result<Vec<DocId>, AllocError> {
         self.terms.ids(term)
     }
+}
+
+/// Puts the document into each list. Where memory runs out, some have it and some have not.
+fn put_into(
+    map: &mut Pieces<PackedTerms>,
+    all: &mut List,
+    terms: &mut TermLists,
+    slots: &mut SlotLists,
+    payloads: &mut Payloads,
+    id: DocId,
+    doc: Doc,
+) -> Result<(), AllocError>
+    requires id { 1 ≤ id }
+    requires whole { AreWhole all.old terms.old slots.old payloads.old (flat map.old) }
+    requires free { document_at id (unpacked_all terms.old.terms slots.old payloads.old (flat map.old)) ≡ None }
+    ensures whole { OnOk result (AreWhole all.new terms.new slots.new payloads.new (flat map.new)) }
+    ensures documents { OnOk result (unpacked_all terms.new.terms slots.new payloads.new (flat map.new)
+        ≡ put_document id doc (unpacked_all terms.old.terms slots.old payloads.old (flat map.old))) }
+{
+    all.insert(id, 0)?;
+    let packed = terms.put_all(id, doc.terms.as_slice())?;
+    let Doc {
+        terms: texts,
+        values,
+        payload,
+    } = doc;
+    drop(texts);
+    slots.set_all(id, values.into_vec())?;
+    payloads.set(id, payload)?;
+    map.put(id, packed)?;
+    Ok(())
 }

@@ -5,7 +5,7 @@ ghost use Rattle.sk_sorted.specs.Runs.{flat};
 ghost use Rattle.sk_index.specs.Slotted.{slot_pieces, slot_list, Sets, SetsAll, ClearsAll, RiseFrom, IsNowhere, KeepsOthers, values_at};
 
 use sk_base::{Bytes, DocId, SlotValue};
-use sk_values::SlotList;
+use sk_values::{SlotList, Value};
 use std::alloc::{AllocError, Global};
 use std::marker::Model;
 
@@ -114,6 +114,7 @@ impl SlotLists {
         ensures sets { OnOk result (Sets id slot value self.old self.new) }
         ensures rise { OnOk result (RiseFrom 0 self.new) }
     {
+        let value = Value::new(self.alloc, value)?;
         match self.place_of(slot) {
             Some(at) => {
                 self.slots[at].list.set(id, value)?;

@@ -1,7 +1,8 @@
 -- Entries that are passed over because their values come behind the last one wanted.
-use Rattle.std.proofs.Common.{◌≡◌, ℕ, ◌+◌, ◌-◌, ◌<◌, ◌≤◌, Bool, true, false, not, ◌&&◌, List, [], ◌∷◌, ◌++◌, length, drop, get_or, is_some, Option, None, Some, if◌then◌else◌, refl, sym, ap, subst, ◌∙◌, arith, true≢false, append_assoc}
+use Rattle.std.proofs.Common.{◌≡◌, ℕ, ◌+◌, ◌-◌, ◌<◌, ◌≤◌, nat_lt, Bool, true, false, not, List, [], ◌∷◌, ◌++◌, length, drop, get_or, is_some, Option, None, Some, if◌then◌else◌, refl, sym, ap, subst, ◌∙◌, arith, true≢false, append_assoc}
 use Rattle.std.specs.List.{AllByRecursion}
-use Rattle.std.proofs.lemmas.Bool.{lt-leb}
+use Rattle.std.proofs.lemmas.Bool.{lt-leb, ltb-true}
+use Rattle.std.proofs.lemmas.Bool.Decides.{nat_tests}
 use Rattle.std.proofs.lemmas.List.{drop_all, length-append}
 use Rattle.std.proofs.lemmas.List.Elements.{filter-append}
 use Rattle.sk_sorted.specs.Places.{id_at}
@@ -11,7 +12,9 @@ use Rattle.sk_model.specs.Ranges.{is_within}
 use Rattle.sk_values.specs.Numbers.{IsNumber}
 use Rattle.sk_values.specs.SlotValues.{SlotValues, SlotRuns, value_at_place}
 use Rattle.sk_values.specs.RangeCursor.{in_range, ahead, IsHeadAt}
-use Rattle.sk_values.specs.Behind.{is_behind, Skips}
+use Rattle.sk_values.specs.declared.span.Span.{Span}
+use Rattle.sk_values.specs.declared.edge.Spans.{Spans}
+use Rattle.sk_values.specs.Behind.{is_behind, Skips, greatest_in, in_span, AreSpans}
 use Rattle.sk_values.proofs.NumberLaws.{least-number, greatest-number}
 use Rattle.sk_values.proofs.RangeLaws.{in_range-here, in_range-past}
 use Rattle.sk_values.proofs.CursorLemmas.{place_before, here, next_place, ended}
@@ -24,6 +27,28 @@ above_behind last n v w is number lt = ap not (greatest-number last v is n w num
 
 pub below_behind : (last n : ℕ) (v w : List ℕ) → IsNumber last v → IsNumber n w → n < last → is_behind true v w ≡ true
 below_behind last n v w is number lt = ap not (least-number last v is n w number ∙ lt-leb last n lt)
+
+-- ---- spans of numbers
+
+-- both ends of a span
+span_ends : (s : Span) (n : ℕ) → in_span s n ≡ true → (s.least ≤ n) × (n ≤ greatest_in s)
+span_ends s n is = (grind (arith, nat_tests, is), grind (arith, nat_tests, is))
+
+module _ (number : ℕ) (reverse : Bool) (lo hi : Option (List ℕ)) (s : Spans) (are : AreSpans number reverse lo hi s) (n : ℕ) where
+  -- what is wanted lies in the range
+  pub wanted_within : in_span s.wanted n ≡ true → in_span s.range n ≡ true
+  wanted_within wanted = let ends = span_ends s.wanted n wanted in grind (arith, nat_tests, ends.0, ends.1, are.from, are.to)
+
+  -- what lies in the range and is not wanted comes behind the edge
+  pub unwanted_behind : in_span s.range n ≡ true → in_span s.wanted n ≡ false → (last v : List ℕ) → IsNumber number last → IsNumber n v → is_behind reverse last v ≡ true
+  unwanted_behind within unwanted last v edge is = by (nat_lt n s.wanted.least) refl
+    where
+      ends : (s.range.least ≤ n) × (n ≤ greatest_in s.range)
+      ends = span_ends s.range n within
+
+      by : (b : Bool) → nat_lt n s.wanted.least ≡ b → is_behind reverse last v ≡ true
+      by true lt = let so = are.below n ends.0 (ltb-true n s.wanted.least lt) in subst (λ b. is_behind b last v ≡ true) (sym so.0) (below_behind number n last v edge is so.1)
+      by false lt = let so = are.above n ends.1 (grind (arith, nat_tests, lt, unwanted)) in subst (λ b. is_behind b last v ≡ true) (sym so.0) (above_behind number n last v edge is so.1)
 
 -- ---- what was passed over
 
@@ -117,9 +142,3 @@ module _ (reverse : Bool) (last : List ℕ) (lo hi : Option (List ℕ)) (runs : 
 pub at_most_one : (b : Bool) (n : ℕ) → n ≡ (if b then 1 else 0) → n ≤ 1
 at_most_one true n e = omega (arith, e)
 at_most_one false n e = omega (arith, e)
-
--- what lies in the range and does not stop the walk comes before it
-pub not_stopped : (is_in before : Bool) → is_in ≡ true → (is_in && not before) ≡ false → before ≡ true
-not_stopped true true e f = refl
-not_stopped true false e f = absurd (true≢false f)
-not_stopped false before e f = absurd (true≢false (sym e))

@@ -1,9 +1,12 @@
 -- What a cursor passes over that wants no value behind one.
-use Rattle.std.specs.Prelude.{◌≡◌, ◌∷◌, ◌++◌, ℕ, Bool, true, not, List, length, if◌then◌else◌}
+use Rattle.std.specs.Prelude.{◌≡◌, ◌<◌, ◌≤◌, ◌+◌, ◌^◌, ◌&&◌, ◌∷◌, ◌++◌, ℕ, nat_le, Bool, true, false, not, List, length, Option, if◌then◌else◌}
 use Rattle.std.specs.List.{AllByRecursion}
 use Rattle.std.specs.Ordering.{nat_cmp, is_le}
 use Rattle.std.specs.Cmp.Lexicographic.{slice_cmp}
 use Rattle.sk_values.specs.SlotValues.{SlotValues}
+use Rattle.sk_values.specs.Numbers.{IsLeast, IsGreatest}
+use Rattle.sk_values.specs.declared.span.Span.{Span}
+use Rattle.sk_values.specs.declared.edge.Spans.{Spans}
 
 -- Whether a value comes behind another in the order of values: above it, and in reverse below it.
 abbrev pub is_behind : Bool → List ℕ → List ℕ → Bool
@@ -22,3 +25,21 @@ pub record SkipsOn (reverse : Bool) (last : List ℕ) (count : ℕ) (old new : S
   pub rest : SlotValues
   pub is : old ≡ first ∷ rest
   pub skips : Skips reverse last count rest new
+
+-- The greatest number of a span.
+abbrev pub greatest_in : Span → ℕ
+greatest_in s = s.least + s.width
+
+-- Whether the number lies in the span.
+abbrev pub in_span : Span → ℕ → Bool
+in_span s n = nat_le s.least n && nat_le n (greatest_in s)
+
+-- The range has these numbers, and those of them that are not wanted come behind the edge.
+pub record AreSpans (number : ℕ) (reverse : Bool) (lo hi : Option (List ℕ)) (s : Spans) : Type 0 where
+  pub least : IsLeast lo s.range.least
+  pub greatest : IsGreatest hi (greatest_in s.range)
+  pub fits : greatest_in s.range < 2 ^ 64
+  pub from : s.range.least ≤ s.wanted.least
+  pub to : greatest_in s.wanted ≤ greatest_in s.range
+  pub below : (n : ℕ) → s.range.least ≤ n → n < s.wanted.least → (reverse ≡ true) × (n < number)
+  pub above : (n : ℕ) → n ≤ greatest_in s.range → greatest_in s.wanted < n → (reverse ≡ false) × (number < n)

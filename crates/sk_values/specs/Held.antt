@@ -6,9 +6,9 @@ use Rattle.sk_values.specs.declared.value.Held.TheVariants.{Short, Long}
 -- The bytes that are kept: of a short value those that its length takes.
 abbrev pub held_bytes : Held → List ℕ
 held_bytes (Short bytes length) = take length bytes
-held_bytes (Long bytes) = bytes
+held_bytes (Long boxed) = boxed.value
 
 -- A short value has eight bytes at most.
 abbrev pub IsHeld : Held → Type 0
 IsHeld (Short bytes length) = length ≤ 8
-IsHeld (Long bytes) = Unit {0}
+IsHeld (Long boxed) = Unit {0}

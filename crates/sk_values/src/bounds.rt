@@ -40,6 +40,13 @@ impl Bounds {
         Bounds { lo, hi, numbers }
     }
 
+    /// The least number in the range and the greatest, where each end is open or a number.
+    pub fn numbers(&self) -> Option<(u64, u64)>
+        ensures { IfSome result (λ n. IsLeast self.now.lo n.0 × IsGreatest self.now.hi n.1) }
+    {
+        self.numbers
+    }
+
     /// Whether there is a value, and it lies between the two ends. Where each end is open or a number, a number takes two
     /// compares.
     #[inline]

@@ -1,9 +1,12 @@
 //! The last number that is wanted in an order of values.
-ghost use Rattle.std.specs.Prelude.{◌≡◌, ℕ, List, true, IfSome};
-ghost use Rattle.sk_values.specs.Behind.{is_behind};
+ghost use Rattle.std.specs.Prelude.{◌≡◌, ◌≢◌, ℕ, List, length, true, false, IfSome, IfNone};
+ghost use Rattle.sk_model.specs.Ranges.{is_within};
+ghost use Rattle.sk_values.specs.Behind.{is_behind, AreSpans};
 ghost use Rattle.sk_values.specs.Numbers.{IsNumber};
 
+use crate::bounds::Bounds;
 use crate::range::number_of;
+use crate::span::Span;
 use crate::value::Value;
 
 /// A number, and whether the lesser ones come behind it and not the greater.
@@ -13,10 +16,18 @@ pub(crate) struct Edge {
     reverse: bool,
 }
 
+/// The numbers in a range, and those of them that do not come behind an edge.
+#[derive(Clone, Copy)]
+pub(crate) struct Spans {
+    range: Span,
+    wanted: Span,
+}
+
 impl Edge {
     /// None where the value is no number.
     pub fn new(last: &[u8], reverse: bool) -> Option<Edge>
-        ensures { IfSome result (λ e. IsNumber e.number last.now × (e.reverse ≡ reverse)) }
+        ensures edge { IfSome result (λ e. IsNumber e.number last.now × (e.reverse ≡ reverse)) }
+        ensures none { IfNone result (length last.now ≢ 8) }
     {
         let number = number_of(last)?;
         Some(Edge { number, reverse })
@@ -34,6 +45,42 @@ impl Edge {
                 self.number < number
             },
             None => false,
+        }
+    }
+    /// None where an end of the range is neither open nor a number, or all numbers in it come behind the edge.
+    pub fn spans(&self, bounds: &Bounds) -> Option<Spans>
+        ensures { IfSome result (λ s. AreSpans self.now.number self.now.reverse bounds.now.lo bounds.now.hi s) }
+    {
+        let (least, greatest) = bounds.numbers()?;
+        let range = Span::new(least, greatest)?;
+        let wanted = if self.reverse {
+            Span::new(least.max(self.number), greatest)?
+        } else {
+            Span::new(least, greatest.min(self.number))?
+        };
+        Some(Spans { range, wanted })
+    }
+}
+
+/// Whether a value lies in the range, and whether it does and is not told to come behind the edge.
+#[inline]
+pub(crate) fn sift(
+    value: &Value,
+    bounds: &Bounds,
+    edge: &Edge,
+    spans: &Option<Spans>,
+) -> (bool, bool)
+    requires { IfSome spans.now (λ s. AreSpans edge.now.number edge.now.reverse bounds.now.lo bounds.now.hi s) }
+    ensures within { result.0 ≡ is_within bounds.now.lo bounds.now.hi value.now }
+    ensures wanted { result.1 ≡ true → result.0 ≡ true }
+    ensures behind { result.0 ≡ true → result.1 ≡ false
+        → (last : List ℕ) → IsNumber edge.now.number last → is_behind edge.now.reverse last value.now ≡ true }
+{
+    match (spans, value.number()) {
+        (Some(spans), Some(n)) => (spans.range.has(n), spans.wanted.has(n)),
+        _ => {
+            let is_in = bounds.contains(value);
+            (is_in, is_in && !edge.is_before(value))
         }
     }
 }

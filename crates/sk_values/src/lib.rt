@@ -6,7 +6,9 @@ mod edge;
 mod range;
 mod range_cursor;
 mod slot_list;
+mod span;
 mod value;
 
 pub use range_cursor::RangeCursor;
 pub use slot_list::SlotList;
+pub use value::Value;

@@ -1,5 +1,5 @@
 //! Which values lie in a range.
-ghost use Rattle.std.specs.Prelude.{◌≡◌, length, IfSome};
+ghost use Rattle.std.specs.Prelude.{◌≡◌, ◌≢◌, length, IfSome, IfNone};
 ghost use Rattle.std.specs.Ordering.{nat_cmp, is_le};
 ghost use Rattle.std.specs.Cmp.Lexicographic.{slice_cmp};
 ghost use Rattle.std.specs.Slice.Scan.{big_endian};
@@ -54,7 +54,8 @@ fn is_at_most(a: &[u8], b: &[u8]) -> bool
 
 /// The number of eight bytes; none of fewer or more.
 pub(crate) fn number_of(bytes: &[u8]) -> Option<u64>
-    ensures { IfSome result (λ n. IsNumber n bytes.now) }
+    ensures number { IfSome result (λ n. IsNumber n bytes.now) }
+    ensures none { IfNone result (length bytes.now ≢ 8) }
 {
     if bytes.len() == 8 {
         Some(number(bytes))

@@ -1,5 +1,5 @@
 //! A place in a slot's list, which only moves on, and stops only at values in a range.
-ghost use Rattle.std.specs.Prelude.{◌≡◌, ◌+◌, ◌≤◌, ◌<◌, ℕ, List, true, length, drop, IfSome, IfNone};
+ghost use Rattle.std.specs.Prelude.{◌≡◌, ◌≢◌, ◌+◌, ◌≤◌, ◌<◌, ◌⊎◌, [], ℕ, List, true, length, drop, IfSome, IfNone};
 ghost use Rattle.sk_sorted.specs.Entries.{from, first_id};
 ghost use Rattle.sk_sorted.specs.Places.{id_at};
 ghost use Rattle.sk_sorted.specs.Runs.{flat};
@@ -10,7 +10,7 @@ ghost use Rattle.sk_values.specs.RangeCursor.{in_range, unread, ahead, left, IsH
 
 use crate::SlotList;
 use crate::bounds::Bounds;
-use crate::edge::Edge;
+use crate::edge::{Edge, sift};
 use crate::value::Value;
 use sk_base::{Bytes, DocId};
 use sk_pieces::Piece;
@@ -106,6 +106,7 @@ impl RangeCursor {
         requires on { IsOn self.old list.now }
         ensures on { IsOn self.new list.now }
         ensures none { IfNone result (self.new ≡ self.old) }
+        ensures when { IfNone result ((left self.old (flat list.now) ≡ []) ⊎ (length last.now ≢ 8)) }
         ensures some { IfSome result (λ count. SkipsOn reverse last.now count (left self.old (flat list.now)) (left self.new (flat list.now))) }
 
         // What it came past it has read once.
@@ -294,15 +295,15 @@ fn skip_in<L: Ledger>(
     ensures few { place + result.2 ≤ result.0 }
     ensures cost { steps.new + place ≡ steps.old + result.0 }
 {
+    let spans = edge.spans(bounds);
     let end = piece.count();
     let mut read = place;
     let mut count = 0u32;
     'entries: while read < end {
         let (id, value) = entry(piece, read, steps);
         read += 1;
-        // `&`, and not `&&`: values in the range and others come in any order, so a branch would often be guessed wrong.
-        let is_in = bounds.contains(value);
-        if is_in & !edge.is_before(value) {
+        let (is_in, is_wanted) = sift(value, bounds, edge, &spans);
+        if is_wanted {
             return (read, Some(id), count);
         }
         count += u32::from(is_in);

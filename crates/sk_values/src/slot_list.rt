@@ -8,7 +8,7 @@ ghost use Rattle.sk_values.specs.SlotValues.{AreSlotValues, found_value, value_a
 
 use crate::range_cursor::entry;
 use crate::value::Value;
-use sk_base::{Bytes, DocId};
+use sk_base::DocId;
 use sk_pieces::{Copier, Piece, Pieces};
 use sk_steps::Steps;
 use std::alloc::{AllocError, Global};
@@ -53,14 +53,13 @@ impl SlotList {
     }
 
     /// Gives the document this value. Only a new entry takes memory, and only entries of a few pieces move.
-    pub fn set(&mut self, id: DocId, value: Bytes) -> Result<(), AllocError>
+    pub fn set(&mut self, id: DocId, value: Value) -> Result<(), AllocError>
         requires begun { 1 ≤ id }
         requires some { 1 ≤ length value }
         ensures ok { OnOk result (flat self.new ≡ put id value (flat self.old)) }
         ensures err { OnErr result (self.new ≡ self.old) }
         ensures succeeds { has id (flat self.old) ≡ true → IsOk result }
     {
-        let value = Value::new(value);
         self.entries.put(id, value)
     }
 

@@ -11,20 +11,21 @@ use std::mem;
 const SHORT: usize = 8;
 
 /// An entry of a list is small.
-const _: () = prove!(mem::size_of::<(DocId, Value)>() <= 40);
+const _: () = prove!(mem::size_of::<(DocId, Value)>() <= 24);
 
-/// A value. Contracts see it as the list of its bytes, wherever they stand.
+/// A value, made ready to be put into a list. Contracts see it as the list of its bytes, wherever they stand.
 #[derive(Drop)]
-pub(crate) struct Value {
+pub struct Value {
     held: Held,
 }
 
-/// Up to eight bytes stand here, so that who reads an entry reads no other memory; more have memory of their own.
+/// Up to eight bytes stand here, so that who reads an entry reads no other memory; more have memory of their own, behind a
+/// box, so that they make no entry longer.
 #[derive(Drop)]
 enum Held {
     /// The first `length` of `bytes`. The others say nothing.
     Short { bytes: [u8; SHORT], length: u8 },
-    Long(Bytes),
+    Long(Box<Bytes>),
 }
 
 impl Model for Value {
@@ -40,26 +41,26 @@ impl Model for Value {
 }
 
 impl Value {
-    /// A value of these bytes. It takes no memory.
-    pub fn new(value: Bytes) -> Value
-        ensures { result ≡ value }
+    /// A value of these bytes. Only more than eight take memory.
+    pub fn new(alloc: Global, value: Bytes) -> Result<Value, AllocError>
+        ensures { IfOk result (λ kept. kept ≡ value) }
     {
         let given = value.as_slice();
         if given.len() > SHORT {
-            return Value {
-                held: Held::Long(value),
-            };
+            return Ok(Value {
+                held: Held::Long(Box::new(alloc, value)?),
+            });
         }
         let mut bytes = [0; SHORT];
         bytes[..given.len()].copy_from_slice(given);
         let length = given.len() as u8;
-        Value {
+        Ok(Value {
             held: Held::Short { bytes, length },
-        }
+        })
     }
 
     /// The same bytes. Only those that do not stand in the value take memory.
-    pub fn copy(&self, alloc: Global) -> Result<Value, AllocError>
+    pub(crate) fn copy(&self, alloc: Global) -> Result<Value, AllocError>
         ensures { IfOk result (λ copy. copy ≡ self.now) }
     {
         match &self.held {
@@ -69,12 +70,12 @@ impl Value {
                     length: *length,
                 },
             }),
-            Held::Long(bytes) => Ok(Value::new(Bytes::new(alloc, bytes.as_slice())?)),
+            Held::Long(bytes) => Value::new(alloc, Bytes::new(alloc, bytes.as_slice())?),
         }
     }
 
     #[inline]
-    pub fn as_slice(&self) -> &[u8]
+    pub(crate) fn as_slice(&self) -> &[u8]
         ensures { result.now ≡ self.now }
     {
         match &self.held {
@@ -85,7 +86,7 @@ impl Value {
 
     /// The number of eight bytes, the highest of them first; none of fewer or more.
     #[inline]
-    pub fn number(&self) -> Option<u64>
+    pub(crate) fn number(&self) -> Option<u64>
         ensures { IfSome result (λ n. IsNumber n self.now) }
     {
         match &self.held {

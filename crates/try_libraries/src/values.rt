@@ -3,7 +3,7 @@ ghost use Rattle.std.specs.Prelude.{◌≡◌};
 
 use sk_base::{Bytes, DocId};
 use sk_steps::Steps;
-use sk_values::{RangeCursor, SlotList};
+use sk_values::{RangeCursor, SlotList, Value};
 use std::marker::Brand;
 use std::rt::Env;
 use std::sync::ledger::{Blank, Ledger};
@@ -58,7 +58,7 @@ fn each_call_succeeds_with_memory(rt: HostRuntime) -> Result<(), Fail> {
     for (id, value) in [(4294967295, "z"), (1, "a"), (1, "b")] {
         let value = Bytes::new(rt.alloc(), value.as_bytes())?;
         assert!(rt; !value.as_slice().is_empty());
-        list.set(id, value)?;
+        list.set(id, Value::new(rt.alloc(), value)?)?;
     }
     assert_eq!(rt;
         read_one::<_, Brand>(&rt, Blank::new(1), &list, 1),
@@ -80,11 +80,11 @@ fn a_list_of_many_pieces(rt: HostRuntime) -> Result<(), Fail> {
     for i in 0..300u32 {
         let value = Bytes::new(rt.alloc(), b"v")?;
         assert!(rt; !value.as_slice().is_empty());
-        list.set(2 * i + 1, value)?;
+        list.set(2 * i + 1, Value::new(rt.alloc(), value)?)?;
     }
     let value = Bytes::new(rt.alloc(), b"w")?;
     assert!(rt; !value.as_slice().is_empty());
-    list.set(100, value)?;
+    list.set(100, Value::new(rt.alloc(), value)?)?;
     assert_eq!(rt;
         read_one::<_, Brand>(&rt, Blank::new(1), &list, 100),
         b"w".as_slice()

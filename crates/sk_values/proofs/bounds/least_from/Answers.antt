@@ -4,4 +4,4 @@ use Rattle.sk_values.proofs.NumberLaws.{least-if}
 use Rattle.sk_values.proofs.bounds.least_from.Goals as goal
 
 pub returns-in-Some : goal.returns-in-Some
-returns-in-Some c = rw c.in-Some.is (least-if c.number_of.result _ (subst (λ (v : List _). IfSome c.number_of.result (λ n. IsNumber n v)) c.as_slice.ensures c.number_of.ensures))
+returns-in-Some c = rw c.in-Some.is (least-if c.number_of.result _ (subst (λ (v : List _). IfSome c.number_of.result (λ n. IsNumber n v)) c.as_slice.ensures c.number_of.ensures.number))

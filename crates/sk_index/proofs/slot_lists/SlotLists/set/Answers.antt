@@ -26,7 +26,7 @@ invariant_of-self-in-None c =
 pub returns-in_ok-set-in-Some-clause-sets : goal.returns-in_ok-set-in-Some-clause-sets
 returns-in_ok-set-in-Some-clause-sets c =
     let at = ap (position (λ (one : SlotEntry). one.slot == c.args.slot)) c.self.view_is ∙ sym c.place_of.ensures.value ∙ c.in-Some.is in
-    λ s. set_at (put c.args.id c.args.value) c.args.slot c.self.inside.slots.items c.in-Some.at c.index_mut.result.now c.set.new.self at c.index_mut.ensures.value c.in_ok-set-in-Some.ensures.ok s
+    λ s. set_at (put c.args.id c.args.value) c.args.slot c.self.inside.slots.items c.in-Some.at c.index_mut.result.now c.set.new.self at c.index_mut.ensures.value (c.in_ok-set-in-Some.ensures.ok ∙ ap (λ v. put c.args.id v (flat c.index_mut.result.now.list)) c.in_ok-value.ensures) s
     ∙ ap (λ (l : List SlotEntry). if c.args.slot == s then put c.args.id c.args.value (slot_list s l) else slot_list s l) c.self.view_is
 
 pub returns-in_ok-set-in-Some-clause-rise : goal.returns-in_ok-set-in-Some-clause-rise
@@ -36,7 +36,7 @@ pub returns-in_ok-insert-in-None-clause-sets : goal.returns-in_ok-insert-in-None
 returns-in_ok-insert-in-None-clause-sets c =
     let slots = c.self.inside.slots.items in
     let none = none_from c.args.slot slots (ap (position (λ (one : SlotEntry). one.slot == c.args.slot)) c.self.view_is ∙ sym c.place_of.ensures.value ∙ c.in-None.is) in
-    let list = c.in_ok-set-in-None.ensures.ok ∙ ap (λ (rs : SlotRuns). put c.args.id c.args.value (flat rs)) c.new-list.ensures in
+    let list = c.in_ok-set-in-None.ensures.ok ∙ (λ k. put c.args.id (c.in_ok-value.ensures k) (flat (c.new-list.ensures k))) in
     λ s. ap (slot_list s) c.in_ok-insert-in-None.ensures.items
     ∙ slot_list-insert c.args.id c.args.value c.args.slot slots c.partition_point-at.result c.set-in-None.new.self list none s
     ∙ ap (λ (l : List SlotEntry). if c.args.slot == s then put c.args.id c.args.value (slot_list s l) else slot_list s l) c.self.view_is

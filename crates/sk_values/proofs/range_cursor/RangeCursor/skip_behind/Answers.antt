@@ -12,6 +12,6 @@ returns-clause-some g c = record {
   first = (c.in_ok-_head._head, value_at_place (flat c.args.list.now) (c.args.self.now.place.passed - 1));
   rest = _;
   is = head_split c.args.self.now.bounds.lo c.args.self.now.bounds.hi c.args.self.now.head c.args.self.now.place.passed c.in_ok-_head._head (flat c.args.list.now) c.requires.on.head (sym c.in_ok-_head.was);
-  skips = subst (λ b. Skips b c.args.last.now c.skip_from-head.result.2 (in_range c.args.self.now.bounds.lo c.args.self.now.bounds.hi (drop c.args.self.now.place.passed (flat c.args.list.now))) (in_range c.args.self.now.bounds.lo c.args.self.now.bounds.hi (ahead c.skip_from-head.result.1 c.skip_from-head.result.0.passed (flat c.args.list.now)))) c.in_ok-edge.ensures.1
-      (c.skip_from-head.ensures.skips c.args.last.now c.in_ok-edge.ensures.0);
+  skips = subst (λ b. Skips b c.args.last.now c.skip_from-head.result.2 (in_range c.args.self.now.bounds.lo c.args.self.now.bounds.hi (drop c.args.self.now.place.passed (flat c.args.list.now))) (in_range c.args.self.now.bounds.lo c.args.self.now.bounds.hi (ahead c.skip_from-head.result.1 c.skip_from-head.result.0.passed (flat c.args.list.now)))) c.in_ok-edge.ensures.edge.1
+      (c.skip_from-head.ensures.skips c.args.last.now c.in_ok-edge.ensures.edge.0);
 }

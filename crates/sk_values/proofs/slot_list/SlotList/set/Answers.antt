@@ -12,6 +12,4 @@ values_kept (Ok x) id value old new ok err some values = subst (λ (es : SlotVal
 values_kept (Err e) id value old new ok err some values = subst (λ (s : SlotRuns). HaveValues (flat s)) (sym err) values
 
 pub invariant_of-self : goal.invariant_of-self
-invariant_of-self c =
-    values_kept c.put.result c.args.id c.new-value.result c.self.inside.entries c.put.new.self c.put.ensures.ok c.put.ensures.err
-    (subst (λ (v : List ℕ). 1 ≤ length v) (sym c.new-value.ensures) c.requires.some) c.self.invariant
+invariant_of-self c = values_kept c.put.result c.args.id c.args.value c.self.inside.entries c.put.new.self c.put.ensures.ok c.put.ensures.err c.requires.some c.self.invariant
