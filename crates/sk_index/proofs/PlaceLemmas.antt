@@ -126,22 +126,22 @@ number-same dict m n different low high same = elim (cases_order m n) as (λ _. 
 
 -- the place that the number has, or one behind all terms
 pub positions_numbered : (dict : List (List ℕ)) (packed : List NumberedTerm) (n place : ℕ) → AllPairs (λ s t. s ≢ t) dict → AreKnown (length dict) packed → AreTerms (named_all dict packed) → n < length dict
-    → ((k : ℕ) → k < place → (numbered_at packed k).number ≢ n) → (place < length packed → (numbered_at packed place).number ≡ n)
+    → place ≤ length packed → (place ≡ length packed → (k : ℕ) → k < length packed → (numbered_at packed k).number ≢ n) → (place < length packed → (numbered_at packed place).number ≡ n)
     → positions_at_place packed place ≡ positions_of (term_at dict n) (named_all dict packed)
-positions_numbered dict packed n place different known rising there before found =
+positions_numbered dict packed n place different known rising there within none found =
     elim (cases_lt place (length packed)) as (λ _. positions_at_place packed place ≡ positions_of (term_at dict n) (named_all dict packed)) [
       | inl lt ↦
           let e : DocTerm = with_its_text dict (numbered_at packed place) in
           sym (positions_there (term_at dict n) (named_all dict packed) place e (named_at dict packed place e lt) rising (omega (arith, lt, size)) (ap (term_at dict) (found lt)))
-      | inr le ↦ positions-past packed place le ∙ sym (positions-none (term_at dict n) (named_all dict packed) (λ k d lt. other k d (omega (arith, lt, size)) (omega (arith, lt, size, le))))
+      | inr le ↦ positions-past packed place le ∙ sym (positions-none (term_at dict n) (named_all dict packed) (λ k d lt. other (omega (arith, within, le)) k d (omega (arith, lt, size))))
     ]
   where
     size : length (named_all dict packed) ≡ length packed
     size = length-map packed (with_its_text dict)
 
-    other : (k : ℕ) (d : DocTerm) → k < length packed → k < place → (get_or (named_all dict packed) k d).term ≡ term_at dict n → ⊥
-    other k d lt below same =
-        before k below (number-same dict (numbered_at packed k).number n different (known_at (length dict) packed k known lt) there (ap (λ (one : DocTerm). one.term) (named_at dict packed k d lt) ∙ same))
+    other : place ≡ length packed → (k : ℕ) (d : DocTerm) → k < length packed → (get_or (named_all dict packed) k d).term ≡ term_at dict n → ⊥
+    other end k d lt same =
+        none end k lt (number-same dict (numbered_at packed k).number n different (known_at (length dict) packed k known lt) there (ap (λ (one : DocTerm). one.term) (named_at dict packed k d lt) ∙ same))
 
 -- one number more was looked up
 pub looked_up : (f g : ℕ → List ℕ) (places numbers : List ℕ) (i place d : ℕ) → i < length places → i < length numbers → f place ≡ g (get_or numbers i d) → map f (take i places) ≡ map g (take i numbers)

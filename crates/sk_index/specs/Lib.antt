@@ -1,3 +1,4 @@
+pub mod Apart
 pub mod Indexed
 pub mod Listed
 pub mod Packed

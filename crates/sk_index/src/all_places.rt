@@ -1,12 +1,14 @@
 //! Where several terms stand in one document.
-ghost use Rattle.std.specs.Prelude.{◌≡◌, ◌≤◌, ◌<◌, ◌+◌, [], length, map, take, All, slice_index_or};
+ghost use Rattle.std.specs.Prelude.{◌≡◌, ◌≤◌, ◌<◌, ◌+◌, ℕ, [], length, true, map, take, All, IfSome, None, slice_index, slice_index_or};
 ghost use Rattle.std.specs.List.{AllPairs};
 ghost use Rattle.sk_base.specs.Order.{ArePositions};
 ghost use Rattle.sk_base.specs.Documents.{AreTerms, positions_of};
 ghost use Rattle.sk_dict.specs.Terms.{term_at};
+ghost use Rattle.sk_index.specs.Apart.{AreApart};
 ghost use Rattle.sk_index.specs.Packed.{AreKnown, positions_at_place};
 ghost use Rattle.sk_index.specs.Unpacked.{named_all};
 
+use crate::apart::are_apart;
 use crate::packed_terms::PackedTerms;
 use crate::places::place_in;
 use crate::term_lists::TermLists;
@@ -49,11 +51,49 @@ impl<'a> AllPlaces<'a> {
         ensures value { result ≡ map (λ n. positions_of (term_at lists.now.terms n) (named_all lists.now.terms packed.now)) numbers.now }
         ensures cost { steps.new ≡ steps.old + length numbers.now }
     {
-        look_up(lists, packed, numbers, places, steps);
+        count_readings(numbers, steps);
+        look_up(lists, packed, numbers, numbers.len(), places);
         AllPlaces {
             packed,
             places: &places[..numbers.len()],
         }
+    }
+
+    /// The same; or nothing, where no position of the term behind the one at `at` stands behind one of that by less than the
+    /// width. Then no other term is looked up. It counts as one reading for each number all the same.
+    pub(crate) fn read_unless_apart<L: Ledger>(
+        lists: &TermLists,
+        packed: &'a PackedTerms,
+        numbers: &[usize],
+        at: usize,
+        width: u32,
+        places: &'a mut [u32],
+        steps: &mut Steps<L>,
+    ) -> Option<AllPlaces<'a>>
+        requires two { at + 1 < length numbers.now }
+        requires there { All (λ n. n < length lists.now.terms) numbers.now }
+        requires known { AreKnown (length lists.now.terms) packed.now }
+        requires rising { AreTerms (named_all lists.now.terms packed.now) }
+        requires room { length numbers.now ≤ length places.old }
+        ensures value { IfSome result (λ all. all ≡ map (λ n. positions_of (term_at lists.now.terms n) (named_all lists.now.terms packed.now)) numbers.now) }
+        ensures apart { result ≡ None → AreApart width (positions_of (term_at lists.now.terms (slice_index numbers.now at)) (named_all lists.now.terms packed.now)) (positions_of (term_at lists.now.terms (slice_index numbers.now (at + 1))) (named_all lists.now.terms packed.now)) }
+        ensures cost { steps.new ≡ steps.old + length numbers.now }
+    {
+        count_readings(numbers, steps);
+        let first = place_in(packed, lists, numbers[at], places[at] as usize);
+        let second = place_in(packed, lists, numbers[at + 1], places[at + 1] as usize);
+        places[at] = first;
+        places[at + 1] = second;
+        let first = packed.positions_at(first as usize);
+        let second = packed.positions_at(second as usize);
+        if are_apart(first, second, width) {
+            return None;
+        }
+        look_up(lists, packed, numbers, at, places);
+        Some(AllPlaces {
+            packed,
+            places: &places[..numbers.len()],
+        })
     }
 }
 
@@ -69,24 +109,56 @@ impl<'a> Operands for AllPlaces<'a> {
     }
 }
 
-/// Writes the place of each term with these numbers.
-fn look_up<L: Ledger>(
+/// Each number is a reading.
+fn count_readings<L: Ledger>(numbers: &[usize], steps: &mut Steps<L>)
+    ensures { steps.new ≡ steps.old + length numbers.now }
+{
+    'numbers: for _ in 0..numbers.len() {
+        steps.tick();
+    }
+}
+
+/// Writes the place of each term with these numbers, but for the two from the one at `known` on, if there are two, which
+/// stand there. Each is sought near the place that stands there, as that in the document before may.
+fn look_up(
     lists: &TermLists,
     packed: &PackedTerms,
     numbers: &[usize],
+    known: usize,
     places: &mut [u32],
-    steps: &mut Steps<L>,
 )
     requires there { All (λ n. n < length lists.now.terms) numbers.now }
     requires known { AreKnown (length lists.now.terms) packed.now }
     requires rising { AreTerms (named_all lists.now.terms packed.now) }
     requires room { length numbers.now ≤ length places.old }
-    ensures value { map (positions_at_place packed.now) (take (length numbers.now) places.new)
+    requires stand { (i : ℕ) → known ≤ i → i < known + 2 → i < length numbers.now → positions_at_place packed.now (slice_index places.old i)
+        ≡ positions_of (term_at lists.now.terms (slice_index numbers.now i)) (named_all lists.now.terms packed.now) }
+    ensures { map (positions_at_place packed.now) (take (length numbers.now) places.new)
         ≡ map (λ n. positions_of (term_at lists.now.terms n) (named_all lists.now.terms packed.now)) numbers.now }
-    ensures cost { steps.new ≡ steps.old + length numbers.now }
 {
-    'terms: for (i, number) in numbers.iter().enumerate() {
-        steps.tick();
-        places[i] = place_in(packed, lists, *number);
+    'terms: for i in 0..numbers.len() {
+        let stands = i >= known && i - known < 2;
+        places[i] = place_unless(packed, lists, numbers[i], places[i], stands);
+    }
+}
+
+/// The place of a term, which may stand there.
+fn place_unless(
+    packed: &PackedTerms,
+    lists: &TermLists,
+    number: usize,
+    place: u32,
+    stands: bool,
+) -> u32
+    requires there { number < length lists.now.terms }
+    requires known { AreKnown (length lists.now.terms) packed.now }
+    requires rising { AreTerms (named_all lists.now.terms packed.now) }
+    requires stands { stands ≡ true → positions_at_place packed.now place ≡ positions_of (term_at lists.now.terms number) (named_all lists.now.terms packed.now) }
+    ensures { positions_at_place packed.now result ≡ positions_of (term_at lists.now.terms number) (named_all lists.now.terms packed.now) }
+{
+    if stands {
+        place
+    } else {
+        place_in(packed, lists, number, place as usize)
     }
 }

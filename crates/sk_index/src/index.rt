@@ -1,5 +1,5 @@
 //! The index: the live documents, with a list for each term and each slot.
-ghost use Rattle.std.specs.Prelude.{◌≡◌, ◌<◌, ◌≤◌, ◌+◌, [], length, map, true, false, All, IfOk, MatchOption, IsSome, Some, None};
+ghost use Rattle.std.specs.Prelude.{◌≡◌, ◌<◌, ◌≤◌, ◌+◌, [], length, map, true, false, All, IfOk, IfSome, MatchOption, IsSome, Some, None, slice_index};
 ghost use Rattle.std.specs.List.{AllByRecursion};
 ghost use Rattle.std.specs.Option.{option_map};
 ghost use Rattle.sk_sorted.specs.Entries.{RiseAbove};
@@ -13,6 +13,7 @@ ghost use Rattle.sk_sorted.specs.Runs.{flat};
 ghost use Rattle.sk_model.specs.Documents.{keeps_slot, has_slot};
 ghost use Rattle.sk_model.specs.Edits.{nothing_live, edited, reply_to, document_at, IsLive};
 ghost use Rattle.sk_documents.specs.Documented.{HasTerms};
+ghost use Rattle.sk_index.specs.Apart.{AreApart};
 ghost use Rattle.sk_index.specs.Indexed.{Indexed, list_runs, pieces_in, postings, all_postings, slot_values, slot_value, term_positions, HavePositions, AreNumbered, AreAllWith};
 ghost use Rattle.sk_index.specs.Packed.{AreKnown};
 ghost use Rattle.sk_index.specs.Stands.{AreListsOf, AreSlotsOf};
@@ -201,6 +202,33 @@ impl Index {
         ensures cost { steps.new ≡ steps.old + length numbers.now }
     {
         AllPlaces::read(self.term_lists(), self.terms_of(id), numbers, places, steps)
+    }
+
+    /// The same; or nothing, where no position of the term behind the one at `at` stands behind one of that by less than the
+    /// width. Then no other term is looked up. It counts as one reading for each number all the same.
+    pub fn all_places_unless_apart<'a, L: Ledger>(
+        &'a self,
+        numbers: &[usize],
+        at: usize,
+        width: u32,
+        id: DocId,
+        places: &'a mut [u32],
+        steps: &mut Steps<L>,
+    ) -> Option<AllPlaces<'a>>
+        requires two { at + 1 < length numbers.now }
+        requires there { All (λ n. n < length self.now.terms) numbers.now }
+        requires room { length numbers.now ≤ length places.old }
+        ensures value { IfSome result (λ all. all
+            ≡ map (λ n. term_positions (term_at self.now.terms n) (document_at id self.now.live.documents)) numbers.now) }
+        ensures apart { result ≡ None → AreApart width
+            (term_positions (term_at self.now.terms (slice_index numbers.now at)) (document_at id self.now.live.documents))
+            (term_positions (term_at self.now.terms (slice_index numbers.now (at + 1))) (document_at id self.now.live.documents)) }
+        ensures cost { steps.new ≡ steps.old + length numbers.now }
+    {
+        let lists = self.term_lists();
+        let packed = self.terms_of(id);
+        let all = AllPlaces::read_unless_apart(lists, packed, numbers, at, width, places, steps)?;
+        Some(all)
     }
 
     /// The terms of the document, none where it is not live.

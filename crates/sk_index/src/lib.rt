@@ -2,6 +2,7 @@
 #![tactic(auto)]
 
 mod all_places;
+mod apart;
 mod index;
 mod lists;
 mod packed_terms;

@@ -59,8 +59,9 @@ pub(crate) fn positions_in<'a>(packed: &'a PackedTerms, lists: &TermLists, term:
 }
 
 /// Where the term with this number stands among the terms of a document; a place behind them all where it is none of
-/// them. Among few terms its number is compared with theirs one by one, among many its text by halves.
-pub(crate) fn place_in(packed: &PackedTerms, lists: &TermLists, number: usize) -> u32
+/// them. Among few terms its number is compared with theirs one by one, from a place on to both sides, among many its text
+/// by halves. The place may be any number; near by, as that in another document may be, the term is found sooner.
+pub(crate) fn place_in(packed: &PackedTerms, lists: &TermLists, number: usize, near: usize) -> u32
     requires there { number < length lists.now.terms }
     requires known { AreKnown (length lists.now.terms) packed.now }
     requires rising { AreTerms (named_all lists.now.terms packed.now) }
@@ -68,22 +69,33 @@ pub(crate) fn place_in(packed: &PackedTerms, lists: &TermLists, number: usize) -
 {
     let term = lists.term(number);
     if packed.len() <= FEW {
-        place_by_number(packed, number) as u32
+        place_by_number(packed, number, near) as u32
     } else {
         place_by_text(packed, lists, term) as u32
     }
 }
 
-/// The first place of the number, or the number of terms.
-fn place_by_number(packed: &PackedTerms, number: usize) -> usize
+/// A place of the number, sought from a place on to both sides, or the number of terms.
+fn place_by_number(packed: &PackedTerms, number: usize, near: usize) -> usize
     ensures within { result ≤ length packed.now }
-    ensures before { (k : ℕ) → k < result → (numbered_at packed.now k).number ≢ number }
+    ensures none { result ≡ length packed.now → (k : ℕ) → k < length packed.now → (numbered_at packed.now k).number ≢ number }
     ensures found { result < length packed.now → (numbered_at packed.now result).number ≡ number }
 {
     let count = packed.len();
-    'terms: for place in 0..count {
-        if packed.number(place) == number {
-            return place;
+    let mut low = near.min(count);
+    let mut high = low;
+    'around: while low > 0 || high < count {
+        if low > 0 {
+            low -= 1;
+            if packed.number(low) == number {
+                return low;
+            }
+        }
+        if high < count {
+            if packed.number(high) == number {
+                return high;
+            }
+            high += 1;
         }
     }
     count

@@ -7,6 +7,7 @@ pub mod RangeSkipLaws
 pub mod SumLaws
 pub mod ManyLaws
 pub mod RepeatLaws
+pub mod PhraseLaws
 pub mod ProximityLaws
 pub mod StopLaws
 pub mod OrManyLaws

@@ -1,5 +1,5 @@
 //! Terms that have to stand near, or as a phrase.
-ghost use Rattle.std.specs.Prelude.{◌≡◌, ◌≤◌, ◌<◌, ◌+◌, ◌^◌, true, false, max, length, Some, IfOk};
+ghost use Rattle.std.specs.Prelude.{◌≡◌, ◌≤◌, ◌<◌, ◌+◌, ◌-◌, ◌^◌, true, false, max, length, Some, None, IfOk, IfSome};
 ghost use Rattle.sk_model.specs.Combining.{where_so};
 ghost use Rattle.sk_model.specs.Positions.{is_near, is_phrase};
 ghost use Rattle.sk_nodes.specs.Accounts.{Spends};
@@ -11,11 +11,14 @@ use crate::repeats::{PlacesInRuns, each_once, run_ends};
 use crate::top::Top;
 use sk_base::{DocId, Weight};
 use sk_decay::Head;
-use sk_index::Index;
+use sk_index::{AllPlaces, Index};
 use sk_near::{near, phrase};
 use sk_steps::Steps;
 use std::alloc::{AllocError, Global};
 use std::sync::ledger::Ledger;
+
+/// A phrase is looked for by one of so many pairs of terms.
+const FEW_PAIRS: usize = 4;
 
 /// How terms have to stand.
 #[derive(Clone, Copy, Debug)]
@@ -161,7 +164,8 @@ fn stand_near<L: Ledger>(
     near(&places, window, marks)
 }
 
-/// Whether the terms stand as a phrase in the document, by their positions, which are read once.
+/// Whether the terms stand as a phrase in the document, by their positions, which are read once. In most documents two of
+/// them are too far apart, and those of the others are not looked up.
 fn stand_as_phrase<L: Ledger>(
     window: u32,
     numbers: &[usize],
@@ -181,6 +185,64 @@ fn stand_as_phrase<L: Ledger>(
     ensures value { result ≡ is_phrase window (positions_in index.now numbers.now id) }
     ensures cost { steps.new ≡ steps.old + length numbers.now }
 {
-    let places = index.all_places(numbers, id, places, steps);
+    let Some(places) = phrase_places(window, numbers, places, index, id, steps) else {
+        return false;
+    };
     phrase(&PlacesInRuns::new(places, ends), window, marks)
+}
+
+/// The places of the terms in the document; or nothing, where two of them, one behind the other, are too far apart for a
+/// phrase.
+fn phrase_places<'a, L: Ledger>(
+    window: u32,
+    numbers: &[usize],
+    places: &'a mut [u32],
+    index: &'a Index,
+    id: DocId,
+    steps: &mut Steps<L>,
+) -> Option<AllPlaces<'a>>
+    requires places { length numbers.now ≤ length places.old }
+    requires there { AreThere index.now numbers.now }
+    ensures value { IfSome result (λ all. all ≡ positions_in index.now numbers.now id) }
+    ensures fails { result ≡ None → is_phrase window (positions_in index.now numbers.now id) ≡ false }
+    ensures cost { steps.new ≡ steps.old + length numbers.now }
+{
+    if numbers.len() < 2 {
+        return Some(index.all_places(numbers, id, places, steps));
+    }
+    let at = rarest_pair(index, numbers);
+    let width = pair_width(window, numbers.len());
+    index.all_places_unless_apart(numbers, at, width, id, places, steps)
+}
+
+/// Of the first few terms, one that stands with the one behind it in few documents, going by how many have each.
+fn rarest_pair(index: &Index, numbers: &[usize]) -> usize
+    requires two { 2 ≤ length numbers.now }
+    requires there { AreThere index.now numbers.now }
+    ensures { result + 1 < length numbers.now }
+{
+    let mut rarest = 0;
+    let mut least = u64::MAX;
+    'pairs: for i in 0..(numbers.len() - 1).min(FEW_PAIRS) {
+        let first = index.list(numbers[i]).length();
+        let second = index.list(numbers[i + 1]).length();
+        let both = u64::from(first).saturating_mul(u64::from(second));
+        if both < least {
+            least = both;
+            rarest = i;
+        }
+    }
+    rarest
+}
+
+/// What is left of the window for two of so many terms, each of the others taking one place of it at least.
+fn pair_width(window: u32, terms: usize) -> u32
+    ensures { result ≡ window - (terms - 2) }
+{
+    let others = terms.saturating_sub(2);
+    if others < window as usize {
+        window - others as u32
+    } else {
+        0
+    }
 }

@@ -1,7 +1,14 @@
--- None of the terms that were passed has the number.
-use Rattle.std.proofs.Common.{ℕ, ◌<◌, ◌≢◌}
+-- None of the terms between has the number.
+use Rattle.std.proofs.Common.{ℕ, ◌<◌, ◌≤◌, ◌+◌, ◌-◌, ◌≢◌, length}
 use Rattle.sk_index.specs.Packed.{numbered_at}
 use Rattle.sk_index.proofs.places.place_by_number.Given as goal
 
-abbrev pub invariant-terms : goal.invariant-terms
-invariant-terms l = (k : ℕ) → k < l.place → (numbered_at l.packed k).number ≢ l.number
+abbrev pub invariant-around : goal.invariant-around
+invariant-around l = record {
+  order : l.low ≤ l.high;
+  within : l.high ≤ length l.packed;
+  between : (k : ℕ) → l.low ≤ k → k < l.high → (numbered_at l.packed k).number ≢ l.number;
+}
+
+abbrev pub decreases-around : goal.decreases-around
+decreases-around l = l.low + (length l.packed - l.high)
