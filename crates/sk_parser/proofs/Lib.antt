@@ -6,3 +6,4 @@ mod ChainLemmas
 mod TreeLemmas
 mod StackLemmas
 mod SoundLemmas
+mod UnsplitLemmas

@@ -1,5 +1,5 @@
 -- What the parts, units, groups and runs of the code stand for.
-use Rattle.std.specs.Prelude.{ℕ, Bool, List, map, reverse, Option, Some, None, Vec}
+use Rattle.std.specs.Prelude.{ℕ, ◌||◌, Bool, List, map, reverse, Option, Some, None, Vec}
 use Rattle.std.specs.declared.alloc.Global.{Global}
 use Rattle.sk_base.specs.declared.schema.FieldKind.{FieldKind}
 use Rattle.sk_query.specs.Trees.{Tree, range, query_view}
@@ -8,7 +8,8 @@ use Rattle.sk_grammar.specs.Parts.{chain, unit, chosen, empty, link, operator}
 use Rattle.sk_grammar.specs.Bounds.{halves}
 use Rattle.sk_grammar.specs.Parts.{Part as PartMeant, limit_in, slot_of}
 use Rattle.sk_grammar.specs.Runs.{Unit as UnitMeant, FilterGroup as GroupMeant, added}
-use Rattle.sk_grammar.specs.Meaning.{Run as RunMeant, is_or, is_xor}
+use Rattle.sk_grammar.specs.Faults.{is_not}
+use Rattle.sk_grammar.specs.Meaning.{Run as RunMeant, is_and, is_or, is_xor, is_operator}
 use Rattle.sk_parser.specs.declared.part.Part.{Part}
 use Rattle.sk_parser.specs.declared.unit.Unit.{Unit}
 use Rattle.sk_parser.specs.declared.group.Group.{Group}
@@ -48,6 +49,10 @@ run_view r = record { negative = r.negative; inside = parts_view (r.inside).item
 abbrev pub border_test : Border → Kind → Bool
 border_test Border.Or = is_or
 border_test Border.Xor = is_xor
+
+-- The part is an operator at which parts are split.
+abbrev pub splits : PartMeant → Bool
+splits p = is_operator is_or p || (is_operator is_xor p || (is_operator is_and p || is_operator is_not p))
 
 -- The range that a text says of a field of this kind.
 abbrev pub kind_range : FieldKind → List ℕ → Tree

@@ -2,7 +2,8 @@
 ghost use Rattle.std.specs.Prelude.{◌≡◌, [], ◌∷◌, ◌++◌, IfOk, OnOk, map};
 ghost use Rattle.sk_grammar.specs.Meaning.{is_and, is_or, is_xor, is_operator, split, runs, xor_runs};
 ghost use Rattle.sk_grammar.specs.Faults.{is_not};
-ghost use Rattle.sk_parser.specs.Views.{part_view, parts_view, run_view, run_of, border_test, segments_view};
+ghost use Rattle.std.specs.List.{list_any};
+ghost use Rattle.sk_parser.specs.Views.{part_view, parts_view, run_view, run_of, border_test, segments_view, splits};
 
 use crate::part::Part;
 use sk_grammar::Kind;
@@ -43,6 +44,20 @@ fn is_not(part: &Part) -> bool
     ensures { result ≡ is_operator is_not (part_view part.now) }
 {
     matches!(part, Part::Operator(Kind::Not))
+}
+
+/// Whether a part is an operator at which parts are split.
+fn splits(part: &Part) -> bool
+    ensures { result ≡ splits (part_view part.now) }
+{
+    is_at(Border::Or, part) || is_at(Border::Xor, part) || is_and(part) || is_not(part)
+}
+
+/// Whether some part is one.
+pub(crate) fn has_operator(parts: &[Part]) -> bool
+    ensures { result ≡ list_any (λ p. splits (part_view p)) parts.now }
+{
+    parts.iter().any(|part| splits(part))
 }
 
 /// What stands between the operators.

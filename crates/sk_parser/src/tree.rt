@@ -7,7 +7,7 @@ ghost use Rattle.sk_parser.specs.Views.{part_view, parts_view, parts_behind, run
 use crate::base::{all_of, run_tree};
 use crate::group::{joined, without};
 use crate::part::Part;
-use crate::split::{Border, Run, runs_in, split};
+use crate::split::{Border, Run, has_operator, runs_in, split};
 use sk_base::Join;
 use sk_query::{Form, Queries, Query};
 use std::alloc::{AllocError, Global};
@@ -66,6 +66,17 @@ fn xor_tree(alloc: Global, join: Join, parts: Vec<Part>) -> Result<Query, AllocE
 
 /// The query of parts.
 pub(crate) fn parts_tree(alloc: Global, join: Join, parts: Vec<Part>) -> Result<Query, AllocError>
+    ensures { IfOk result (λ q. query_view q ≡ parts_tree join (parts_view parts.items)) }
+{
+    if has_operator(parts.as_slice()) {
+        split_tree(alloc, join, parts)
+    } else {
+        run_tree(alloc, join, parts)
+    }
+}
+
+/// The same, by splitting.
+fn split_tree(alloc: Global, join: Join, parts: Vec<Part>) -> Result<Query, AllocError>
     ensures { IfOk result (λ q. query_view q ≡ parts_tree join (parts_view parts.items)) }
 {
     let segments = split(alloc, Border::Or, parts)?;

@@ -3,7 +3,7 @@ use Rattle.sk_query.specs.Trees.{query_view}
 use Rattle.sk_grammar.specs.Meaning.{xor_tree, split}
 use Rattle.sk_parser.specs.Views.{parts_view, segments_view, border_test}
 use Rattle.sk_parser.specs.declared.split.Border.TheVariants as Border
-use Rattle.sk_parser.proofs.tree.parts_tree.Given as goal
+use Rattle.sk_parser.proofs.tree.split_tree.Given as goal
 
 abbrev pub invariant-segments : goal.invariant-segments
 invariant-segments l =
