@@ -1,7 +1,7 @@
 -- The lines of hits, one by one, and a text as a JSON string.
 use Rattle.std.proofs.Common.{◌≡◌, ◌<◌, ◌+◌, ◌++◌, ◌∷◌, ℕ, List, [], drop, get_or, length, sym, ap, ◌∙◌, arith}
 use Rattle.std.proofs.lemmas.List.{append_assoc, append-nil, drop_more}
-use Rattle.std.specs.Prelude.{Result, Ok, Err, OnOk, codes, decimal}
+use Rattle.std.specs.Prelude.{Result, Ok, Err, OnOk, codes, decimal, is_ok, if◌then◌else◌}
 use Rattle.json.specs.Token.{Token, string}
 use Rattle.json.specs.Print.{quoted, print, print_from}
 use Rattle.sk_base.specs.declared.report.Ranked.{Ranked}
@@ -33,3 +33,20 @@ two_halves (Err x) old middle new first rest is half = tt
 pub one_string : (text items before : List ℕ) (written : List Token) → before ≡ [] → written ≡ string text ∷ [] → items ≡ before ++ print written → items ≡ quoted text
 unfolding print_from
 one_string text items before written none one is = is ∙ (λ i. none i ++ print (one i)) ∙ append-nil (quoted text)
+
+-- three names with their numbers, one behind another
+pub three_numbers : (old t1 t2 t3 a x b y c z : List ℕ) → t1 ≡ old ++ (a ++ x) → t2 ≡ t1 ++ (b ++ y) → t3 ≡ t2 ++ (c ++ z) → t3 ≡ old ++ (a ++ (x ++ (b ++ (y ++ (c ++ z)))))
+three_numbers old t1 t2 t3 a x b y c z e1 e2 e3 =
+    let seam : ((old ++ (a ++ x)) ++ (b ++ y)) ++ (c ++ z) ≡ old ++ (a ++ (x ++ (b ++ (y ++ (c ++ z))))) = simp append_assoc in
+    e3 ∙ ap (λ t. t ++ (c ++ z)) (e2 ∙ ap (λ t. t ++ (b ++ y)) e1) ∙ seam
+
+-- the last piece of a hit's line behind a number, and what stands before that
+pub hit_pieces : {E : Type 0} (result : Result (Unit {0}) E) (old t3 t4 t5 t6 new a x b y c z d w e p q f : List ℕ) → t3 ≡ old ++ (a ++ (x ++ (b ++ (y ++ (c ++ z)))))
+    → t4 ≡ t3 ++ (d ++ w) → t5 ≡ t4 ++ e → t6 ≡ t5 ++ p → p ≡ q → new ≡ (if is_ok result then t6 ++ f else t6)
+    → OnOk result (new ≡ old ++ (a ++ (x ++ (b ++ (y ++ (c ++ (z ++ (d ++ (w ++ (e ++ (q ++ f)))))))))))
+hit_pieces (Ok u) old t3 t4 t5 t6 new a x b y c z d w e p q f e3 e4 e5 e6 same last =
+    let seam : (((old ++ (a ++ (x ++ (b ++ (y ++ (c ++ z)))))) ++ (d ++ w)) ++ e) ++ (q ++ f) ≡ old ++ (a ++ (x ++ (b ++ (y ++ (c ++ (z ++ (d ++ (w ++ (e ++ (q ++ f)))))))))) = simp append_assoc in
+    let five = e5 ∙ ap (λ t. t ++ e) (e4 ∙ ap (λ t. t ++ (d ++ w)) e3) in
+    let six : t6 ≡ t5 ++ q = e6 ∙ ap (λ r. t5 ++ r) same in
+    last ∙ ap (λ t. t ++ f) six ∙ append_assoc t5 q f ∙ ap (λ t. t ++ (q ++ f)) five ∙ seam
+hit_pieces (Err u) old t3 t4 t5 t6 new a x b y c z d w e p q f e3 e4 e5 e6 same last = tt

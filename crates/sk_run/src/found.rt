@@ -3,6 +3,7 @@ ghost use Rattle.std.specs.Prelude.{◌≡◌, ◌++◌, ◌+◌, codes, decimal
 ghost use Rattle.json.specs.Print.{quoted};
 ghost use Rattle.sk_run.specs.Found.{found_line, found_rest, hit_line, found_text};
 
+use itoa::Buffer;
 use json::Writer;
 use sk_base::{Ranked, Report};
 use std::alloc::{AllocError, Global};
@@ -30,9 +31,9 @@ fn push_found_line(text: &mut String, report: &Report) -> Result<(), AllocError>
     ensures { OnOk result (string_bytes text.new ≡ string_bytes text.old ++ found_line report.now) }
 {
     let hits = report.hits.as_slice().len();
-    let lower = report.lower;
-    let estimate = report.estimate;
-    write!(text, "found hits={hits} lower={lower} estimate={estimate}")?;
+    push_number(text, "found hits=", hits as u128)?;
+    push_number(text, " lower=", report.lower as u128)?;
+    push_number(text, " estimate=", report.estimate as u128)?;
     push_found_rest(text, report)
 }
 
@@ -40,10 +41,10 @@ fn push_found_line(text: &mut String, report: &Report) -> Result<(), AllocError>
 fn push_found_rest(text: &mut String, report: &Report) -> Result<(), AllocError>
     ensures { OnOk result (string_bytes text.new ≡ string_bytes text.old ++ found_rest report.now) }
 {
-    let upper = report.upper;
-    let greatest = report.greatest;
-    let steps = report.steps;
-    write!(text, " upper={upper} max={greatest} steps={steps}\n")
+    push_number(text, " upper=", report.upper as u128)?;
+    push_number(text, " max=", report.greatest)?;
+    push_number(text, " steps=", report.steps)?;
+    text.push_str("\n")
 }
 
 /// Writes the line of a hit behind the text. `payload` is its own in JSON.
@@ -56,13 +57,23 @@ fn push_hit_line(
     requires { payload.now ≡ quoted hit.now.payload }
     ensures { OnOk result (string_bytes text.new ≡ string_bytes text.old ++ hit_line rank hit.now) }
 {
-    let id = hit.id;
     let weight = hit.weight;
-    let collapsed = hit.collapsed;
-    write!(
-        text,
-        "hit rank={rank} id={id} weight={weight} collapsed={collapsed} data={payload}\n"
-    )
+    push_number(text, "hit rank=", rank as u128)?;
+    push_number(text, " id=", hit.id as u128)?;
+    push_number(text, " weight=", weight)?;
+    push_number(text, " collapsed=", hit.collapsed as u128)?;
+    text.push_str(" data=")?;
+    text.push_str(payload)?;
+    text.push_str("\n")
+}
+
+/// Writes a name and a number behind the text.
+fn push_number(text: &mut String, name: &str, n: u128) -> Result<(), AllocError>
+    ensures { OnOk result (string_bytes text.new ≡ string_bytes text.old ++ (name.now ++ decimal n)) }
+{
+    text.push_str(name)?;
+    let mut buffer = Buffer::new();
+    text.push_str(buffer.format(n))
 }
 
 /// The text as a JSON string.
@@ -76,6 +87,12 @@ pub(crate) fn json_string(alloc: Global, text: &str) -> Result<String, AllocErro
 fn json_string_in(room: String, text: &str) -> Result<String, AllocError>
     ensures { IfOk result (λ s. string_bytes s ≡ quoted text.now) }
 {
+    if text.is_empty() {
+        let mut room = room;
+        room.clear();
+        room.push_str("\"\"")?;
+        return Ok(room);
+    }
     let mut bytes = room.into_bytes();
     bytes.clear();
     let mut writer = Writer::new(bytes);

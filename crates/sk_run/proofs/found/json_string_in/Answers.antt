@@ -7,5 +7,5 @@ pub returns : goal.returns
 returns c =
     ap (λ v. v.items) c.in-Ok.ensures.ok
     ∙ one_string c.args.text.now c.into_inner.result.items c.string.new.self.before c.string.new.self.tokens
-    (c.string.ensures.room.0 ∙ c.new-writer.ensures.before ∙ c.clear.ensures.items) (c.in_ok-string.ensures.ok ∙ ap (λ ts. ts ++ string c.args.text.now ∷ []) c.new-writer.ensures.tokens)
+    (c.string.ensures.room.0 ∙ c.new-writer.ensures.before ∙ c.clear-2.ensures.items) (c.in_ok-string.ensures.ok ∙ ap (λ ts. ts ++ string c.args.text.now ∷ []) c.new-writer.ensures.tokens)
     c.into_inner.ensures.items
