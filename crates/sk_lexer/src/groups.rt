@@ -18,7 +18,7 @@ use std::alloc::{AllocError, Global};
 pub(crate) fn string_of(alloc: Global, cs: &[char]) -> Result<String, AllocError>
     ensures { IfOk result (λ s. string_bytes s ≡ encode_utf8_all cs.now) }
 {
-    let mut text = String::new(alloc);
+    let mut text = String::with_capacity(alloc, cs.len())?;
     'cs: for c in cs {
         text.push(*c)?;
     }

@@ -180,7 +180,11 @@ fn tokens_in(alloc: Global, schema: &Schema, cs: &[char]) -> Result<Tokens, Allo
 fn chars_of(alloc: Global, text: &str) -> Result<Vec<char>, AllocError>
     ensures { IfOk result (λ cs. cs.items ≡ chars text.now) }
 {
-    text.chars().collect(alloc)
+    let mut cs = Vec::with_capacity(alloc, text.len())?;
+    'text: for c in text.chars() {
+        cs.push(c)?;
+    }
+    Ok(cs)
 }
 
 /// The tokens of the one cutting of `text` under `schema`. The text is walked over once.

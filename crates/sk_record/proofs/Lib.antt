@@ -5,6 +5,7 @@ mod ByteLemmas
 mod TakenLemmas
 mod EntryLemmas
 mod ShapeLemmas
+mod AloneLemmas
 mod CommandLemmas
 mod ExampleLines
 mod SchemaExamples

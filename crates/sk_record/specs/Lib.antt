@@ -3,6 +3,7 @@ pub mod Shapes
 pub mod SchemaFields
 pub mod Options
 pub mod Rows
+pub mod Alone
 pub mod Shown
 pub mod Taken
 pub mod FieldRules

@@ -1,13 +1,50 @@
 //! The rows of finds: their query and their options.
 ghost use Rattle.std.specs.Prelude.{◌≡◌, option_map};
-ghost use Rattle.serde_json.specs.View.{view};
+ghost use Rattle.serde_json.specs.View.{view, members_view};
+ghost use Rattle.sk_record.specs.Alone.{is_only, is_alone, plain_find};
 ghost use Rattle.sk_record.specs.Options.{query_at, join_named, join_at, cutoff_at, falling_named, falling_at, scheme_named, scheme_at, page_at, check_at, relevance_at, by_field_at, sorted_named, sorted_at, not_collapsed, collapsed_on, collapsed_at, options_at, wanted_at, find_row, tree_row};
 ghost use Rattle.sk_record.specs.Shown.{ask_shown, sorted_shown, collapsed_shown, wanted_shown};
 
 use crate::row::{AskRow, CollapseRow, FindRow, OrderRow, Sort};
-use serde_json::Value;
+use serde_json::{Map, Value};
 use sk_base::{Join, MOST_HITS, MOST_TEXT, Options, Scheme, Weight, default_options};
 use sk_json::{between, has, has_only, optional_flag, optional_number, text_at};
+
+/// Whether the line is an object with this member and no other.
+pub fn is_alone(line: &Value, name: &str) -> bool
+    ensures { result ≡ is_alone name.now (view line.now) }
+{
+    match line {
+        Value::Object(members) => is_only(members, name),
+        _ => false,
+    }
+}
+
+fn is_only(members: &Map<String, Value>, name: &str) -> bool
+    ensures { result ≡ is_only name.now (members_view members.now.entries) }
+{
+    if members.len() != 1 {
+        return false;
+    }
+    match members.first_key_value() {
+        Some((only, _)) => only.as_str() == name,
+        None => false,
+    }
+}
+
+/// A find by the text at a member, of which nothing else is said.
+pub fn plain_find<'a>(line: &'a Value, name: &str) -> Option<FindRow<'a>>
+    ensures { option_map wanted_shown result ≡ option_map plain_find (query_at name.now (view line.entry.now)) }
+{
+    let text = query_at(line, name)?;
+    Some(FindRow {
+        ask: AskRow::Text(text, Join::Or),
+        options: default_options(),
+        order: OrderRow::Relevance,
+        falling: false,
+        collapse: None,
+    })
+}
 
 /// A find by the text at a member.
 pub fn find_row<'a>(line: &'a Value, name: &str) -> Option<FindRow<'a>>

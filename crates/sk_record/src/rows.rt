@@ -6,7 +6,7 @@ ghost use Rattle.sk_record.specs.Rows.{values_object, given_at, id_member, pair_
 ghost use Rattle.sk_record.specs.Shown.{pair_shown, given_shown, counted_shown, flight_shown, shape_shown};
 ghost use Rattle.sk_record.specs.Taken.{without_member};
 
-use crate::options::{find_row, join_at, query_at, tree_row};
+use crate::options::{find_row, is_alone, join_at, plain_find, query_at, tree_row};
 use crate::row::{FacetRow, FlightRow, RecordRow, Row, TextRow};
 use crate::taken::{take_member, text_of};
 use serde_json::Value;
@@ -23,7 +23,11 @@ const MOST_TURNS: u32 = 100_000;
 pub fn later_row(alloc: Global, line: &mut Value) -> Option<Row<'_>>
     ensures { option_map shape_shown result ≡ later_shape (view line.old) }
 {
-    if has(line, "add") {
+    if is_alone(line, "find") {
+        // Most finds say nothing else, so no other member is sought.
+        let find = plain_find(line, "find")?;
+        Some(Row::Find(find))
+    } else if has(line, "add") {
         add_row(alloc, line)
     } else if has(line, "replace") {
         replace_row(alloc, line)
