@@ -34,11 +34,12 @@ fn text_piece(alloc: Global, field: usize, cs: &[char]) -> Result<Option<Cut>, A
     }
 }
 
-/// The run at the front as a text.
-fn run_text(alloc: Global, cs: &[char]) -> Result<Text, AllocError>
-    ensures { IfOk result (λ text. text ≡ encode_utf8_all (take (run_len cs.now) cs.now)) }
+/// The first so many characters as a text.
+fn front_text(alloc: Global, cs: &[char], n: usize) -> Result<Text, AllocError>
+    requires { n ≤ length cs.now }
+    ensures { IfOk result (λ text. text ≡ encode_utf8_all (take n cs.now)) }
 {
-    Ok(Text::from_string(string_of(alloc, &cs[..run_len(cs)])?))
+    Ok(Text::from_string(string_of(alloc, &cs[..n])?))
 }
 
 /// Behind the colon of a filter.
@@ -57,7 +58,9 @@ fn filter_piece(alloc: Global, field: usize, cs: &[char]) -> Result<Option<Cut>,
     if !runs_on(*c) {
         return Ok(None);
     }
-    Ok(Some(Cut::token(Kind::Filter(field, run_text(alloc, cs)?), run_len(cs))))
+    let size = run_len(cs);
+    let text = front_text(alloc, cs, size)?;
+    Ok(Some(Cut::token(Kind::Filter(field, text), size)))
 }
 
 /// Behind the colon of a number or of a word.
@@ -70,7 +73,9 @@ fn range_piece(alloc: Global, field: usize, cs: &[char]) -> Result<Option<Cut>, 
     if !runs_on(*c) {
         return Ok(None);
     }
-    Ok(Some(Cut::token(Kind::Range(field, run_text(alloc, cs)?), run_len(cs))))
+    let size = run_len(cs);
+    let text = front_text(alloc, cs, size)?;
+    Ok(Some(Cut::token(Kind::Range(field, text), size)))
 }
 
 /// Behind the colon of a field of this kind.

@@ -2,6 +2,7 @@
 use Rattle.std.proofs.Common.{◌≡◌, ◌<◌, ◌+◌, ◌++◌, ◌∷◌, ℕ, List, [], drop, get_or, length, sym, ap, ◌∙◌, arith}
 use Rattle.std.proofs.lemmas.List.{append_assoc, append-nil, drop_more}
 use Rattle.std.specs.Prelude.{Result, Ok, Err, OnOk, codes, decimal, is_ok, if◌then◌else◌}
+use Rattle.std.specs.Fmt.{digits}
 use Rattle.json.specs.Token.{Token, string}
 use Rattle.json.specs.Print.{quoted, print, print_from}
 use Rattle.sk_base.specs.declared.report.Ranked.{Ranked}
@@ -40,13 +41,24 @@ three_numbers old t1 t2 t3 a x b y c z e1 e2 e3 =
     let seam : ((old ++ (a ++ x)) ++ (b ++ y)) ++ (c ++ z) ≡ old ++ (a ++ (x ++ (b ++ (y ++ (c ++ z))))) = simp append_assoc in
     e3 ∙ ap (λ t. t ++ (c ++ z)) (e2 ∙ ap (λ t. t ++ (b ++ y)) e1) ∙ seam
 
--- the last piece of a hit's line behind a number, and what stands before that
-pub hit_pieces : {E : Type 0} (result : Result (Unit {0}) E) (old t3 t4 t5 t6 new a x b y c z d w e p q f : List ℕ) → t3 ≡ old ++ (a ++ (x ++ (b ++ (y ++ (c ++ z)))))
-    → t4 ≡ t3 ++ (d ++ w) → t5 ≡ t4 ++ e → t6 ≡ t5 ++ p → p ≡ q → new ≡ (if is_ok result then t6 ++ f else t6)
+-- none were collapsed into a hit, or some
+pub none_collapsed : (old new : List ℕ) (collapsed : ℕ) → collapsed ≡ 0 → new ≡ old ++ codes " collapsed=0 data=" → new ≡ old ++ (codes " collapsed=" ++ (decimal collapsed ++ codes " data="))
+unfolding digits
+none_collapsed old new collapsed none is = is ∙ ap (λ n. old ++ (codes " collapsed=" ++ (decimal n ++ codes " data="))) (sym none)
+
+pub some_collapsed : (old middle new : List ℕ) (collapsed : ℕ) → middle ≡ old ++ (codes " collapsed=" ++ decimal collapsed) → new ≡ middle ++ codes " data=" → new ≡ old ++ (codes " collapsed=" ++ (decimal collapsed ++ codes " data="))
+some_collapsed old middle new collapsed half is = is ∙ ap (λ t. t ++ codes " data=") half ∙ three old (codes " collapsed=") (decimal collapsed) (codes " data=")
+  where
+    three : (t a b c : List ℕ) → (t ++ (a ++ b)) ++ c ≡ t ++ (a ++ (b ++ c))
+    three t a b c = simp append_assoc
+
+-- the last pieces of a hit's line behind its weight
+pub hit_pieces : {E : Type 0} (result : Result (Unit {0}) E) (old t3 t4 t5 new a x b y c z d w e p q f : List ℕ) → t3 ≡ old ++ (a ++ (x ++ (b ++ (y ++ (c ++ z)))))
+    → t4 ≡ t3 ++ (d ++ (w ++ e)) → t5 ≡ t4 ++ p → p ≡ q → new ≡ (if is_ok result then t5 ++ f else t5)
     → OnOk result (new ≡ old ++ (a ++ (x ++ (b ++ (y ++ (c ++ (z ++ (d ++ (w ++ (e ++ (q ++ f)))))))))))
-hit_pieces (Ok u) old t3 t4 t5 t6 new a x b y c z d w e p q f e3 e4 e5 e6 same last =
-    let seam : (((old ++ (a ++ (x ++ (b ++ (y ++ (c ++ z)))))) ++ (d ++ w)) ++ e) ++ (q ++ f) ≡ old ++ (a ++ (x ++ (b ++ (y ++ (c ++ (z ++ (d ++ (w ++ (e ++ (q ++ f)))))))))) = simp append_assoc in
-    let five = e5 ∙ ap (λ t. t ++ e) (e4 ∙ ap (λ t. t ++ (d ++ w)) e3) in
-    let six : t6 ≡ t5 ++ q = e6 ∙ ap (λ r. t5 ++ r) same in
-    last ∙ ap (λ t. t ++ f) six ∙ append_assoc t5 q f ∙ ap (λ t. t ++ (q ++ f)) five ∙ seam
-hit_pieces (Err u) old t3 t4 t5 t6 new a x b y c z d w e p q f e3 e4 e5 e6 same last = tt
+hit_pieces (Ok u) old t3 t4 t5 new a x b y c z d w e p q f e3 e4 e5 same last =
+    let seam : ((old ++ (a ++ (x ++ (b ++ (y ++ (c ++ z)))))) ++ (d ++ (w ++ e))) ++ (q ++ f) ≡ old ++ (a ++ (x ++ (b ++ (y ++ (c ++ (z ++ (d ++ (w ++ (e ++ (q ++ f)))))))))) = simp append_assoc in
+    let four = e4 ∙ ap (λ t. t ++ (d ++ (w ++ e))) e3 in
+    let five : t5 ≡ t4 ++ q = e5 ∙ ap (λ r. t4 ++ r) same in
+    last ∙ ap (λ t. t ++ f) five ∙ append_assoc t4 q f ∙ ap (λ t. t ++ (q ++ f)) four ∙ seam
+hit_pieces (Err u) old t3 t4 t5 new a x b y c z d w e p q f e3 e4 e5 same last = tt

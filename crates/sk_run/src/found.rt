@@ -61,10 +61,22 @@ fn push_hit_line(
     push_number(text, "hit rank=", rank as u128)?;
     push_number(text, " id=", hit.id as u128)?;
     push_number(text, " weight=", weight)?;
-    push_number(text, " collapsed=", hit.collapsed as u128)?;
-    text.push_str(" data=")?;
+    push_collapsed(text, hit.collapsed)?;
     text.push_str(payload)?;
     text.push_str("\n")
+}
+
+/// Writes how many were collapsed into a hit, up to its payload. Mostly none were.
+fn push_collapsed(text: &mut String, collapsed: u32) -> Result<(), AllocError>
+    ensures { OnOk result (string_bytes text.new ≡ string_bytes text.old ++ (codes " collapsed=" ++ (decimal collapsed ++ codes " data="))) }
+{
+    if collapsed == 0 {
+        text.push_str(" collapsed=0 data=")?;
+        return Ok(());
+    }
+    push_number(text, " collapsed=", collapsed as u128)?;
+    text.push_str(" data=")?;
+    Ok(())
 }
 
 /// Writes a name and a number behind the text.
