@@ -1,11 +1,10 @@
 -- A page by value that passes over matches whose values come behind its worst hit.
-use Rattle.std.proofs.Common.{◌≡◌, ◌≤◌, ◌<◌, ◌+◌, ◌-◌, ◌⊎◌, ◌^◌, ℕ, suc, Bool, true, false, cond, nat_le, min, max, List, [], ◌∷◌, ◌++◌, length, Option, None, Some, option_map, unwrap_or, refl, sym, ap, ◌∙◌, subst, arith, inl, inr}
+use Rattle.std.proofs.Common.{◌≡◌, ◌≤◌, ◌<◌, ◌+◌, ◌-◌, ◌⊎◌, ◌^◌, ℕ, suc, false, cond, nat_le, min, List, [], ◌∷◌, ◌++◌, length, Option, None, Some, option_map, unwrap_or, refl, sym, ap, ◌∙◌, subst, arith, inl, inr}
 use Rattle.std.specs.List.{AllByRecursion, cons_option}
 use Rattle.std.specs.Ordering.{is_le}
 use Rattle.std.proofs.lemmas.Bool.{le-leb, lt-leb}
 use Rattle.std.proofs.lemmas.List.{length-append}
 use Rattle.sk_base.specs.declared.find.Paging.{Paging}
-use Rattle.sk_base.specs.declared.rank.Rank.{Rank}
 use Rattle.sk_base.specs.declared.rank.Order.{Order}
 use Rattle.sk_base.specs.declared.rank.OrderBy.{OrderBy}
 use Rattle.sk_base.specs.declared.rank.SortKey.{SortKey}
@@ -19,14 +18,13 @@ use Rattle.sk_model.specs.Covers.{CoversAt}
 use Rattle.sk_model.specs.Documents.{Document}
 use Rattle.sk_model.specs.Edits.{document_at}
 use Rattle.sk_model.specs.Matches.{key_for, found_by}
-use Rattle.sk_model.specs.Scores.{score}
 use Rattle.sk_heap.specs.declared.hit.Hit.{Hit}
-use Rattle.sk_heap.specs.Held.{Held, offered}
+use Rattle.sk_heap.specs.Held.{offered}
 use Rattle.sk_collapse.specs.Collapsed.{Collapsed}
 use Rattle.sk_collapse.specs.declared.verdict.Verdict.TheVariants as Verdict
 use Rattle.sk_page.specs.Shown.{is_behind_page}
 use Rattle.sk_page.specs.Walks.{held_by, Walk}
-use Rattle.sk_page.specs.Pages.{SeesBy, Offers}
+use Rattle.sk_page.specs.Pages.{SeesBy}
 use Rattle.sk_page.specs.Hits.{value_in_slot, value_in_order}
 use Rattle.sk_page.specs.Views.{PageOf, Sees, IsEdge}
 use Rattle.sk_page.specs.declared.page.Page.{Page}

@@ -1,5 +1,5 @@
 -- What a question is answered, by what a store told of it.
-use Rattle.std.proofs.Common.{◌≡◌, ℕ, Result, Ok, Err, sym, subst}
+use Rattle.std.proofs.Common.{◌≡◌, Result, Ok, Err, sym, subst}
 use Rattle.sk_query.specs.Trees.{Tree}
 use Rattle.sk_parser.specs.declared.asked.AskError.{AskError}
 use Rattle.sk_parser.specs.Asked.{ReadsAs}

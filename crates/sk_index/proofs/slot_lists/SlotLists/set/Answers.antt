@@ -3,7 +3,6 @@ use Rattle.std.proofs.Common.{rules, ◌==◌, if◌then◌else◌, List, length
 use Rattle.std.proofs.lemmas.List.Sorted.{IsPartitionPoint-from_clause}
 use Rattle.sk_sorted.specs.Entries.{put}
 use Rattle.sk_sorted.specs.Runs.{flat}
-use Rattle.sk_values.specs.SlotValues.{SlotRuns}
 use Rattle.sk_index.specs.declared.slot_lists.SlotEntry.{SlotEntry}
 use Rattle.sk_index.specs.Slotted.{slot_list, RiseFrom}
 use Rattle.sk_index.proofs.SlottedLemmas.{set_at, none_from, slot_list-insert, slots_parted, rise_at, rise_with}
