@@ -1,6 +1,4 @@
 pub mod ListedLemmas
-mod PackedLemmas
-mod FrozenLemmas
 mod SlottedLemmas
 mod ValueLemmas
 mod StandsLemmas

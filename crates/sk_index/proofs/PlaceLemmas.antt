@@ -12,7 +12,7 @@ use Rattle.sk_base.specs.declared.doc_entry.DocTerm.{DocTerm}
 use Rattle.sk_base.specs.Order.{Precedes}
 use Rattle.sk_base.specs.Documents.{AreTerms, positions_of}
 use Rattle.sk_dict.specs.Terms.{term_at, term_cmp}
-use Rattle.sk_index.specs.Packed.{NumberedTerm, no_term, numbered_at, positions_at_place, AreKnown}
+use Rattle.sk_packed.specs.Packed.{NumberedTerm, no_term, numbered_at, positions_at_place, AreKnown}
 use Rattle.sk_index.specs.Placed.{IsBetween}
 use Rattle.sk_index.specs.Unpacked.{with_its_text, named_all}
 use Rattle.sk_index.proofs.ListedLemmas.{Precedes-irrefl}

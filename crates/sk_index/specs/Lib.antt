@@ -1,7 +1,5 @@
-pub mod Apart
 pub mod Indexed
 pub mod Listed
-pub mod Packed
 pub mod Payloads
 pub mod Placed
 pub mod Slotted

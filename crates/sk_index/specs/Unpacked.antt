@@ -9,7 +9,7 @@ use Rattle.sk_documents.specs.Documented.{HasTerms}
 use Rattle.sk_model.specs.Documents.{Document}
 use Rattle.sk_lists.specs.Lists.{Runs}
 use Rattle.sk_index.specs.declared.slot_lists.SlotEntry.{SlotEntry}
-use Rattle.sk_index.specs.Packed.{NumberedTerm, AreKnown}
+use Rattle.sk_packed.specs.Packed.{NumberedTerm, AreKnown}
 use Rattle.sk_index.specs.Listed.{Listed}
 use Rattle.sk_index.specs.Payloads.{Payloads, payload_of}
 use Rattle.sk_index.specs.Slotted.{values_at}

@@ -4,15 +4,14 @@ ghost use Rattle.std.specs.List.{AllPairs};
 ghost use Rattle.sk_base.specs.Order.{ArePositions};
 ghost use Rattle.sk_base.specs.Documents.{AreTerms, positions_of};
 ghost use Rattle.sk_dict.specs.Terms.{term_at};
-ghost use Rattle.sk_index.specs.Apart.{AreApart};
-ghost use Rattle.sk_index.specs.Packed.{AreKnown, positions_at_place};
+ghost use Rattle.sk_packed.specs.Apart.{AreApart};
+ghost use Rattle.sk_packed.specs.Packed.{AreKnown, positions_at_place};
 ghost use Rattle.sk_index.specs.Unpacked.{named_all};
 
-use crate::apart::are_apart;
-use crate::packed_terms::PackedTerms;
 use crate::places::place_in;
 use crate::term_lists::TermLists;
 use sk_base::Operands;
+use sk_packed::{PackedTerms, are_apart};
 use sk_steps::Steps;
 use std::marker::Model;
 use std::sync::ledger::Ledger;
@@ -28,7 +27,7 @@ pub struct AllPlaces<'a> {
 
 impl<'a> Model for AllPlaces<'a> {
     ghost use Rattle.std.specs.Prelude.{ℕ, List, map};
-    ghost use Rattle.sk_index.specs.Packed.{positions_at_place};
+    ghost use Rattle.sk_packed.specs.Packed.{positions_at_place};
 
     ghost Value = { List (List ℕ) };
 

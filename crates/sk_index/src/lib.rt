@@ -2,10 +2,8 @@
 #![tactic(auto)]
 
 mod all_places;
-mod apart;
 mod index;
 mod lists;
-mod packed_terms;
 mod payloads;
 mod places;
 mod slot_lists;

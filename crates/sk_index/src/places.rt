@@ -1,16 +1,16 @@
 //! Where a term stands in a document.
-ghost use Rattle.std.specs.Prelude.{◌≡◌, ◌≢◌, ◌<◌, ◌≤◌, ◌+◌, ℕ, [], length, bytes_eq, if◌then◌else◌};
+ghost use Rattle.std.specs.Prelude.{◌≡◌, ◌<◌, ◌≤◌, ◌+◌, [], length, bytes_eq, if◌then◌else◌};
 ghost use Rattle.std.specs.Ordering.{is_lt};
 ghost use Rattle.sk_base.specs.Order.{ArePositions};
 ghost use Rattle.sk_base.specs.Documents.{AreTerms, positions_of};
 ghost use Rattle.sk_dict.specs.Terms.{term_at, term_cmp};
-ghost use Rattle.sk_index.specs.Packed.{AreKnown, numbered_at, positions_at_place};
+ghost use Rattle.sk_packed.specs.Packed.{AreKnown, numbered_at, positions_at_place};
 ghost use Rattle.sk_index.specs.Placed.{IsBetween};
 ghost use Rattle.sk_index.specs.Unpacked.{named_all};
 
-use crate::packed_terms::PackedTerms;
 use crate::term_lists::TermLists;
 use sk_base::DocId;
+use sk_packed::PackedTerms;
 use sk_steps::Steps;
 use std::cmp::Ordering;
 use std::marker::Model;
@@ -69,36 +69,10 @@ pub(crate) fn place_in(packed: &PackedTerms, lists: &TermLists, number: usize, n
 {
     let term = lists.term(number);
     if packed.len() <= FEW {
-        place_by_number(packed, number, near) as u32
+        packed.place_of(number, near) as u32
     } else {
         place_by_text(packed, lists, term) as u32
     }
-}
-
-/// A place of the number, sought from a place on to both sides, or the number of terms.
-fn place_by_number(packed: &PackedTerms, number: usize, near: usize) -> usize
-    ensures within { result ≤ length packed.now }
-    ensures none { result ≡ length packed.now → (k : ℕ) → k < length packed.now → (numbered_at packed.now k).number ≢ number }
-    ensures found { result < length packed.now → (numbered_at packed.now result).number ≡ number }
-{
-    let count = packed.len();
-    let mut low = near.min(count);
-    let mut high = low;
-    'around: while low > 0 || high < count {
-        if low > 0 {
-            low -= 1;
-            if packed.number(low) == number {
-                return low;
-            }
-        }
-        if high < count {
-            if packed.number(high) == number {
-                return high;
-            }
-            high += 1;
-        }
-    }
-    count
 }
 
 /// The place of the term, or the number of terms.

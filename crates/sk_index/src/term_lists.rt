@@ -4,15 +4,15 @@ ghost use Rattle.sk_base.specs.Documents.{AreTerms};
 ghost use Rattle.sk_dict.specs.Terms.{term_at, number_of, begins_with, IsNext, HasNoNext, IsWalk};
 ghost use Rattle.sk_sorted.specs.Entries.{put, without, ids_of};
 ghost use Rattle.sk_sorted.specs.Runs.{flat};
+ghost use Rattle.sk_packed.specs.Packed.{AreKnown};
 ghost use Rattle.sk_index.specs.Listed.{list_of, IsListed, IsEdited, SameLists, Puts, TakesOut, PutsAll, TakesOutAll};
-ghost use Rattle.sk_index.specs.Packed.{AreKnown};
 ghost use Rattle.sk_index.specs.Unpacked.{named_all, Grows};
 ghost use Rattle.sk_index.specs.Wild.{figure_of, sum_behind};
 
-use crate::packed_terms::{PackedTerms, Packing, narrow_sum};
 use sk_base::{DocId, DocTerm};
 use sk_dict::{Dict, make_room};
 use sk_lists::List;
+use sk_packed::{PackedTerms, Packing};
 use std::alloc::{AllocError, Global};
 use std::marker::Model;
 
@@ -155,7 +155,7 @@ impl TermLists {
         ensures named { IfOk result (λ packed. named_all self.new.terms packed ≡ terms.now) }
         ensures known { IfOk result (λ packed. AreKnown (length self.new.terms) packed) }
     {
-        let positions = count_positions(terms)?;
+        let positions = count_positions(terms);
         let mut packing = Packing::with_capacity(self.alloc, terms.len(), positions)?;
         'terms: for one in terms {
             let number = self.put(id, one.term.as_str().as_bytes(), one.wdf)?;
@@ -234,13 +234,13 @@ impl TermLists {
     }
 }
 
-/// How many positions the terms have together. More than 32 bits count is want of memory.
-fn count_positions(terms: &[DocTerm]) -> Result<usize, AllocError> {
-    let mut count = 0;
+/// How many positions the terms have together.
+fn count_positions(terms: &[DocTerm]) -> usize {
+    let mut count: usize = 0;
     'terms: for one in terms {
-        count = narrow_sum(count as usize, one.positions.as_slice().len())?;
+        count = count.saturating_add(one.positions.as_slice().len());
     }
-    Ok(count as usize)
+    count
 }
 
 fn figure_of(list: &List, figure: Figure) -> u32

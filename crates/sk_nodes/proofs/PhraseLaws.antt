@@ -5,7 +5,7 @@ use Rattle.std.proofs.lemmas.List.{length-map, get_or-map}
 use Rattle.std.specs.List.{list_any}
 use Rattle.sk_base.proofs.Tests.{first_so, second_so}
 use Rattle.sk_model.specs.Positions.{phrase_from, is_phrase}
-use Rattle.sk_index.specs.Apart.{AreApart}
+use Rattle.sk_packed.specs.Apart.{AreApart}
 
 -- a position that passes, by its place
 any_at : (f : ℕ → Bool) (xs : List ℕ) → list_any f xs ≡ true → (k : ℕ) × (k < length xs) × (f (get_or xs k 0) ≡ true)

@@ -4,5 +4,5 @@ use Rattle.sk_index.proofs.places.place_in.Goals as goal
 
 pub returns-then-len-le-FEW : goal.returns-then-len-le-FEW
 returns-then-len-le-FEW c =
-    positions_numbered c.args.lists.now.terms c.args.packed.now c.args.number c.place_by_number.result c.term-term.ensures.sound.different c.requires.known c.requires.rising c.requires.there
-    c.place_by_number.ensures.within c.place_by_number.ensures.none c.place_by_number.ensures.found
+    positions_numbered c.args.lists.now.terms c.args.packed.now c.args.number c.place_of.result c.term-term.ensures.sound.different c.requires.known c.requires.rising c.requires.there
+    c.place_of.ensures.within c.place_of.ensures.none c.place_of.ensures.found

@@ -4,7 +4,7 @@ use Rattle.std.specs.Ordering.{is_lt}
 use Rattle.std.proofs.lemmas.List.{length-map}
 use Rattle.sk_base.specs.declared.doc_entry.DocTerm.{DocTerm}
 use Rattle.sk_dict.specs.Terms.{term_at, term_cmp}
-use Rattle.sk_index.specs.Packed.{numbered_at}
+use Rattle.sk_packed.specs.Packed.{numbered_at}
 use Rattle.sk_index.specs.Unpacked.{with_its_text, named_all}
 use Rattle.sk_index.proofs.PlaceLemmas.{halved_low, halved_high}
 use Rattle.sk_index.proofs.UnpackedLemmas.{named_at}

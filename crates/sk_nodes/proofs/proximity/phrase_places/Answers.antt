@@ -2,7 +2,7 @@
 use Rattle.std.proofs.Common.{ℕ, ◌+◌, get_or, subst}
 use Rattle.sk_dict.specs.Terms.{term_at}
 use Rattle.sk_model.specs.Edits.{document_at}
-use Rattle.sk_index.specs.Apart.{AreApart}
+use Rattle.sk_packed.specs.Apart.{AreApart}
 use Rattle.sk_index.specs.Indexed.{term_positions}
 use Rattle.sk_nodes.proofs.PhraseLaws.{apart_fails}
 use Rattle.sk_nodes.proofs.ProximityLaws.{there_all}

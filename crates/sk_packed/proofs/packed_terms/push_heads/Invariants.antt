@@ -1,0 +1,7 @@
+-- What was put and the heads that are left are all.
+use Rattle.std.proofs.Common.{◌≡◌, ◌++◌, drop}
+use Rattle.sk_packed.specs.Packed.{heads_of}
+use Rattle.sk_packed.proofs.packed_terms.push_heads.Given as goal
+
+abbrev pub invariant-terms : goal.invariant-terms
+invariant-terms l = l.words.items ++ heads_of (drop l.one-index l.terms) ≡ l.initial.words.items ++ heads_of l.terms
