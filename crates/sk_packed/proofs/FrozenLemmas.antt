@@ -1,69 +1,18 @@
--- The terms of a document in one list of numbers: what was put together is read back, and each term is found by its place.
-use Rattle.std.proofs.Common.{◌≡◌, ℕ, zero, suc, ◌+◌, ◌-◌, ◌*◌, ◌<◌, ◌≤◌, ◌==◌, if◌then◌else◌, Bool, true, false, List, [], ◌∷◌, ◌++◌, length, get_or, drop, slice_range, sym, ap, subst, ◌∙◌, refl, arith}
-use Rattle.std.proofs.lemmas.Bool.{eqb-true}
-use Rattle.std.proofs.lemmas.List.{drop_at, get_or-drop, length-append, length-drop}
-use Rattle.std.proofs.lemmas.List.Elements.{All-from_recursion}
+-- The terms of a document in one list of numbers: each is found by its place, and what was put together is read back.
+use Rattle.std.proofs.Common.{◌≡◌, ℕ, zero, suc, ◌+◌, ◌-◌, ◌*◌, ◌%◌, ◌<◌, ◌≤◌, ◌==◌, Bool, true, false, if◌then◌else◌, ltb, List, [], ◌∷◌, ◌++◌, length, map, get_or, take, drop, slice_range, sym, ap, subst, ◌∙◌, refl, arith}
+use Rattle.std.specs.List.{range_with_len}
+use Rattle.std.proofs.lemmas.Bool.{cond-true, cond-false, lt-ltb, le-ltb, eq-eqb, ne_eqb, eqb-true}
+use Rattle.std.proofs.lemmas.List.{drop_at, drop-drop, get_or-drop, length-append, append-nil}
+use Rattle.std.proofs.lemmas.List.FromFn.{length-map-range_with_len, get_or-map-range_with_len}
 use Rattle.sk_base.proofs.Tests.{first_so, second_so}
 use Rattle.sk_base.specs.Order.{ArePositions}
 use Rattle.sk_packed.specs.declared.packed_terms.PackedTerm.{PackedTerm}
-use Rattle.sk_packed.specs.Packed.{NumberedTerm, no_term, numbered_at, cut_positions, RiseTo, ArePlaced, IsPacked, heads_of, wdfs_of, are_plain, kept_wdfs, words_of, term_count, terms_by_heads, end_of_positions, begin_in, words_behind, end_in, frozen_terms, frozen, IsFrozen}
-use Rattle.sk_packed.proofs.PackedLemmas.{rise_le, length-cut, cut-append}
+use Rattle.sk_packed.specs.Packed.{NumberedTerm, no_term, numbered_at, cut_positions, RiseTo, ArePlaced, IsPacked, are_plain, heads_of, wdfs_of, plain_words, told_words, words_of, term_count, begin_at, end_at, wdf_at, term_in, frozen, IsTold, IsFrozen}
+use Rattle.sk_packed.proofs.PackedLemmas.{rise_le, part-append}
 
 -- there are as many terms as the words say
-length-terms_in : (n from : ℕ) (heads wdfs : List ℕ) → length (terms_by_heads n from heads wdfs) ≡ n
-length-terms_in zero from heads wdfs = refl
-length-terms_in (suc n) from heads wdfs = ap suc (length-terms_in n (get_or heads 1 0) (drop 2 heads) (drop 1 wdfs))
-
 pub length-frozen : (words : List ℕ) → length (frozen words) ≡ term_count words
-length-frozen words = length-cut 0 (frozen_terms words) (words_behind words) ∙ length-terms_in (term_count words) 0 (drop 1 words) (drop (end_in words) (words_behind words))
-
--- a number read behind the first head
-read_next : (heads : List ℕ) (i k : ℕ) → k ≡ 2 + i → get_or (drop 2 heads) i 0 ≡ get_or heads k 0
-read_next heads i k e = get_or-drop 2 heads i 0 ∙ ap (λ m. get_or heads m 0) (sym e)
-
--- a number read behind the count
-read_head : (words : List ℕ) (i k : ℕ) → k ≡ 1 + i → get_or (drop 1 words) i 0 ≡ get_or words k 0
-read_head words i k e = get_or-drop 1 words i 0 ∙ ap (λ m. get_or words m 0) (sym e)
-
--- the number of the i-th
-number-in : (n from : ℕ) (heads wdfs positions : List ℕ) (i : ℕ) → i < n → (numbered_at (cut_positions from (terms_by_heads n from heads wdfs) positions) i).number ≡ get_or heads (2 * i) 0
-number-in zero from heads wdfs positions i lt = absurd (omega arith)
-number-in (suc n) from heads wdfs positions zero lt = refl
-number-in (suc n) from heads wdfs positions (suc i) lt =
-    number-in n (get_or heads 1 0) (drop 2 heads) (drop 1 wdfs) positions i (omega arith) ∙ read_next heads (2 * i) (2 * suc i) (omega arith)
-
--- where its positions begin
-begin-next : (from : ℕ) (heads : List ℕ) (i : ℕ) → begin_in (get_or heads 1 0) (drop 2 heads) i ≡ begin_in from heads (suc i)
-begin-next from heads zero = refl
-begin-next from heads (suc i) = read_next heads (2 * i + 1) (2 * suc i + 1) (omega arith)
-
-pub begin-words : (words : List ℕ) (i : ℕ) → 0 < i → begin_in 0 (drop 1 words) i ≡ get_or words (2 * i) 0
-begin-words words zero lt = absurd (omega arith)
-begin-words words (suc i) lt = read_head words (2 * i + 1) (2 * suc i) (omega arith)
-
--- its positions
-positions-in : (n from : ℕ) (heads wdfs positions : List ℕ) (i : ℕ) → i < n
-    → (numbered_at (cut_positions from (terms_by_heads n from heads wdfs) positions) i).positions ≡ slice_range positions (begin_in from heads i) (get_or heads (2 * i + 1) 0)
-positions-in zero from heads wdfs positions i lt = absurd (omega arith)
-positions-in (suc n) from heads wdfs positions zero lt = refl
-positions-in (suc n) from heads wdfs positions (suc i) lt =
-    positions-in n (get_or heads 1 0) (drop 2 heads) (drop 1 wdfs) positions i (omega arith)
-    ∙ (λ j. slice_range positions (begin-next from heads i j) (read_next heads (2 * i + 1) (2 * suc i + 1) (omega arith) j))
-
--- they begin before they end, and end inside
-pub record IsPart (from to total : ℕ) : Type 0 where
-  pub rises : from ≤ to
-  pub inside : to ≤ total
-
-part-in : (n from : ℕ) (heads wdfs : List ℕ) (to i : ℕ) → RiseTo from (terms_by_heads n from heads wdfs) to → i < n → IsPart (begin_in from heads i) (get_or heads (2 * i + 1) 0) to
-part-in zero from heads wdfs to i r lt = absurd (omega arith)
-part-in (suc n) from heads wdfs to zero r lt =
-    record { rises = r.0; inside = rise_le (get_or heads 1 0) (terms_by_heads n (get_or heads 1 0) (drop 2 heads) (drop 1 wdfs)) to r.1 }
-part-in (suc n) from heads wdfs to (suc i) r lt =
-    let part : IsPart (begin_in (get_or heads 1 0) (drop 2 heads) i) (get_or (drop 2 heads) (2 * i + 1) 0) to =
-    part-in n (get_or heads 1 0) (drop 2 heads) (drop 1 wdfs) to i r.1 (omega arith) in
-    subst (λ (e : ℕ). IsPart (begin_in from heads (suc i)) e to) (read_next heads (2 * i + 1) (2 * suc i + 1) (omega arith))
-    (subst (λ (b : ℕ). IsPart b (get_or (drop 2 heads) (2 * i + 1) 0) to) (begin-next from heads i) part)
+length-frozen words = length-map-range_with_len (term_in words) 0 (term_count words)
 
 module _ (items words : List ℕ) (same : words ≡ items) (now : List NumberedTerm) (i : ℕ) (kept : IsFrozen items) (view : frozen items ≡ now) (lt : i < length now) where
   sound : IsFrozen words
@@ -76,125 +25,206 @@ module _ (items words : List ℕ) (same : words ≡ items) (now : List NumberedT
   there : i < term_count words
   there = omega (arith, ap length same_view, length-frozen words)
 
-  -- its head stands in the words
-  pub head_inside : 2 * i + 2 < length words
-  head_inside = omega (arith, there, sound.inside)
+  -- its head stands in the words, as all heads do
+  pub heads_inside : get_or words 0 0 ≤ length words
+  heads_inside = sound.heads
 
-  -- so do all heads
-  pub heads_inside : 2 * term_count words < length words
-  heads_inside = omega (arith, there, sound.inside)
+  pub head_inside : 2 * i + 1 < length words
+  head_inside = omega (arith, there, heads_inside)
 
-  -- its number
-  pub number_is : get_or words (2 * i + 1) 0 ≡ (numbered_at now i).number
-  number_is =
-      sym (ap (λ (w : List NumberedTerm). (numbered_at w i).number) (sym same_view)
-      ∙ number-in (term_count words) 0 (drop 1 words) (drop (end_in words) (words_behind words)) (words_behind words) i there ∙ read_head words (2 * i) (2 * i + 1) (omega arith))
+  -- it is what the words say at its place
+  pub term_is : term_in words i ≡ numbered_at now i
+  term_is =
+      sym (get_or-map-range_with_len (term_in words) 0 (term_count words) i i no_term there (omega arith)) ∙ ap (λ (w : List NumberedTerm). numbered_at w i) same_view
 
-  module _ (seen : List ℕ) (start end : ℕ) (all : seen ≡ words_behind words) (begins : start ≡ begin_in 0 (drop 1 words) i) (ends : end ≡ get_or words (2 * i + 2) 0) where
-    -- where its positions end
-    end_is : end ≡ get_or (drop 1 words) (2 * i + 1) 0
-    end_is = ends ∙ sym (read_head words (2 * i + 1) (2 * i + 2) (omega arith))
+  -- its positions stand in the words
+  pub told_is : IsTold words i
+  told_is = sound.told i there
 
-    -- they stand inside
-    pub part_inside : IsPart start end (length seen)
-    part_inside =
-        let part : IsPart (begin_in 0 (drop 1 words) i) (get_or (drop 1 words) (2 * i + 1) 0) (end_in words) =
-        part-in (term_count words) 0 (drop 1 words) (drop (end_in words) (words_behind words)) (end_in words) i sound.fill there in
-        let size : length seen ≡ length words - (2 * term_count words + 1) = ap length all ∙ length-drop (2 * term_count words + 1) words in
-        record { rises = omega (arith, part.rises, begins, end_is); inside = omega (arith, part.inside, sound.inside, end_is, size, heads_inside) }
+-- what is read of words whose end is known
+read-drop : (words ws : List ℕ) (n i k : ℕ) → drop n words ≡ ws → n + i ≡ k → get_or words k 0 ≡ get_or ws i 0
+read-drop words ws n i k e is = ap (λ (m : ℕ). get_or words m 0) (sym is) ∙ sym (get_or-drop n words i 0) ∙ ap (λ (w : List ℕ). get_or w i 0) e
 
-    -- and are the term's
-    pub part_is : slice_range seen start end ≡ (numbered_at now i).positions
-    part_is =
-        (λ j. slice_range (all j) (begins j) (end_is j))
-        ∙ sym (positions-in (term_count words) 0 (drop 1 words) (drop (end_in words) (words_behind words)) (words_behind words) i there)
-        ∙ ap (λ (w : List NumberedTerm). (numbered_at w i).positions) same_view
+drop-next : (words ws : List ℕ) (n i k : ℕ) → drop n words ≡ ws → n + i ≡ k → drop k words ≡ drop i ws
+drop-next words ws n i k e is = ap (λ (m : ℕ). drop m words) (sym is) ∙ sym (drop-drop i n words) ∙ ap (drop i) e
 
-    -- and rise
-    pub part_rises : ArePositions (slice_range seen start end)
-    part_rises =
-        subst ArePositions (sym part_is)
-        (All-from_recursion (λ (one : NumberedTerm). ArePositions one.positions) now (subst ArePlaced same_view sound.placed) i no_term lt)
+-- the words at the i-th place are this term, whose positions begin at `from`
+record IsLaid (words : List ℕ) (first from : ℕ) (one : PackedTerm) (i : ℕ) : Type 0 where
+  begins : begin_at words i ≡ first + from
+  numbered : get_or words (2 * i + 1) 0 ≡ one.number
+  ends : end_at words i ≡ first + one.end
+  weighed : wdf_at words i ≡ one.wdf
+
+-- from the i-th place on they are these terms
+abbrev AreLaid : List ℕ → ℕ → ℕ → List PackedTerm → ℕ → Type 0
+AreLaid words first from [] i = Unit {0}
+AreLaid words first from (one ∷ more) i = IsLaid words first from one i × AreLaid words first one.end more (i + 1)
+
+module _ (words positions after : List ℕ) (first : ℕ) (behind : drop first words ≡ positions ++ after) where
+  -- a part of the positions
+  part-behind : (from to : ℕ) → from ≤ to → to ≤ length positions → slice_range words (first + from) (first + to) ≡ slice_range positions from to
+  part-behind from to le inside =
+      let size : (first + to) - (first + from) ≡ to - from = omega arith in
+      (λ j. take (size j) ((sym (drop-drop from first words) ∙ ap (drop from) behind) j)) ∙ part-append positions after from to le inside
+
+  part-laid : (from : ℕ) (one : PackedTerm) (i : ℕ) → IsLaid words first from one i → from ≤ one.end → one.end ≤ length positions → slice_range words (begin_at words i) (end_at words i) ≡ slice_range positions from one.end
+  part-laid from one i laid le inside = (λ j. slice_range words (laid.begins j) (laid.ends j)) ∙ part-behind from one.end le inside
+
+  -- the terms are read back
+  cut-laid : (from : ℕ) (terms : List PackedTerm) (i : ℕ) → RiseTo from terms (length positions) → AreLaid words first from terms i
+      → map (term_in words) (range_with_len i (length terms)) ≡ cut_positions from terms positions
+  cut-laid from [] i r laid = refl
+  cut-laid from (one ∷ more) i r laid =
+      let part : slice_range words (begin_at words i) (end_at words i) ≡ slice_range positions from one.end = part-laid from one i laid.0 r.0 (rise_le one.end more (length positions) r.1) in
+      (λ j. record { number = laid.0.numbered j; wdf = laid.0.weighed j; positions = part j } ∷ cut-laid one.end more (i + 1) r.1 laid.1 j)
+
+  -- and their positions stand in the words
+  told-laid : (from : ℕ) (terms : List PackedTerm) (i k j : ℕ) → RiseTo from terms (length positions) → AreLaid words first from terms i → ArePlaced (cut_positions from terms positions)
+      → first + length positions ≤ length words → k < length terms → i + k ≡ j → IsTold words j
+  told-laid from [] i k j r laid placed within lt is = absurd (omega arith)
+  told-laid from (one ∷ more) i zero j r laid placed within lt is =
+      let inside : one.end ≤ length positions = rise_le one.end more (length positions) r.1 in
+      let here : i ≡ j = omega arith in
+      subst (IsTold words) here (record {
+        order = omega (arith, laid.0.begins, laid.0.ends, r.0);
+        inside = omega (arith, laid.0.ends, inside);
+        rising = subst ArePositions (sym (part-laid from one i laid.0 r.0 inside)) placed.0;
+      })
+  told-laid from (one ∷ more) i (suc k) j r laid placed within lt is = told-laid one.end more (i + 1) k j r.1 laid.1 placed.1 within (omega arith) (omega arith)
+
+-- what the wdf at the i-th place is where the term stands there, for each of these terms
+abbrev AreWeighed : List ℕ → ℕ → ℕ → List PackedTerm → ℕ → Type 0
+AreWeighed words first from [] i = Unit {0}
+AreWeighed words first from (one ∷ more) i = (begin_at words i ≡ first + from → end_at words i ≡ first + one.end → wdf_at words i ≡ one.wdf) × AreWeighed words first one.end more (i + 1)
+
+-- by the positions alone
+weighed-plain : (words : List ℕ) (first from : ℕ) (terms : List PackedTerm) (i : ℕ) → get_or words 0 0 % 2 ≡ 0 → are_plain from terms ≡ true → AreWeighed words first from terms i
+weighed-plain words first from [] i even plain = tt
+weighed-plain words first from (one ∷ more) i even plain =
+    let here : one.wdf ≡ one.end - from = eqb-true one.wdf (one.end - from) (first_so (one.wdf == (one.end - from)) (are_plain one.end more) plain) in
+    let next : are_plain one.end more ≡ true = second_so (one.wdf == (one.end - from)) (are_plain one.end more) plain in (
+      λ b e. let many : end_at words i - begin_at words i ≡ one.wdf = omega (arith, b, e, here) in
+          cond-true ((get_or words 0 0 % 2) == 0) (end_at words i - begin_at words i) (get_or words (get_or words (2 * term_count words) 0 + i) 0) (eq-eqb (get_or words 0 0 % 2) 0 even) ∙ many,
+      weighed-plain words first one.end more (i + 1) even next,
+    )
+
+-- and as they are told
+weighed-told : (words : List ℕ) (first from : ℕ) (terms : List PackedTerm) (i end : ℕ) → get_or words 0 0 % 2 ≡ 1 → get_or words (2 * term_count words) 0 ≡ end → drop (end + i) words ≡ wdfs_of terms → AreWeighed words first from terms i
+weighed-told words first from [] i end odd ends rest = tt
+weighed-told words first from (one ∷ more) i end odd ends rest = (
+  λ b e.
+      cond-false ((get_or words 0 0 % 2) == 0) (end_at words i - begin_at words i) (get_or words (get_or words (2 * term_count words) 0 + i) 0) (ne_eqb (get_or words 0 0 % 2) 0 (λ z. omega (arith, z, odd)))
+      ∙ ap (λ (k : ℕ). get_or words (k + i) 0) ends
+      ∙ read-drop words (wdfs_of (one ∷ more)) (end + i) 0 (end + i) rest (omega arith),
+  weighed-told words first one.end more (i + 1) end odd ends (drop-next words (wdfs_of (one ∷ more)) (end + i) 1 (end + (i + 1)) rest (omega arith)),
+)
+
+module _ (words rest : List ℕ) (first to : ℕ) where
+  -- where the positions of a term end, before other terms or as the last
+  ends-at : (one : PackedTerm) (more : List PackedTerm) (i : ℕ) → RiseTo one.end more to → drop (2 * i + 2) words ≡ heads_of first one.end more ++ rest → 2 * (i + suc (length more)) ≤ get_or words 0 0
+      → ((k : ℕ) → k + 1 ≡ i + suc (length more) → end_at words k ≡ first + to) → end_at words i ≡ first + one.end
+  ends-at one [] i r heads below last = last i (omega arith) ∙ ap (λ (k : ℕ). first + k) (sym r)
+  ends-at one (next ∷ more) i r heads below last =
+      cond-true (ltb (2 * i + 2) (get_or words 0 0)) (get_or words (2 * i + 2) 0) (length words) (lt-ltb (2 * i + 2) (get_or words 0 0) (omega arith))
+      ∙ read-drop words (heads_of first one.end (next ∷ more) ++ rest) (2 * i + 2) 0 (2 * i + 2) heads (omega arith)
+
+  -- the heads tell the terms
+  laid-heads : (from : ℕ) (terms : List PackedTerm) (i : ℕ) → RiseTo from terms to → drop (2 * i) words ≡ heads_of first from terms ++ rest → 2 * (i + length terms) ≤ get_or words 0 0
+      → ((k : ℕ) → k + 1 ≡ i + length terms → end_at words k ≡ first + to) → AreWeighed words first from terms i → AreLaid words first from terms i
+  laid-heads from [] i r heads below last weighed = tt
+  laid-heads from (one ∷ more) i r heads below last weighed =
+      let begins : begin_at words i ≡ first + from = read-drop words (heads_of first from (one ∷ more) ++ rest) (2 * i) 0 (2 * i) heads (omega arith) in
+      let next : drop (2 * i + 2) words ≡ heads_of first one.end more ++ rest = drop-next words (heads_of first from (one ∷ more) ++ rest) (2 * i) 2 (2 * i + 2) heads refl in
+      let ends : end_at words i ≡ first + one.end = ends-at one more i r.1 next below last in (
+        record {
+          begins = begins;
+          numbered = read-drop words (heads_of first from (one ∷ more) ++ rest) (2 * i) 1 (2 * i + 1) heads refl;
+          ends = ends;
+          weighed = weighed.0 begins ends;
+        },
+        laid-heads one.end more (i + 1) r.1 (ap (λ (k : ℕ). drop k words) (omega arith) ∙ next) (omega arith) (λ k is. last k (omega arith)) weighed.1,
+      )
 
 -- two numbers a head
-length-heads : (terms : List PackedTerm) → length (heads_of terms) ≡ 2 * length terms
-length-heads [] = refl
-length-heads (one ∷ more) = omega (arith, length-heads more)
+length-heads : (first from : ℕ) (terms : List PackedTerm) → length (heads_of first from terms) ≡ 2 * length terms
+length-heads first from [] = refl
+length-heads first from (one ∷ more) = omega (arith, length-heads first one.end more)
 
--- the positions end where they rise to
-end-heads : (from : ℕ) (terms : List PackedTerm) (to : ℕ) (rest : List ℕ) → RiseTo from terms to → end_of_positions (length terms) from (heads_of terms ++ rest) ≡ to
-end-heads from [] to rest r = r
-end-heads from (one ∷ more) to rest r = end-heads one.end more to rest r.1
-
--- the terms by their heads alone
-terms-plain : (from : ℕ) (terms : List PackedTerm) (rest : List ℕ) → are_plain from terms ≡ true → terms_by_heads (length terms) from (heads_of terms ++ rest) [] ≡ terms
-terms-plain from [] rest plain = refl
-terms-plain from (one ∷ more) rest plain =
-    let here : one.wdf ≡ one.end - from = eqb-true one.wdf (one.end - from) (first_so (one.wdf == (one.end - from)) (are_plain one.end more) plain) in
-    let next : are_plain one.end more ≡ true = second_so (one.wdf == (one.end - from)) (are_plain one.end more) plain in
-    ap (λ (k : ℕ). let x : PackedTerm = record { number = one.number; wdf = k; end = one.end } in x ∷ terms_by_heads (length more) one.end (heads_of more ++ rest) []) (sym here)
-    ∙ ap (λ (ts : List PackedTerm). one ∷ ts) (terms-plain one.end more rest next)
-
--- and with their wdfs
-terms-told : (from : ℕ) (terms : List PackedTerm) (rest : List ℕ) → terms_by_heads (length terms) from (heads_of terms ++ rest) (wdfs_of terms) ≡ terms
-terms-told from [] rest = refl
-terms-told from (one ∷ more) rest = ap (λ (ts : List PackedTerm). one ∷ ts) (terms-told one.end more rest)
-
-terms-kept : (terms : List PackedTerm) (rest : List ℕ) (b : Bool) → are_plain 0 terms ≡ b → terms_by_heads (length terms) 0 (heads_of terms ++ rest) (if b then [] else wdfs_of terms) ≡ terms
-terms-kept terms rest true plain = terms-plain 0 terms rest plain
-terms-kept terms rest false plain = terms-told 0 terms rest
+-- what was read back
+record IsBack (words : List ℕ) (terms : List PackedTerm) (positions : List ℕ) : Type 0 where
+  same : frozen words ≡ cut_positions 0 terms positions
+  sound : IsFrozen words
 
 module _ (terms : List PackedTerm) (positions : List ℕ) (packed : IsPacked terms positions) where
-  -- the words of any terms, also of none
-  abbrev joined : List ℕ
-  joined = length terms ∷ (heads_of terms ++ (positions ++ kept_wdfs terms))
-
-  end-joined : end_in joined ≡ length positions
-  end-joined = end-heads 0 terms (length positions) (positions ++ kept_wdfs terms) packed.fill
-
-  behind-joined : words_behind joined ≡ positions ++ kept_wdfs terms
-  behind-joined =
-      let one_more : 2 * length terms + 1 ≡ suc (2 * length terms) = omega arith in
-      ap (λ (k : ℕ). drop k joined) one_more ∙ drop_at (heads_of terms) (positions ++ kept_wdfs terms) (2 * length terms) (length-heads terms)
-
-  wdfs-joined : drop (end_in joined) (words_behind joined) ≡ kept_wdfs terms
-  wdfs-joined = (λ j. drop (end-joined j) (behind-joined j)) ∙ drop_at positions (kept_wdfs terms) (length positions) refl
-
-  terms-joined : frozen_terms joined ≡ terms
-  terms-joined =
-      ap (terms_by_heads (length terms) 0 (heads_of terms ++ (positions ++ kept_wdfs terms))) wdfs-joined
-      ∙ terms-kept terms (positions ++ kept_wdfs terms) (are_plain 0 terms) refl
-
-  frozen-joined : frozen joined ≡ cut_positions 0 terms positions
-  frozen-joined = (λ j. cut_positions 0 (terms-joined j) (behind-joined j)) ∙ cut-append 0 terms (length positions) positions (kept_wdfs terms) packed.fill (omega arith)
-
-  IsFrozen-joined : IsFrozen joined
-  IsFrozen-joined = record {
-    inside = omega (arith, end-joined, length-heads terms, length-append (heads_of terms) (positions ++ kept_wdfs terms), length-append positions (kept_wdfs terms));
-    fill = subst (λ (k : ℕ). RiseTo 0 (frozen_terms joined) k) (sym end-joined) (subst (λ (w : List PackedTerm). RiseTo 0 w (length positions)) (sym terms-joined) packed.fill);
-    placed = subst ArePlaced (sym frozen-joined) packed.placed;
+  back : (words after : List ℕ) (first : ℕ) → drop first words ≡ positions ++ after → get_or words 0 0 ≡ first → term_count words ≡ length terms → first + length positions ≤ length words → AreLaid words first 0 terms 0
+      → IsBack words terms positions
+  back words after first behind start count within laid = record {
+    same = ap (λ (n : ℕ). map (term_in words) (range_with_len 0 n)) count ∙ cut-laid words positions after first behind 0 terms 0 packed.fill laid;
+    sound = record {
+      heads = omega arith;
+      told = λ i lt. told-laid words positions after first behind 0 terms 0 i i packed.fill laid packed.placed within (omega arith) (omega arith);
+    };
   }
 
 -- no words are no term
-pub IsFrozen-none : IsFrozen []
-IsFrozen-none = record { inside = omega arith; fill = refl; placed = tt }
+back-none : (positions : List ℕ) → IsBack [] [] positions
+back-none positions = record { same = refl; sound = record { heads = omega arith; told = λ i lt. absurd (omega arith) } }
 
-frozen-words : (terms : List PackedTerm) (positions : List ℕ) → IsPacked terms positions → frozen (words_of terms positions) ≡ cut_positions 0 terms positions
-frozen-words [] positions p = refl
-frozen-words (one ∷ more) positions p = frozen-joined (one ∷ more) positions p
+-- the words of some terms
+module _ (one : PackedTerm) (more : List PackedTerm) (positions : List ℕ) (packed : IsPacked (one ∷ more) positions) where
+  abbrev terms : List PackedTerm
+  terms = one ∷ more
 
-IsFrozen-words : (terms : List PackedTerm) (positions : List ℕ) → IsPacked terms positions → IsFrozen (words_of terms positions)
-IsFrozen-words [] positions p = IsFrozen-none
-IsFrozen-words (one ∷ more) positions p = IsFrozen-joined (one ∷ more) positions p
+  -- each wdf is the number of the positions
+  back-plain : are_plain 0 terms ≡ true → IsBack (plain_words terms positions) terms positions
+  back-plain plain =
+      let first : ℕ = 2 * length terms in
+      let words : List ℕ = plain_words terms positions in
+      let many : length (heads_of first 0 terms) ≡ first = length-heads first 0 terms in
+      let start : get_or words 0 0 ≡ first = omega arith in
+      let total : length words ≡ first + length positions = length-append (heads_of first 0 terms) positions ∙ omega arith in
+      back terms positions packed words [] first (drop_at (heads_of first 0 terms) positions first many ∙ sym (append-nil positions)) start (omega arith) (omega arith)
+      (laid-heads words positions first (length positions) 0 terms 0 packed.fill refl (omega arith)
+      (λ k at. cond-false (ltb (2 * k + 2) (get_or words 0 0)) (get_or words (2 * k + 2) 0) (length words) (le-ltb (2 * k + 2) (get_or words 0 0) (omega arith)) ∙ total)
+      (weighed-plain words first 0 terms 0 (omega arith) plain))
+
+  -- the wdfs are told
+  back-told : IsBack (told_words terms positions) terms positions
+  back-told =
+      let first : ℕ = 2 * length terms + 1 in
+      let end : ℕ = first + length positions in
+      let words : List ℕ = told_words terms positions in
+      let rest : List ℕ = end ∷ (positions ++ wdfs_of terms) in
+      let many : length (heads_of first 0 terms) ≡ 2 * length terms = length-heads first 0 terms in
+      let start : get_or words 0 0 ≡ first = omega arith in
+      let count : term_count words ≡ length terms = omega arith in
+      let total : length words ≡ 2 * length terms + suc (length positions + length (wdfs_of terms)) =
+      length-append (heads_of first 0 terms) rest ∙ (λ j. many j + suc (length-append positions (wdfs_of terms) j)) in
+      let heads : drop (2 * length terms) words ≡ rest = drop_at (heads_of first 0 terms) rest (2 * length terms) many in
+      let behind : drop first words ≡ positions ++ wdfs_of terms = drop-next words rest (2 * length terms) 1 first heads refl in
+      back terms positions packed words (wdfs_of terms) first behind start count (omega arith)
+      (laid-heads words rest first (length positions) 0 terms 0 packed.fill refl (omega arith)
+      (λ k at. cond-true (ltb (2 * k + 2) (get_or words 0 0)) (get_or words (2 * k + 2) 0) (length words) (lt-ltb (2 * k + 2) (get_or words 0 0) (omega arith))
+      ∙ read-drop words rest (2 * length terms) 0 (2 * k + 2) heads (omega arith))
+      (weighed-told words first 0 terms 0 end (omega arith) (read-drop words rest (2 * length terms) 0 (2 * term_count words) heads (omega arith))
+      (ap (λ (k : ℕ). drop k words) (omega arith) ∙ drop-next words (positions ++ wdfs_of terms) first (length positions) end behind refl ∙ drop_at positions (wdfs_of terms) (length positions) refl)))
+
+  back-some : (b : Bool) → are_plain 0 terms ≡ b → IsBack (if b then plain_words terms positions else told_words terms positions) terms positions
+  back-some true plain = back-plain plain
+  back-some false told = back-told
+
+back-words : (terms : List PackedTerm) (positions : List ℕ) → IsPacked terms positions → IsBack (words_of terms positions) terms positions
+back-words [] positions packed = back-none positions
+back-words (one ∷ more) positions packed = back-some one more positions packed (are_plain 0 (one ∷ more)) refl
 
 module _ (terms terms' : List PackedTerm) (positions positions' words : List ℕ) (packed : IsPacked terms positions)
     (same_terms : terms' ≡ terms) (same_positions : positions' ≡ positions) (made : words ≡ words_of terms' positions') where
-  made_of : words ≡ words_of terms positions
-  made_of = made ∙ (λ j. words_of (same_terms j) (same_positions j))
+  made_back : IsBack words terms positions
+  made_back = subst (λ (w : List ℕ). IsBack w terms positions) (sym (made ∙ (λ j. words_of (same_terms j) (same_positions j)))) (back-words terms positions packed)
 
   -- words that were made of the terms are these
   pub frozen_is : (now : List NumberedTerm) → cut_positions 0 terms positions ≡ now → frozen words ≡ now
-  frozen_is now view = ap frozen made_of ∙ frozen-words terms positions packed ∙ view
+  frozen_is now view = made_back.same ∙ view
 
   pub frozen_sound : IsFrozen words
-  frozen_sound = subst IsFrozen (sym made_of) (IsFrozen-words terms positions packed)
+  frozen_sound = made_back.sound

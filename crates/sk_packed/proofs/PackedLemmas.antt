@@ -1,5 +1,5 @@
 -- The terms of a document whose positions stand in one list: where those of each are, and one term more.
-use Rattle.std.proofs.Common.{◌≡◌, ℕ, suc, ◌+◌, ◌-◌, ◌≤◌, List, [], ◌∷◌, ◌++◌, length, take, drop, slice_range, sym, ap, subst, ◌∙◌, refl, arith}
+use Rattle.std.proofs.Common.{◌≡◌, ℕ, ◌+◌, ◌-◌, ◌≤◌, List, [], ◌∷◌, ◌++◌, length, take, drop, slice_range, sym, ap, subst, ◌∙◌, refl, arith}
 use Rattle.std.specs.List.{AllByRecursion}
 use Rattle.std.proofs.lemmas.List.{take-append-le, drop-append-le, drop_at, length-append, length-drop}
 use Rattle.std.proofs.Math.Seq.{take-length}
@@ -12,11 +12,6 @@ pub rise_le : (from : ℕ) (terms : List PackedTerm) (to : ℕ) → RiseTo from 
 rise_le from [] to r = omega (arith, r)
 rise_le from (one ∷ more) to r = omega (arith, r.0, rise_le one.end more to r.1)
 
--- as many terms as ends
-pub length-cut : (from : ℕ) (terms : List PackedTerm) (positions : List ℕ) → length (cut_positions from terms positions) ≡ length terms
-length-cut from [] positions = refl
-length-cut from (one ∷ more) positions = ap suc (length-cut one.end more positions)
-
 -- a packed term with its positions
 abbrev pub opened : PackedTerm → List ℕ → NumberedTerm
 opened one positions = record { number = one.number; wdf = one.wdf; positions = positions }
@@ -26,13 +21,6 @@ pub part-append : (positions more : List ℕ) (from to : ℕ) → from ≤ to �
 part-append positions more from to le inside =
     let size : length (drop from positions) ≡ length positions - from = length-drop from positions in
     ap (take (to - from)) (drop-append-le from positions more (omega arith)) ∙ take-append-le (to - from) (drop from positions) more (omega arith)
-
--- and so no term
-pub cut-append : (from : ℕ) (terms : List PackedTerm) (to : ℕ) (positions more : List ℕ) → RiseTo from terms to → to ≤ length positions → cut_positions from terms (positions ++ more) ≡ cut_positions from terms positions
-cut-append from [] to positions more r inside = refl
-cut-append from (one ∷ rest) to positions more r inside =
-    let here : one.end ≤ length positions = omega (arith, rise_le one.end rest to r.1) in
-    (λ j. opened one (part-append positions more from one.end r.0 here j) ∷ cut-append one.end rest to positions more r.1 inside j)
 
 -- the part that the positions behind are
 part-last : (positions more : List ℕ) (from to : ℕ) → from ≡ length positions → to ≡ length positions + length more → slice_range (positions ++ more) from to ≡ more

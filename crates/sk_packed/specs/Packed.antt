@@ -1,6 +1,6 @@
 -- The terms of a document as numbers.
-use Rattle.std.specs.Prelude.{◌≡◌, ◌<◌, ◌≤◌, ◌+◌, ◌-◌, ◌*◌, ◌==◌, ◌&&◌, if◌then◌else◌, ℕ, zero, suc, Bool, true, List, [], ◌∷◌, ◌++◌, length, drop, slice_range, slice_index, slice_index_or}
-use Rattle.std.specs.List.{AllByRecursion}
+use Rattle.std.specs.Prelude.{◌≡◌, ◌<◌, ◌≤◌, ◌+◌, ◌-◌, ◌*◌, ◌/◌, ◌%◌, ◌==◌, ◌&&◌, if◌then◌else◌, ltb, ℕ, Bool, true, List, [], ◌∷◌, ◌++◌, length, map, slice_range, slice_index, slice_index_or}
+use Rattle.std.specs.List.{AllByRecursion, range_with_len}
 use Rattle.sk_base.specs.Order.{ArePositions}
 use Rattle.sk_packed.specs.declared.packed_terms.PackedTerm.{PackedTerm}
 
@@ -45,67 +45,62 @@ pub record IsPacked (terms : List PackedTerm) (positions : List ℕ) : Type 0 wh
 abbrev pub AreKnown : ℕ → List NumberedTerm → Type 0
 AreKnown bound terms = AllByRecursion (λ one. one.number < bound) terms
 
--- For each term its number and its end.
-abbrev pub heads_of : List PackedTerm → List ℕ
-heads_of [] = []
-heads_of (one ∷ more) = one.number ∷ one.end ∷ heads_of more
-
-abbrev pub wdfs_of : List PackedTerm → List ℕ
-wdfs_of [] = []
-wdfs_of (one ∷ more) = one.wdf ∷ wdfs_of more
-
 -- Each wdf is the number of the term's positions.
 abbrev pub are_plain : ℕ → List PackedTerm → Bool
 are_plain from [] = true
 are_plain from (one ∷ more) = (one.wdf == (one.end - from)) && are_plain one.end more
 
--- The wdfs, if one of them has to be told.
-abbrev pub kept_wdfs : List PackedTerm → List ℕ
-kept_wdfs terms = if are_plain 0 terms then [] else wdfs_of terms
+-- For each term where its positions begin, which stand from the place `first` on, and its number.
+abbrev pub heads_of : ℕ → ℕ → List PackedTerm → List ℕ
+heads_of first from [] = []
+heads_of first from (one ∷ more) = (first + from) ∷ one.number ∷ heads_of first one.end more
 
--- The terms in one list of numbers: how many they are, the heads, the positions, and the wdfs.
+abbrev pub wdfs_of : List PackedTerm → List ℕ
+wdfs_of [] = []
+wdfs_of (one ∷ more) = one.wdf ∷ wdfs_of more
+
+-- The terms in one list of numbers: the heads and the positions.
+abbrev pub plain_words : List PackedTerm → List ℕ → List ℕ
+plain_words terms positions = heads_of (2 * length terms) 0 terms ++ positions
+
+-- And with their wdfs: the heads, where the positions end, these, and the wdfs.
+abbrev pub told_words : List PackedTerm → List ℕ → List ℕ
+told_words terms positions = heads_of (2 * length terms + 1) 0 terms ++ ((2 * length terms + 1 + length positions) ∷ (positions ++ wdfs_of terms))
+
+-- The wdfs are told if one of them is not the number of the term's positions.
 abbrev pub words_of : List PackedTerm → List ℕ → List ℕ
 words_of [] positions = []
-words_of (one ∷ more) positions = length (one ∷ more) ∷ (heads_of (one ∷ more) ++ (positions ++ kept_wdfs (one ∷ more)))
+words_of (one ∷ more) positions = if are_plain 0 (one ∷ more) then plain_words (one ∷ more) positions else told_words (one ∷ more) positions
 
--- How many terms the words have.
+-- How many terms the words have: half of where the positions begin, which is odd if the wdfs are told.
 abbrev pub term_count : List ℕ → ℕ
-term_count words = slice_index words 0
+term_count words = slice_index words 0 / 2
 
--- So many terms by their heads, and their wdfs where these are told; the positions of the first begin at `from`.
-abbrev pub terms_by_heads : ℕ → ℕ → List ℕ → List ℕ → List PackedTerm
-terms_by_heads zero from heads wdfs = []
-terms_by_heads (suc n) from heads wdfs =
-    record { number = slice_index heads 0; wdf = slice_index_or wdfs 0 (slice_index heads 1 - from); end = slice_index heads 1 }
-    ∷ terms_by_heads n (slice_index heads 1) (drop 2 heads) (drop 1 wdfs)
+-- Where the positions of the i-th term begin, and where they end: where those of the next begin, or all end.
+abbrev pub begin_at : List ℕ → ℕ → ℕ
+begin_at words i = slice_index words (2 * i)
 
--- Where the positions of the last of so many end.
-abbrev pub end_of_positions : ℕ → ℕ → List ℕ → ℕ
-end_of_positions zero from heads = from
-end_of_positions (suc n) from heads = end_of_positions n (slice_index heads 1) (drop 2 heads)
+abbrev pub end_at : List ℕ → ℕ → ℕ
+end_at words i = if ltb (2 * i + 2) (slice_index words 0) then slice_index words (2 * i + 2) else length words
 
--- Where the positions of the i-th begin.
-abbrev pub begin_in : ℕ → List ℕ → ℕ → ℕ
-begin_in from heads zero = from
-begin_in from heads (suc i) = slice_index heads (2 * i + 1)
+-- Its wdf, which is told behind all positions or is the number of its own.
+abbrev pub wdf_at : List ℕ → ℕ → ℕ
+wdf_at words i = if (slice_index words 0 % 2) == 0 then end_at words i - begin_at words i else slice_index words (slice_index words (2 * term_count words) + i)
 
--- What stands behind the heads: the positions, and the wdfs where they are told.
-abbrev pub words_behind : List ℕ → List ℕ
-words_behind words = drop (2 * term_count words + 1) words
-
--- How many positions the words have.
-abbrev pub end_in : List ℕ → ℕ
-end_in words = end_of_positions (term_count words) 0 (drop 1 words)
+abbrev pub term_in : List ℕ → ℕ → NumberedTerm
+term_in words i = record { number = slice_index words (2 * i + 1); wdf = wdf_at words i; positions = slice_range words (begin_at words i) (end_at words i) }
 
 -- The terms that the words are.
-abbrev pub frozen_terms : List ℕ → List PackedTerm
-frozen_terms words = terms_by_heads (term_count words) 0 (drop 1 words) (drop (end_in words) (words_behind words))
-
 abbrev pub frozen : List ℕ → List NumberedTerm
-frozen words = cut_positions 0 (frozen_terms words) (words_behind words)
+frozen words = map (term_in words) (range_with_len 0 (term_count words))
 
--- Heads and positions stand in the words, the ends do not fall, and the positions of each term rise.
+-- The positions of the i-th term stand in the words, and rise.
+pub record IsTold (words : List ℕ) (i : ℕ) : Type 0 where
+  pub order : begin_at words i ≤ end_at words i
+  pub inside : end_at words i ≤ length words
+  pub rising : ArePositions (slice_range words (begin_at words i) (end_at words i))
+
+-- The heads stand in the words, and the positions of each term.
 pub record IsFrozen (words : List ℕ) : Type 0 where
-  pub inside : 2 * term_count words + end_in words ≤ length words - 1
-  pub fill : RiseTo 0 (frozen_terms words) (end_in words)
-  pub placed : ArePlaced (frozen words)
+  pub heads : slice_index words 0 ≤ length words
+  pub told : (i : ℕ) → i < term_count words → IsTold words i

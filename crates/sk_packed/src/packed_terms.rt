@@ -1,7 +1,7 @@
 //! The terms of a document as numbers.
-ghost use Rattle.std.specs.Prelude.{◌≡◌, ◌≢◌, ◌<◌, ◌≤◌, ◌+◌, ◌*◌, ◌^◌, ℕ, [], ◌∷◌, ◌++◌, length, drop, slice_index, IfOk, OnOk, OnErr};
+ghost use Rattle.std.specs.Prelude.{◌≡◌, ◌≢◌, ◌<◌, ◌≤◌, ◌+◌, ◌*◌, ◌^◌, ℕ, [], ◌∷◌, ◌++◌, length, slice_index, IfOk, OnOk, OnErr};
 ghost use Rattle.sk_base.specs.Order.{ArePositions};
-ghost use Rattle.sk_packed.specs.Packed.{numbered_at, positions_at_place, words_of, heads_of, wdfs_of, are_plain, term_count, begin_in, words_behind};
+ghost use Rattle.sk_packed.specs.Packed.{numbered_at, positions_at_place, words_of, plain_words, told_words, heads_of, wdfs_of, are_plain, term_count, begin_at, end_at};
 
 use sk_pieces::Copier;
 use std::alloc::{AllocError, Global};
@@ -73,8 +73,10 @@ impl Packing {
     }
 }
 
-/// The terms of a document in one vector of numbers: how many they are; for each its number in the dictionary and where
-/// its positions end; the positions; and the wdf of each, if one of them is not the number of its positions.
+/// The terms of a document in one vector of numbers: for each where its positions begin in the vector, and its number in
+/// the dictionary; the positions. If a wdf is not the number of the term's positions, the place where the positions end
+/// stands before them, and the wdf of each term behind them. So they begin at an even place in the one case, and at an odd
+/// one in the other. No term takes no memory.
 #[derive(Drop)]
 pub struct PackedTerms {
     words: Vec<u32>,
@@ -132,10 +134,9 @@ impl PackedTerms {
         ensures rising { ArePositions result.now }
     {
         let words = self.words.as_slice();
-        let from = start(words, i);
+        let from = begin(words, i);
         let to = end(words, i);
-        let seen = behind(words);
-        &seen[from..to]
+        &words[from..to]
     }
 
     /// The positions of the term at this place, none behind the last.
@@ -197,42 +198,38 @@ fn count(words: &[u32]) -> usize
     if words.is_empty() {
         0
     } else {
-        words[0] as usize
+        words[0] as usize / 2
     }
 }
 
 /// The number of the i-th term.
 fn number(words: &[u32], i: usize) -> usize
-    requires { 2 * i + 2 < length words.now }
+    requires { 2 * i + 1 < length words.now }
     ensures { result ≡ slice_index words.now (2 * i + 1) }
 {
     words[2 * i + 1] as usize
 }
 
 /// Where the positions of the i-th term begin.
-fn start(words: &[u32], i: usize) -> usize
+fn begin(words: &[u32], i: usize) -> usize
     requires { 2 * i < length words.now }
-    ensures value { result ≡ begin_in 0 (drop 1 words.now) i }
-    ensures small { result < 2 ^ 32 }
+    ensures { result ≡ begin_at words.now i }
 {
-    if i == 0 { 0 } else { words[2 * i] as usize }
+    words[2 * i] as usize
 }
 
 /// Where they end.
 fn end(words: &[u32], i: usize) -> usize
-    requires { 2 * i + 2 < length words.now }
-    ensures { result ≡ slice_index words.now (2 * i + 2) }
+    requires there { 2 * i + 1 < length words.now }
+    requires heads { slice_index words.now 0 ≤ length words.now }
+    ensures { result ≡ end_at words.now i }
 {
-    words[2 * i + 2] as usize
-}
-
-/// What stands behind the heads.
-fn behind(words: &[u32]) -> &[u32]
-    requires { 2 * term_count words.now < length words.now }
-    ensures { result.now ≡ words_behind words.now }
-{
-    let first = 2 * count(words) + 1;
-    &words[first..]
+    let next = 2 * i + 2;
+    if next < words[0] as usize {
+        words[next] as usize
+    } else {
+        words.len()
+    }
 }
 
 /// The terms in one vector.
@@ -240,27 +237,47 @@ fn words_of(alloc: Global, terms: &[PackedTerm], positions: &[u32]) -> Result<Ve
     ensures { IfOk result (λ words. words.items ≡ words_of terms.now positions.now) }
 {
     if terms.is_empty() {
-        return Ok(Vec::new(alloc));
+        Ok(Vec::new(alloc))
+    } else if are_plain(terms) {
+        plain_words(alloc, terms, positions)
+    } else {
+        told_words(alloc, terms, positions)
     }
-    let plain = are_plain(terms);
-    let mut words = Vec::with_capacity(alloc, room(terms.len(), positions.len(), plain))?;
-    words.push(narrow(terms.len())?)?;
-    push_heads(&mut words, terms)?;
+}
+
+/// The heads and the positions, with no room for more.
+fn plain_words(
+    alloc: Global,
+    terms: &[PackedTerm],
+    positions: &[u32],
+) -> Result<Vec<u32>, AllocError>
+    ensures { IfOk result (λ words. words.items ≡ plain_words terms.now positions.now) }
+{
+    let first = narrow_sum(terms.len(), terms.len())? as usize;
+    let room = first.saturating_add(positions.len());
+    let mut words = Vec::with_capacity(alloc, room)?;
+    push_heads(&mut words, first, terms)?;
     words.extend_from_slice(positions)?;
-    if plain {
-        return Ok(words);
-    }
-    push_wdfs(&mut words, terms)?;
     Ok(words)
 }
 
-/// How many words so many terms and positions take.
-fn room(terms: usize, positions: usize, plain: bool) -> usize {
-    let each = if plain { 2 } else { 3 };
-    terms
-        .saturating_mul(each)
-        .saturating_add(positions)
-        .saturating_add(1)
+/// The heads, where the positions end, these, and the wdfs, with no room for more.
+fn told_words(
+    alloc: Global,
+    terms: &[PackedTerm],
+    positions: &[u32],
+) -> Result<Vec<u32>, AllocError>
+    ensures { IfOk result (λ words. words.items ≡ told_words terms.now positions.now) }
+{
+    let first = narrow_sum(terms.len(), terms.len())? as usize + 1;
+    let end = narrow_sum(first, positions.len())?;
+    let room = terms.len().saturating_add(end as usize);
+    let mut words = Vec::with_capacity(alloc, room)?;
+    push_heads(&mut words, first, terms)?;
+    words.push(end)?;
+    words.extend_from_slice(positions)?;
+    push_wdfs(&mut words, terms)?;
+    Ok(words)
 }
 
 /// Whether each wdf is the number of the term's positions.
@@ -277,12 +294,14 @@ fn are_plain(terms: &[PackedTerm]) -> bool
     true
 }
 
-fn push_heads(words: &mut Vec<u32>, terms: &[PackedTerm]) -> Result<(), AllocError>
-    ensures { OnOk result (words.new.items ≡ words.old.items ++ heads_of terms.now) }
+fn push_heads(words: &mut Vec<u32>, first: usize, terms: &[PackedTerm]) -> Result<(), AllocError>
+    ensures { OnOk result (words.new.items ≡ words.old.items ++ heads_of first 0 terms.now) }
 {
+    let mut from = 0;
     'terms: for one in terms {
+        words.push(narrow_sum(first, from as usize)?)?;
         words.push(one.number)?;
-        words.push(one.end)?;
+        from = one.end;
     }
     Ok(())
 }
