@@ -1,6 +1,5 @@
 pub mod Indexed
 pub mod Listed
-pub mod Payloads
 pub mod Placed
 pub mod Slotted
 pub mod Stands

@@ -8,10 +8,10 @@ use Rattle.sk_dict.specs.Terms.{term_at}
 use Rattle.sk_documents.specs.Documented.{HasTerms}
 use Rattle.sk_model.specs.Documents.{Document}
 use Rattle.sk_lists.specs.Lists.{Runs}
-use Rattle.sk_index.specs.declared.slot_lists.SlotEntry.{SlotEntry}
 use Rattle.sk_packed.specs.Packed.{NumberedTerm, AreKnown}
+use Rattle.sk_packed.specs.Payloads.{Payloads, payload_of}
+use Rattle.sk_index.specs.declared.slot_lists.SlotEntry.{SlotEntry}
 use Rattle.sk_index.specs.Listed.{Listed}
-use Rattle.sk_index.specs.Payloads.{Payloads, payload_of}
 use Rattle.sk_index.specs.Slotted.{values_at}
 use Rattle.sk_index.specs.Stands.{ListsStand}
 

@@ -4,7 +4,6 @@
 mod all_places;
 mod index;
 mod lists;
-mod payloads;
 mod places;
 mod slot_lists;
 mod stats;

@@ -10,7 +10,7 @@ use std::marker::Model;
 /// A term of a document: its number in the dictionary, its wdf, and where its positions end. They begin where those of
 /// the term before end.
 #[derive(Clone, Copy)]
-pub struct PackedTerm {
+struct PackedTerm {
     number: u32,
     wdf: u32,
     end: u32,

@@ -1,7 +1,7 @@
 -- One term more.
 use Rattle.std.proofs.Common.{◌≡◌, ◌++◌, ◌∷◌, [], length, arith, ap, sym, ◌∙◌, subst}
-use Rattle.sk_index.specs.Listed.{Puts}
 use Rattle.sk_packed.specs.Packed.{NumberedTerm, AreKnown}
+use Rattle.sk_index.specs.Listed.{Puts}
 use Rattle.sk_index.proofs.ListedLemmas.{puts_on, puts_end}
 use Rattle.sk_index.specs.Unpacked.{named_all}
 use Rattle.sk_index.proofs.UnpackedLemmas.{Grows-then, names_on, knows_on}

@@ -1,7 +1,7 @@
 -- What the terms that are left do from here on, all terms do from the start; those that are done have their numbers.
 use Rattle.std.proofs.Common.{◌≡◌, drop, take, length}
-use Rattle.sk_index.specs.Listed.{Listed, PutsAll}
 use Rattle.sk_packed.specs.Packed.{AreKnown}
+use Rattle.sk_index.specs.Listed.{Listed, PutsAll}
 use Rattle.sk_index.specs.Unpacked.{named_all, Grows}
 use Rattle.sk_index.proofs.term_lists.TermLists.put_all.Given as goal
 

@@ -1,6 +1,6 @@
 //! The payloads of the documents.
 ghost use Rattle.std.specs.Prelude.{◌≡◌, ◌≤◌, [], IfOk, OnOk};
-ghost use Rattle.sk_index.specs.Payloads.{payload_of, KeepsPayloads};
+ghost use Rattle.sk_packed.specs.Payloads.{payload_of, KeepsPayloads};
 
 use sk_base::{DocId, Text};
 use sk_pieces::{Copier, Pieces};
@@ -9,13 +9,13 @@ use std::marker::Model;
 
 /// The payloads that are not empty, by their documents.
 #[derive(Drop)]
-pub(crate) struct Payloads {
+pub struct Payloads {
     texts: Pieces<Text>,
 }
 
 impl Model for Payloads {
     ghost use Rattle.sk_sorted.specs.Runs.{flat};
-    ghost use Rattle.sk_index.specs.Payloads.{Payloads as Seen};
+    ghost use Rattle.sk_packed.specs.Payloads.{Payloads as Seen};
 
     ghost Value = { Seen };
 

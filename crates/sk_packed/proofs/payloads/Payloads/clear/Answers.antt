@@ -3,8 +3,8 @@ use Rattle.std.proofs.Common.{sym, ap, ◌∙◌}
 use Rattle.sk_sorted.specs.Entries.{found}
 use Rattle.sk_sorted.proofs.EntryLaws.{found-without, found-without_other}
 use Rattle.sk_sorted.specs.Runs.{flat}
-use Rattle.sk_index.specs.Payloads.{text_or_empty, payload_of}
-use Rattle.sk_index.proofs.payloads.Payloads.clear.Goals as goal
+use Rattle.sk_packed.specs.Payloads.{text_or_empty, payload_of}
+use Rattle.sk_packed.proofs.payloads.Payloads.clear.Goals as goal
 
 pub returns-clause-value : goal.returns-clause-value
 returns-clause-value c = ap text_or_empty (ap (found c.args.id) c.take.ensures.after ∙ found-without 0 c.args.id (flat c.self.inside.texts) c.length-sorted.ensures.sorted.rise)
