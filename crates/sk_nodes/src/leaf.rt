@@ -171,6 +171,9 @@ impl Leaf {
         requires light { WeighBelow self.now.factor self.now.scheme self.now.need_wdf self.now.need }
         ensures { WeighBelow self.now.factor self.now.scheme result need }
     {
+        if need == 0 {
+            return 0;
+        }
         if need == self.need {
             return self.need_wdf;
         }
