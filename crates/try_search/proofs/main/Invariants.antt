@@ -1,4 +1,0 @@
-use Rattle.try_search.proofs.main.Given as goal
-
-abbrev pub ghosts-start : goal.ghosts-start
-ghosts-start a = record { name = a.blank.name; parts = a.blank.parts }
