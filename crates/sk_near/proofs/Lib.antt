@@ -1,4 +1,4 @@
-mod SoonestLemmas
+pub mod SoonestLemmas
 mod PhraseLemmas
 mod RunLemmas
 mod WindowLemmas

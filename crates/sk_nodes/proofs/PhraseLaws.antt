@@ -1,20 +1,11 @@
 -- A phrase of which two terms, one behind the other, stand too far apart.
-use Rattle.std.proofs.Common.{◌≡◌, ℕ, zero, suc, ◌+◌, ◌-◌, ◌<◌, ◌≤◌, Bool, true, false, ◌&&◌, ◌||◌, nat_lt, List, [], ◌∷◌, length, map, get_or, refl, sym, subst₂, arith, true≢false}
+use Rattle.std.proofs.Common.{◌≡◌, ℕ, zero, suc, ◌+◌, ◌-◌, ◌<◌, ◌≤◌, true, false, ◌&&◌, nat_lt, List, [], ◌∷◌, length, map, get_or, refl, sym, subst₂, arith}
 use Rattle.std.proofs.lemmas.Bool.{ltb-true}
 use Rattle.std.proofs.lemmas.List.{length-map, get_or-map}
-use Rattle.std.specs.List.{list_any}
 use Rattle.sk_base.proofs.Tests.{first_so, second_so}
 use Rattle.sk_model.specs.Positions.{phrase_from, is_phrase}
+use Rattle.sk_near.proofs.SoonestLemmas.{any_at}
 use Rattle.sk_packed.specs.Apart.{AreApart}
-
--- a position that passes, by its place
-any_at : (f : ℕ → Bool) (xs : List ℕ) → list_any f xs ≡ true → (k : ℕ) × (k < length xs) × (f (get_or xs k 0) ≡ true)
-any_at f [] e = absurd (true≢false (sym e))
-any_at f (x ∷ xs) e =
-    elim (f x) as (λ b. f x ≡ b → (b || list_any f xs) ≡ true → (k : ℕ) × (k < length (x ∷ xs)) × (f (get_or (x ∷ xs) k 0) ≡ true)) [
-      | true ↦ λ h k. (0, omega arith, h)
-      | false ↦ λ h k. let more = any_at f xs k in (suc more.0, omega (arith, more.1), more.2)
-    ] refl e
 
 -- each operand takes a place of the window
 takes_places : (window first last : ℕ) (more : List (List ℕ)) → phrase_from window first last more ≡ true → last + length more < first + window
