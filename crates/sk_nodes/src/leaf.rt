@@ -27,16 +27,17 @@ pub enum ListOf {
     All,
 }
 
-/// The entries of a list from one on. The need and what wdf it comes to are those of the last seek.
+/// The entries of a list from one on. The need and what wdf it comes to are those of the last seek under one.
 #[derive(Drop)]
 pub struct Leaf {
+    // What a step reads stands together.
     source: ListOf,
     scheme: Scheme,
     factor: u64,
-    need: Weight,
-    need_wdf: u32,
-    greatest: Weight,
     cursor: Cursor,
+    need_wdf: u32,
+    need: Weight,
+    greatest: Weight,
 }
 
 /// None of a leaf's entries weighs more, from some target on up to the last id.
@@ -146,6 +147,33 @@ impl Leaf {
         self.point(top);
     }
 
+    /// The same without a need.
+    #[inline(always)]
+    pub(crate) fn step<L: Ledger>(
+        &mut self,
+        top: &mut Top,
+        index: &Index,
+        target: Head,
+        spent: &mut u128,
+        steps: &mut Steps<L>,
+    )
+        requires sound { IsLeafOn index.now self.old }
+        requires top { IsTop index.now top.old (leaf self.old) }
+        requires below { top.old.head < target }
+        requires target { target < 2 ^ 32 }
+        requires room { spent.old + leaf_unread index.now self.old < 2 ^ 128 }
+        ensures lands { Lands index.now target 0 (leaf self.old) (leaf self.new) top.new }
+        ensures walks { Walks index.now target spent.old spent.new self.old self.new }
+        ensures falls { top.new.greatest ≤ top.old.greatest }
+        ensures moves { (point : ℕ) → target ≤ point + 1 → spent.new + count_to point (entries_of index.now self.new) ≤ spent.old + count_to point (entries_of index.now self.old) }
+        ensures spends { Spends (leaf_unread index.now self.old) (leaf_unread index.now self.new) spent.old spent.new steps.old steps.new }
+    {
+        let list = list_of(index, self.source);
+        let read = self.cursor.advance(list, target as u32, 0, steps);
+        *spent += u128::from(read);
+        self.point(top);
+    }
+
     /// How much its entries from the target on can weigh, up to the end of the chunk that the target falls into. It reads
     /// nothing.
     #[inline(always)]
@@ -171,9 +199,6 @@ impl Leaf {
         requires light { WeighBelow self.now.factor self.now.scheme self.now.need_wdf self.now.need }
         ensures { WeighBelow self.now.factor self.now.scheme result need }
     {
-        if need == 0 {
-            return 0;
-        }
         if need == self.need {
             return self.need_wdf;
         }

@@ -149,6 +149,6 @@ fn move_on<L: Ledger>(
     ensures later { ids_left queue.new < ids_left queue.old }
 {
     let mut top = top_of(queue, which);
-    leaves[which].advance(&mut top, index, target, 0, spent, steps);
+    leaves[which].step(&mut top, index, target, spent, steps);
     queue.set(which, mark_of(&top));
 }
