@@ -1,6 +1,4 @@
 pub mod ListedLemmas
-mod SlottedLemmas
-mod ValueLemmas
 mod StandsLemmas
 mod UnpackedLemmas
 pub mod NumberLemmas

@@ -23,7 +23,7 @@ pub Precedes-irrefl : (t : List ℕ) → Precedes t t → ⊥
 Precedes-irrefl t h = let same = tied_itself nat_list_cmp_total t in cc
 
 -- by whether a test holds
-pub by_test : {A : Type 0} (b : Bool) (x y z : A) → (b ≡ true → z ≡ x) → (b ≡ false → z ≡ y) → z ≡ (if b then x else y)
+by_test : {A : Type 0} (b : Bool) (x y z : A) → (b ≡ true → z ≡ x) → (b ≡ false → z ≡ y) → z ≡ (if b then x else y)
 by_test true x y z f g = f refl
 by_test false x y z f g = g refl
 
@@ -142,7 +142,7 @@ two_tests f g true false old mid once e = e
 two_tests f g false true old mid once e = ap g e
 two_tests f g false false old mid once e = e
 
-pub choice_of : {A B : Type 0} (h : A → B) (b : Bool) (x y : A) → (if b then h x else h y) ≡ h (if b then x else y)
+choice_of : {A B : Type 0} (h : A → B) (b : Bool) (x y : A) → (if b then h x else h y) ≡ h (if b then x else y)
 choice_of h true x y = refl
 choice_of h false x y = refl
 

@@ -19,10 +19,10 @@ use Rattle.sk_lists.specs.Lists.{Runs}
 use Rattle.sk_packed.specs.Packed.{NumberedTerm, no_term, numbered_at, AreKnown}
 use Rattle.sk_packed.specs.Payloads.{Payloads, KeepsPayloads}
 use Rattle.sk_packed.proofs.PackedLemmas.{AllByRecursion-push}
-use Rattle.sk_index.specs.declared.slot_lists.SlotEntry.{SlotEntry}
+use Rattle.sk_slots.specs.declared.slot_lists.SlotEntry.{SlotEntry}
+use Rattle.sk_slots.specs.Slotted.{SetsAll, ClearsAll, KeepsOthers}
 use Rattle.sk_index.specs.Unpacked.{with_its_text, named_all, unpacked, unpacked_all, HasKnown, Grows, AreWhole}
 use Rattle.sk_index.specs.Listed.{Listed, PutsAll, TakesOut, TakesOutAll}
-use Rattle.sk_index.specs.Slotted.{SetsAll, ClearsAll, KeepsOthers}
 use Rattle.sk_index.specs.Stands.{ListsStand}
 use Rattle.sk_index.proofs.ListedLemmas.{takes_on}
 use Rattle.sk_index.proofs.StandsLemmas.{Stands-put, Stands-without}

@@ -12,8 +12,8 @@ use Rattle.sk_dict.specs.Terms.{term_at, number_of, Precedes}
 use Rattle.sk_model.specs.Documents.{Document}
 use Rattle.sk_model.specs.Edits.{Live, document_at}
 use Rattle.sk_model.specs.Scores.{wild_wdf}
-use Rattle.sk_index.specs.declared.slot_lists.SlotEntry.{SlotEntry}
-use Rattle.sk_index.specs.Slotted.{slot_pieces}
+use Rattle.sk_slots.specs.declared.slot_lists.SlotEntry.{SlotEntry}
+use Rattle.sk_slots.specs.Slotted.{slot_pieces}
 
 -- What an index holds: the schema, the live documents, the terms that were given a number, by number, and
 -- how the list of all documents, that of each term and that of each slot are cut.

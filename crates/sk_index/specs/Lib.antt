@@ -1,7 +1,6 @@
 pub mod Indexed
 pub mod Listed
 pub mod Placed
-pub mod Slotted
 pub mod Stands
 pub mod Unpacked
 pub mod Wild

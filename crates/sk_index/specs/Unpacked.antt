@@ -10,9 +10,9 @@ use Rattle.sk_model.specs.Documents.{Document}
 use Rattle.sk_lists.specs.Lists.{Runs}
 use Rattle.sk_packed.specs.Packed.{NumberedTerm, AreKnown}
 use Rattle.sk_packed.specs.Payloads.{Payloads, payload_of}
-use Rattle.sk_index.specs.declared.slot_lists.SlotEntry.{SlotEntry}
+use Rattle.sk_slots.specs.declared.slot_lists.SlotEntry.{SlotEntry}
+use Rattle.sk_slots.specs.Slotted.{values_at}
 use Rattle.sk_index.specs.Listed.{Listed}
-use Rattle.sk_index.specs.Slotted.{values_at}
 use Rattle.sk_index.specs.Stands.{ListsStand}
 
 -- A term with the text that the dictionary has for its number.

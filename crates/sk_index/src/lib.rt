@@ -5,7 +5,6 @@ mod all_places;
 mod index;
 mod lists;
 mod places;
-mod slot_lists;
 mod stats;
 mod term_lists;
 

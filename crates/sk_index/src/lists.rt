@@ -9,13 +9,13 @@ ghost use Rattle.sk_index.specs.Indexed.{HavePositions, all_postings};
 ghost use Rattle.sk_index.specs.Stands.{AreListsOf, AreSlotsOf};
 ghost use Rattle.sk_index.specs.Unpacked.{named_all, unpacked, unpacked_all, AreWhole};
 
-use crate::slot_lists::SlotLists;
 use crate::term_lists::TermLists;
 use sk_base::{Doc, DocId};
 use sk_documents::Keeper;
 use sk_lists::List;
 use sk_packed::{PackedTerms, Payloads, TermsCopier};
 use sk_pieces::Pieces;
+use sk_slots::SlotLists;
 use std::alloc::{AllocError, Global};
 use std::marker::Model;
 

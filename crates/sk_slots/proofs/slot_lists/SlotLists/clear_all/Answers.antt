@@ -2,11 +2,11 @@
 use Rattle.std.proofs.Common.{List, length, take, drop, set, ◌++◌, arith, sym, ap, subst, ◌∙◌}
 use Rattle.sk_sorted.specs.Entries.{without}
 use Rattle.sk_sorted.specs.Runs.{flat}
-use Rattle.sk_index.specs.declared.slot_lists.SlotEntry.{SlotEntry}
-use Rattle.sk_index.specs.Slotted.{ClearsAll, KeepsOthers}
-use Rattle.sk_index.proofs.SlottedLemmas.{cut_none, cut_on, rise_back, clears_back}
-use Rattle.sk_index.proofs.ValueLemmas.{others_cleared}
-use Rattle.sk_index.proofs.slot_lists.SlotLists.clear_all.Goals as goal
+use Rattle.sk_slots.specs.declared.slot_lists.SlotEntry.{SlotEntry}
+use Rattle.sk_slots.specs.Slotted.{ClearsAll, KeepsOthers}
+use Rattle.sk_slots.proofs.SlottedLemmas.{cut_none, cut_on, rise_back, clears_back}
+use Rattle.sk_slots.proofs.ValueLemmas.{others_cleared}
+use Rattle.sk_slots.proofs.slot_lists.SlotLists.clear_all.Goals as goal
 
 pub slots-init : goal.slots-init
 slots-init c = cut_none _ _

@@ -6,7 +6,7 @@ use Rattle.sk_base.specs.Documents.{has_value, value_in}
 use Rattle.sk_sorted.specs.Entries.{put, without, found}
 use Rattle.sk_sorted.specs.Runs.{flat}
 use Rattle.sk_values.specs.SlotValues.{SlotValues, SlotRuns}
-use Rattle.sk_index.specs.declared.slot_lists.SlotEntry.{SlotEntry}
+use Rattle.sk_slots.specs.declared.slot_lists.SlotEntry.{SlotEntry}
 
 -- The pieces of the list of a slot, none where there is no list.
 abbrev pub slot_pieces : ℕ → List SlotEntry → SlotRuns

@@ -2,10 +2,10 @@
 use Rattle.std.proofs.Common.{length, ap, arith, sym, subst}
 use Rattle.std.specs.Vec.Iter.{into_iter_items}
 use Rattle.sk_base.specs.Documents.{AreValues}
-use Rattle.sk_index.specs.Slotted.{SetsAll, RiseFrom}
-use Rattle.sk_index.proofs.SlottedLemmas.{all_left, one_given, all_given}
-use Rattle.sk_index.proofs.ValueLemmas.{values_given, others_given}
-use Rattle.sk_index.proofs.slot_lists.SlotLists.set_all.Goals as goal
+use Rattle.sk_slots.specs.Slotted.{SetsAll, RiseFrom}
+use Rattle.sk_slots.proofs.SlottedLemmas.{all_left, one_given, all_given}
+use Rattle.sk_slots.proofs.ValueLemmas.{values_given, others_given}
+use Rattle.sk_slots.proofs.slot_lists.SlotLists.set_all.Goals as goal
 
 pub values-init : goal.values-init
 values-init c = (

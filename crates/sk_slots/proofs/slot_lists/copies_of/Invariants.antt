@@ -1,5 +1,5 @@
 use Rattle.std.proofs.Common.{◌≡◌, take}
-use Rattle.sk_index.proofs.slot_lists.copies_of.Given as goal
+use Rattle.sk_slots.proofs.slot_lists.copies_of.Given as goal
 
 abbrev pub invariant-copies : goal.invariant-copies
 invariant-copies l = l.copies.items ≡ take l.one-index l.slots

@@ -2,10 +2,10 @@
 use Rattle.std.proofs.Common.{◌==◌, position, sym, ap, ◌∙◌}
 use Rattle.sk_sorted.specs.Runs.{flat}
 use Rattle.sk_values.specs.SlotValues.{SlotRuns}
-use Rattle.sk_index.specs.declared.slot_lists.SlotEntry.{SlotEntry}
-use Rattle.sk_index.specs.Slotted.{slot_pieces}
-use Rattle.sk_index.proofs.SlottedLemmas.{pieces_at, none_from, slot_pieces-none, flat-slot_pieces}
-use Rattle.sk_index.proofs.slot_lists.SlotLists.list.Goals as goal
+use Rattle.sk_slots.specs.declared.slot_lists.SlotEntry.{SlotEntry}
+use Rattle.sk_slots.specs.Slotted.{slot_pieces}
+use Rattle.sk_slots.proofs.SlottedLemmas.{pieces_at, none_from, slot_pieces-none, flat-slot_pieces}
+use Rattle.sk_slots.proofs.slot_lists.SlotLists.list.Goals as goal
 
 pub returns-in-Some-clause-pieces : goal.returns-in-Some-clause-pieces
 returns-in-Some-clause-pieces c =

@@ -3,10 +3,10 @@ use Rattle.std.proofs.Common.{rules, ◌==◌, if◌then◌else◌, List, length
 use Rattle.std.proofs.lemmas.List.Sorted.{IsPartitionPoint-from_clause}
 use Rattle.sk_sorted.specs.Entries.{put}
 use Rattle.sk_sorted.specs.Runs.{flat}
-use Rattle.sk_index.specs.declared.slot_lists.SlotEntry.{SlotEntry}
-use Rattle.sk_index.specs.Slotted.{slot_list, RiseFrom}
-use Rattle.sk_index.proofs.SlottedLemmas.{set_at, none_from, slot_list-insert, slots_parted, rise_at, rise_with}
-use Rattle.sk_index.proofs.slot_lists.SlotLists.set.Goals as goal
+use Rattle.sk_slots.specs.declared.slot_lists.SlotEntry.{SlotEntry}
+use Rattle.sk_slots.specs.Slotted.{slot_list, RiseFrom}
+use Rattle.sk_slots.proofs.SlottedLemmas.{set_at, none_from, slot_list-insert, slots_parted, rise_at, rise_with}
+use Rattle.sk_slots.proofs.slot_lists.SlotLists.set.Goals as goal
 
 pub invariant_of-self : goal.invariant_of-self
 invariant_of-self c = (c.self.invariant.0, rise_at c.self.inside.slots.items c.in-Some.at c.index_mut.result.now c.set.new.self (omega (arith, c.in-Some.ensures.there, ap length c.self.view_is)) c.index_mut.ensures.value c.self.invariant.1)

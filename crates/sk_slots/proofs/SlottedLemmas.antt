@@ -14,9 +14,13 @@ use Rattle.sk_base.specs.Documents.{AreValues, has_value, value_in}
 use Rattle.sk_sorted.specs.Entries.{put, without}
 use Rattle.sk_sorted.specs.Runs.{flat}
 use Rattle.sk_values.specs.SlotValues.{SlotValues, SlotRuns}
-use Rattle.sk_index.specs.declared.slot_lists.SlotEntry.{SlotEntry}
-use Rattle.sk_index.specs.Slotted.{slot_pieces, slot_list, Sets, SetsAll, ClearsAll, RiseFrom}
-use Rattle.sk_index.proofs.ListedLemmas.{by_test, choice_of}
+use Rattle.sk_slots.specs.declared.slot_lists.SlotEntry.{SlotEntry}
+use Rattle.sk_slots.specs.Slotted.{slot_pieces, slot_list, Sets, SetsAll, ClearsAll, RiseFrom}
+
+-- by whether a test holds
+by_test : {A : Type 0} (b : Bool) (x y z : A) → (b ≡ true → z ≡ x) → (b ≡ false → z ≡ y) → z ≡ (if b then x else y)
+by_test true x y z f g = f refl
+by_test false x y z f g = g refl
 
 -- no slot of these is this one
 abbrev pub NoSlot : ℕ → List SlotEntry → Type 0
@@ -310,6 +314,10 @@ two_tests f g true true old mid once e = absurd (true≢false (once refl))
 two_tests f g true false old mid once e = e
 two_tests f g false true old mid once e = ap g e
 two_tests f g false false old mid once e = e
+
+choice_of : {A B : Type 0} (h : A → B) (b : Bool) (x y : A) → (if b then h x else h y) ≡ h (if b then x else y)
+choice_of h true x y = refl
+choice_of h false x y = refl
 
 SetsAll-more : (id : ℕ) (x : SlotValue) (xs : List SlotValue) (old mid new : List SlotEntry) → AreValues (x ∷ xs) → Sets id x.slot x.value old mid → SetsAll id xs mid new → SetsAll id (x ∷ xs) old new
 SetsAll-more id x xs old mid new sound one all s =

@@ -9,8 +9,8 @@ use Rattle.sk_base.specs.Documents.{AreValues, has_value, value_in}
 use Rattle.sk_sorted.specs.Entries.{put, found}
 use Rattle.sk_sorted.proofs.EntryLaws.{found-put, found-put_other, found-without_other}
 use Rattle.sk_sorted.specs.Runs.{flat}
-use Rattle.sk_index.specs.declared.slot_lists.SlotEntry.{SlotEntry}
-use Rattle.sk_index.specs.Slotted.{slot_list, SetsAll, ClearsAll, RiseFrom, values_at, KeepsOthers, IsNowhere}
+use Rattle.sk_slots.specs.declared.slot_lists.SlotEntry.{SlotEntry}
+use Rattle.sk_slots.specs.Slotted.{slot_list, SetsAll, ClearsAll, RiseFrom, values_at, KeepsOthers, IsNowhere}
 
 -- the value in a slot, where there is one
 abbrev value_under : ℕ → List SlotValue → Option (List ℕ)

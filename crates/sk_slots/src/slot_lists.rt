@@ -2,7 +2,7 @@
 ghost use Rattle.std.specs.Prelude.{◌≡◌, ◌≤◌, ◌<◌, ◌==◌, [], length, position, IfOk, OnOk, IfSome};
 ghost use Rattle.sk_base.specs.Documents.{AreValues};
 ghost use Rattle.sk_sorted.specs.Runs.{flat};
-ghost use Rattle.sk_index.specs.Slotted.{slot_pieces, slot_list, Sets, SetsAll, ClearsAll, RiseFrom, IsNowhere, KeepsOthers, values_at};
+ghost use Rattle.sk_slots.specs.Slotted.{slot_pieces, slot_list, Sets, SetsAll, ClearsAll, RiseFrom, IsNowhere, KeepsOthers, values_at};
 
 use sk_base::{Bytes, DocId, SlotValue};
 use sk_values::{SlotList, Value};
@@ -18,7 +18,7 @@ pub(crate) struct SlotEntry {
 
 /// A list for each slot in which a document has a value, or had one, by rising slot.
 #[derive(Drop)]
-pub(crate) struct SlotLists {
+pub struct SlotLists {
     alloc: Global,
     slots: Vec<SlotEntry>,
     /// The list of all other slots, without an entry.
@@ -27,8 +27,8 @@ pub(crate) struct SlotLists {
 
 impl Model for SlotLists {
     ghost use Rattle.std.specs.Prelude.{◌≡◌, List, []};
-    ghost use Rattle.sk_index.specs.declared.slot_lists.SlotEntry.{SlotEntry};
-    ghost use Rattle.sk_index.specs.Slotted.{RiseFrom};
+    ghost use Rattle.sk_slots.specs.declared.slot_lists.SlotEntry.{SlotEntry};
+    ghost use Rattle.sk_slots.specs.Slotted.{RiseFrom};
 
     ghost Value = { List SlotEntry };
 

@@ -1,0 +1,2 @@
+mod SlottedLemmas
+mod ValueLemmas
