@@ -16,12 +16,13 @@ use Rattle.sk_model.specs.Documents.{Document}
 use Rattle.sk_model.specs.Edits.{document_at}
 use Rattle.sk_model.specs.Scores.{wild_wdf}
 use Rattle.sk_documents.specs.Documented.{HasTerms}
+use Rattle.sk_terms.specs.Listed.{Listed, list_of, IsListed}
+use Rattle.sk_terms.specs.Wild.{over, share_behind, sum_behind}
+use Rattle.sk_terms.proofs.ListedLemmas.{AreTerms-tail, once_at}
+use Rattle.sk_terms.proofs.WalkLemmas.{only, over-same, over-none, over-sum, over-only, sum_behind-next, sum_behind-none}
 use Rattle.sk_index.specs.Indexed.{postings, AreAllWith}
-use Rattle.sk_index.specs.Listed.{Listed, list_of, IsListed}
-use Rattle.sk_index.specs.Wild.{over, share_behind, sum_behind}
-use Rattle.sk_index.proofs.ListedLemmas.{AreTerms-tail, once_at}
 use Rattle.sk_index.proofs.NumberLemmas.{wdf_of-none}
-use Rattle.sk_index.proofs.WildLemmas.{Holds, only, over-same, over-none, over-sum, over-only, sum_behind-next, sum_behind-none, sum_behind-terms_with, holds_all, length_of-none, greatest_of-none}
+use Rattle.sk_index.proofs.WildLemmas.{Holds, sum_behind-terms_with, holds_all, length_of-none, greatest_of-none}
 
 -- a sum over the walk
 pub walk-sum : (f : List ℕ → ℕ) (terms : List (List ℕ)) (prefix : List ℕ) (after : Option ℕ) (ns : List ℕ) → AllPairs (λ s t. s ≢ t) terms → IsWalk terms prefix after ns

@@ -1,4 +1,3 @@
-pub mod ListedLemmas
 mod StandsLemmas
 mod UnpackedLemmas
 pub mod NumberLemmas

@@ -12,8 +12,8 @@ use Rattle.sk_model.specs.Documents.{Document}
 use Rattle.sk_model.specs.Sharp.{up}
 use Rattle.sk_lists.specs.Seeks.{count_to}
 use Rattle.sk_dict.specs.Terms.{number_of}
+use Rattle.sk_terms.specs.Listed.{Listed, list_of, list_under}
 use Rattle.sk_index.specs.Indexed.{postings, slot_values}
-use Rattle.sk_index.specs.Listed.{Listed, list_of, list_under}
 use Rattle.sk_sorted.specs.Entries.{ids_of}
 use Rattle.sk_documents.specs.Removing.{ids_with}
 

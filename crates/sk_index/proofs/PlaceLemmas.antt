@@ -13,11 +13,11 @@ use Rattle.sk_base.specs.Order.{Precedes}
 use Rattle.sk_base.specs.Documents.{AreTerms, positions_of}
 use Rattle.sk_dict.specs.Terms.{term_at, term_cmp}
 use Rattle.sk_packed.specs.Packed.{NumberedTerm, no_term, numbered_at, positions_at_place, AreKnown}
+use Rattle.sk_terms.specs.Named.{with_its_text, named_all}
+use Rattle.sk_terms.proofs.ListedLemmas.{Precedes-irrefl}
+use Rattle.sk_terms.proofs.NamedLemmas.{known_at, named_at}
+use Rattle.sk_terms.proofs.WalkLemmas.{less_is}
 use Rattle.sk_index.specs.Placed.{IsBetween}
-use Rattle.sk_index.specs.Unpacked.{with_its_text, named_all}
-use Rattle.sk_index.proofs.ListedLemmas.{Precedes-irrefl}
-use Rattle.sk_index.proofs.UnpackedLemmas.{known_at, named_at}
-use Rattle.sk_index.proofs.WildLemmas.{less_is}
 
 module _ (t : List ℕ) (terms : List DocTerm) (rising : AreTerms terms) where
   -- the term in the middle stands before it

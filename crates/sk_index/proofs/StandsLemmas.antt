@@ -18,8 +18,8 @@ use Rattle.sk_model.specs.Documents.{Document}
 use Rattle.sk_model.specs.Edits.{document_at, put_document, without_id}
 use Rattle.sk_slots.specs.declared.slot_lists.SlotEntry.{SlotEntry}
 use Rattle.sk_slots.specs.Slotted.{SetsAll, ClearsAll, IsNowhere}
+use Rattle.sk_terms.specs.Listed.{Listed, PutsAll, TakesOutAll}
 use Rattle.sk_index.specs.Indexed.{posting_in, postings, all_postings, valued_in, slot_values, slot_value}
-use Rattle.sk_index.specs.Listed.{Listed, PutsAll, TakesOutAll}
 use Rattle.sk_index.specs.Stands.{AreSlotsOf, ListsStand}
 
 -- an entry has the id of its document

@@ -5,8 +5,8 @@ use Rattle.sk_sorted.specs.Runs.{flat}
 use Rattle.sk_lists.specs.Lists.{Runs}
 use Rattle.sk_slots.specs.declared.slot_lists.SlotEntry.{SlotEntry}
 use Rattle.sk_slots.specs.Slotted.{slot_list}
+use Rattle.sk_terms.specs.Listed.{Listed, list_of}
 use Rattle.sk_index.specs.Indexed.{postings, all_postings, slot_values}
-use Rattle.sk_index.specs.Listed.{Listed, list_of}
 
 -- The list of each term is what the documents give.
 abbrev pub AreListsOf : Docs → Listed → Type 0

@@ -1,10 +1,8 @@
 -- The documents that packed ones are under a dictionary and the lists of the slots.
-use Rattle.std.specs.Prelude.{◌≡◌, ◌<◌, ◌≤◌, ℕ, List, length, map}
+use Rattle.std.specs.Prelude.{ℕ, List, length, map}
 use Rattle.std.specs.List.{AllByRecursion}
 use Rattle.sk_sorted.specs.Entries.{RiseAbove}
-use Rattle.sk_base.specs.declared.doc_entry.DocTerm.{DocTerm}
 use Rattle.sk_base.specs.Numbers.{Docs}
-use Rattle.sk_dict.specs.Terms.{term_at}
 use Rattle.sk_documents.specs.Documented.{HasTerms}
 use Rattle.sk_model.specs.Documents.{Document}
 use Rattle.sk_lists.specs.Lists.{Runs}
@@ -12,16 +10,9 @@ use Rattle.sk_packed.specs.Packed.{NumberedTerm, AreKnown}
 use Rattle.sk_packed.specs.Payloads.{Payloads, payload_of}
 use Rattle.sk_slots.specs.declared.slot_lists.SlotEntry.{SlotEntry}
 use Rattle.sk_slots.specs.Slotted.{values_at}
-use Rattle.sk_index.specs.Listed.{Listed}
+use Rattle.sk_terms.specs.Listed.{Listed}
+use Rattle.sk_terms.specs.Named.{named_all}
 use Rattle.sk_index.specs.Stands.{ListsStand}
-
--- A term with the text that the dictionary has for its number.
-abbrev pub with_its_text : List (List ℕ) → NumberedTerm → DocTerm
-with_its_text dict one = record { term = term_at dict one.number; wdf = one.wdf; positions = one.positions }
-
--- The same of several.
-abbrev pub named_all : List (List ℕ) → List NumberedTerm → List DocTerm
-named_all dict terms = map (with_its_text dict) terms
 
 -- The document whose terms are packed, under its id: its values stand in the lists of the slots, its payload among the payloads.
 abbrev pub unpacked : List (List ℕ) → List SlotEntry → Payloads → ℕ → List NumberedTerm → Document
@@ -34,11 +25,6 @@ unpacked_all dict slots payloads entries = map (λ e. (e.0, unpacked dict slots 
 -- The numbers of a packed document, with its id, have terms.
 abbrev pub HasKnown : List (List ℕ) → ℕ × List NumberedTerm → Type 0
 HasKnown dict entry = AreKnown (length dict) entry.1
-
--- Terms came at the end of a dictionary: each number that had a term has it still.
-pub record Grows (old new : List (List ℕ)) : Type 0 where
-  pub longer : length old ≤ length new
-  pub same : (n : ℕ) → n < length old → term_at new n ≡ term_at old n
 
 -- What the keeper of an index holds: documents, the lists of all and of each term, those of the slots, and the payloads.
 pub record Kept : Type 0 where

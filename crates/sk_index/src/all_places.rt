@@ -6,13 +6,13 @@ ghost use Rattle.sk_base.specs.Documents.{AreTerms, positions_of};
 ghost use Rattle.sk_dict.specs.Terms.{term_at};
 ghost use Rattle.sk_packed.specs.Apart.{AreApart};
 ghost use Rattle.sk_packed.specs.Packed.{AreKnown, positions_at_place};
-ghost use Rattle.sk_index.specs.Unpacked.{named_all};
+ghost use Rattle.sk_terms.specs.Named.{named_all};
 
 use crate::places::place_in;
-use crate::term_lists::TermLists;
 use sk_base::Operands;
 use sk_packed::{PackedTerms, are_apart};
 use sk_steps::Steps;
+use sk_terms::TermLists;
 use std::marker::Model;
 use std::sync::ledger::Ledger;
 

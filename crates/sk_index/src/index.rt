@@ -15,20 +15,20 @@ ghost use Rattle.sk_model.specs.Edits.{nothing_live, edited, reply_to, document_
 ghost use Rattle.sk_documents.specs.Documented.{HasTerms};
 ghost use Rattle.sk_packed.specs.Apart.{AreApart};
 ghost use Rattle.sk_packed.specs.Packed.{AreKnown};
+ghost use Rattle.sk_terms.specs.Named.{named_all};
 ghost use Rattle.sk_index.specs.Indexed.{Indexed, list_runs, pieces_in, postings, all_postings, slot_values, slot_value, term_positions, HavePositions, AreNumbered, AreAllWith};
 ghost use Rattle.sk_index.specs.Stands.{AreListsOf, AreSlotsOf};
-ghost use Rattle.sk_index.specs.Unpacked.{named_all};
 
 use crate::all_places::AllPlaces;
 use crate::lists::Lists;
 use crate::places::{Places, positions_in};
-use crate::term_lists::TermLists;
 use sk_base::{Doc, DocId, Edit, Field, FieldKind, Reply, Schema};
 use sk_documents::{Documents, Keeper};
 use sk_lists::List;
 use sk_packed::PackedTerms;
 use sk_slots::SlotLists;
 use sk_steps::Steps;
+use sk_terms::TermLists;
 use sk_values::SlotList;
 use std::alloc::{AllocError, Global};
 use std::fmt::{Debug, Error, Formatter, Write};

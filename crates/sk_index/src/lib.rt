@@ -6,7 +6,6 @@ mod index;
 mod lists;
 mod places;
 mod stats;
-mod term_lists;
 
 pub use all_places::AllPlaces;
 pub use index::Index;

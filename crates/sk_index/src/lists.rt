@@ -5,17 +5,18 @@ ghost use Rattle.sk_base.specs.Documents.{AreTerms};
 ghost use Rattle.sk_sorted.specs.Runs.{flat};
 ghost use Rattle.sk_model.specs.Edits.{document_at, put_document};
 ghost use Rattle.sk_packed.specs.Packed.{AreKnown};
+ghost use Rattle.sk_terms.specs.Named.{named_all};
 ghost use Rattle.sk_index.specs.Indexed.{HavePositions, all_postings};
 ghost use Rattle.sk_index.specs.Stands.{AreListsOf, AreSlotsOf};
-ghost use Rattle.sk_index.specs.Unpacked.{named_all, unpacked, unpacked_all, AreWhole};
+ghost use Rattle.sk_index.specs.Unpacked.{unpacked, unpacked_all, AreWhole};
 
-use crate::term_lists::TermLists;
 use sk_base::{Doc, DocId};
 use sk_documents::Keeper;
 use sk_lists::List;
 use sk_packed::{PackedTerms, Payloads, TermsCopier};
 use sk_pieces::Pieces;
 use sk_slots::SlotLists;
+use sk_terms::TermLists;
 use std::alloc::{AllocError, Global};
 use std::marker::Model;
 

@@ -5,13 +5,13 @@ ghost use Rattle.sk_base.specs.Order.{ArePositions};
 ghost use Rattle.sk_base.specs.Documents.{AreTerms, positions_of};
 ghost use Rattle.sk_dict.specs.Terms.{term_at, term_cmp};
 ghost use Rattle.sk_packed.specs.Packed.{AreKnown, numbered_at, positions_at_place};
+ghost use Rattle.sk_terms.specs.Named.{named_all};
 ghost use Rattle.sk_index.specs.Placed.{IsBetween};
-ghost use Rattle.sk_index.specs.Unpacked.{named_all};
 
-use crate::term_lists::TermLists;
 use sk_base::DocId;
 use sk_packed::PackedTerms;
 use sk_steps::Steps;
+use sk_terms::TermLists;
 use std::cmp::Ordering;
 use std::marker::Model;
 use std::sync::ledger::Ledger;

@@ -3,8 +3,8 @@ ghost use Rattle.std.specs.Prelude.{◌≡◌};
 ghost use Rattle.sk_base.specs.Numbers.{live_of, length_of, greatest_of, wild_length_of, wild_greatest_of, slot_length_of};
 
 use crate::Index;
-use crate::term_lists::Figure;
 use sk_base::{MOST_WDF, Stats};
+use sk_terms::Figure;
 
 impl Stats for Index {
     ghost documents = { λ i. i.live.documents };

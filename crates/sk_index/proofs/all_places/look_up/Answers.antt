@@ -4,7 +4,7 @@ use Rattle.std.proofs.lemmas.List.{get_or-set_other}
 use Rattle.sk_base.specs.Documents.{positions_of}
 use Rattle.sk_dict.specs.Terms.{term_at}
 use Rattle.sk_packed.specs.Packed.{positions_at_place}
-use Rattle.sk_index.specs.Unpacked.{named_all}
+use Rattle.sk_terms.specs.Named.{named_all}
 use Rattle.sk_index.proofs.PlaceLemmas.{looked_up}
 use Rattle.sk_index.proofs.all_places.look_up.Goals as goal
 

@@ -3,7 +3,7 @@ use Rattle.std.proofs.Common.{◌≡◌, ◌≤◌, ◌<◌, ◌+◌, ℕ, lengt
 use Rattle.sk_base.specs.Documents.{positions_of}
 use Rattle.sk_dict.specs.Terms.{term_at}
 use Rattle.sk_packed.specs.Packed.{positions_at_place}
-use Rattle.sk_index.specs.Unpacked.{named_all}
+use Rattle.sk_terms.specs.Named.{named_all}
 use Rattle.sk_index.proofs.all_places.look_up.Given as goal
 
 abbrev pub invariant-terms : goal.invariant-terms

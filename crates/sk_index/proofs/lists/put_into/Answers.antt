@@ -2,7 +2,7 @@
 use Rattle.sk_sorted.specs.Runs.{flat}
 use Rattle.std.proofs.Common.{◌≡◌, subst, ◌∙◌}
 use Rattle.sk_slots.specs.Slotted.{SetsAll, values_at}
-use Rattle.sk_index.specs.Listed.{PutsAll}
+use Rattle.sk_terms.specs.Listed.{PutsAll}
 use Rattle.sk_index.specs.Unpacked.{unpacked, unpacked_all}
 use Rattle.sk_index.proofs.StandsLemmas.{nowhere_from}
 use Rattle.sk_index.proofs.UnpackedLemmas.{AreWhole-put, documents-put}

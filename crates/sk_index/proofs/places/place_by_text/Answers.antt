@@ -3,9 +3,9 @@ use Rattle.std.proofs.Common.{◌≡◌, length, sym, ◌∙◌, arith}
 use Rattle.std.proofs.lemmas.List.{length-map}
 use Rattle.sk_base.specs.declared.doc_entry.DocTerm.{DocTerm}
 use Rattle.sk_packed.specs.Packed.{numbered_at}
-use Rattle.sk_index.specs.Unpacked.{with_its_text, named_all}
+use Rattle.sk_terms.specs.Named.{with_its_text, named_all}
+use Rattle.sk_terms.proofs.NamedLemmas.{named_at}
 use Rattle.sk_index.proofs.PlaceLemmas.{positions_found, positions_past, positions-past}
-use Rattle.sk_index.proofs.UnpackedLemmas.{named_at}
 use Rattle.sk_index.proofs.places.place_by_text.Goals as goal
 
 pub returns-then-place-len-clause-value : goal.returns-then-place-len-clause-value

@@ -5,9 +5,9 @@ use Rattle.std.proofs.lemmas.List.{length-map}
 use Rattle.sk_base.specs.declared.doc_entry.DocTerm.{DocTerm}
 use Rattle.sk_dict.specs.Terms.{term_at, term_cmp}
 use Rattle.sk_packed.specs.Packed.{numbered_at}
-use Rattle.sk_index.specs.Unpacked.{with_its_text, named_all}
+use Rattle.sk_terms.specs.Named.{with_its_text, named_all}
+use Rattle.sk_terms.proofs.NamedLemmas.{named_at}
 use Rattle.sk_index.proofs.PlaceLemmas.{halved_low, halved_high}
-use Rattle.sk_index.proofs.UnpackedLemmas.{named_at}
 use Rattle.sk_index.proofs.places.place_of.Goals as goal
 
 pub halves-preserved-then-is_before : goal.halves-preserved-then-is_before

@@ -1,7 +1,7 @@
 -- What the halves that were left out say of the terms.
 use Rattle.std.proofs.Common.{◌-◌}
+use Rattle.sk_terms.specs.Named.{named_all}
 use Rattle.sk_index.specs.Placed.{IsBetween}
-use Rattle.sk_index.specs.Unpacked.{named_all}
 use Rattle.sk_index.proofs.places.place_of.Given as goal
 
 abbrev pub invariant-halves : goal.invariant-halves

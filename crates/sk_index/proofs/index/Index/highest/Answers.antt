@@ -1,7 +1,7 @@
 -- No document has a term without a number.
 use Rattle.std.proofs.Common.{ap, ◌∙◌}
 use Rattle.sk_dict.specs.Terms.{number_of}
-use Rattle.sk_index.specs.Listed.{Listed}
+use Rattle.sk_terms.specs.Listed.{Listed}
 use Rattle.sk_index.proofs.NumberLemmas.{all_numbered}
 use Rattle.sk_index.proofs.index.Index.highest.Goals as goal
 

@@ -1,8 +1,8 @@
 -- The list is that of the documents.
 use Rattle.std.proofs.Common.{ap, ◌∙◌}
 use Rattle.sk_dict.specs.Terms.{term_at}
+use Rattle.sk_terms.specs.Listed.{Listed}
 use Rattle.sk_index.specs.Indexed.{postings}
-use Rattle.sk_index.specs.Listed.{Listed}
 use Rattle.sk_index.proofs.index.Index.list.Goals as goal
 
 pub returns-clause-entries : goal.returns-clause-entries

@@ -2,7 +2,7 @@
 use Rattle.std.proofs.Common.{MatchOption, length, false, subst, ◌≡◌, ◌<◌}
 use Rattle.sk_base.specs.Numbers.{some_has}
 use Rattle.sk_dict.specs.Terms.{term_at}
-use Rattle.sk_index.specs.Listed.{Listed}
+use Rattle.sk_terms.specs.Listed.{Listed}
 use Rattle.sk_index.proofs.NumberLemmas.{found_in}
 use Rattle.sk_index.proofs.index.Index.number_of.Goals as goal
 

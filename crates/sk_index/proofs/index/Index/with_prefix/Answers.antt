@@ -1,7 +1,7 @@
 -- The walk over the terms gives all that the documents have.
 use Rattle.std.proofs.Common.{subst}
+use Rattle.sk_terms.specs.Listed.{Listed}
 use Rattle.sk_index.specs.Indexed.{AreAllWith}
-use Rattle.sk_index.specs.Listed.{Listed}
 use Rattle.sk_index.proofs.AllWithLemmas.{all_with}
 use Rattle.sk_index.proofs.index.Index.with_prefix.Goals as goal
 

@@ -4,7 +4,8 @@ use Rattle.std.proofs.Common.{List, length, option_map, sym, ap, ◌∙◌}
 use Rattle.sk_base.specs.Documents.{AreTerms}
 use Rattle.sk_sorted.specs.Entries.{found}
 use Rattle.sk_packed.specs.Packed.{NumberedTerm, AreKnown}
-use Rattle.sk_index.specs.Unpacked.{named_all, unpacked}
+use Rattle.sk_terms.specs.Named.{named_all}
+use Rattle.sk_index.specs.Unpacked.{unpacked}
 use Rattle.sk_index.proofs.UnpackedLemmas.{mapped_twice, some_of, unpacked-found, found-known, found-ordered}
 use Rattle.sk_index.proofs.lists.Lists.packed.Goals as goal
 

@@ -2,9 +2,9 @@
 use Rattle.std.proofs.Common.{◌^◌, ◌-◌, min, ap, ◌∙◌}
 use Rattle.sk_base.specs.Numbers.{greatest_of}
 use Rattle.sk_chunks.specs.Postings.{greatest_wdf}
-use Rattle.sk_index.specs.Listed.{list_of}
-use Rattle.sk_index.specs.Wild.{figure_of}
-use Rattle.sk_index.specs.declared.term_lists.Figure.TheVariants as Figure
+use Rattle.sk_terms.specs.Listed.{list_of}
+use Rattle.sk_terms.specs.Wild.{figure_of}
+use Rattle.sk_terms.specs.declared.term_lists.Figure.TheVariants as Figure
 use Rattle.sk_index.proofs.WildLemmas.{sum_behind-terms_with, greatest_of-none}
 use Rattle.sk_index.proofs.NumberLemmas.{greatest-postings}
 use Rattle.sk_index.proofs.stats.IndexStats.wild_greatest.Goals as goal

@@ -3,9 +3,9 @@ use Rattle.std.proofs.Common.{ℕ, min, length, ap, ◌∙◌}
 use Rattle.std.proofs.lemmas.List.{length-map}
 use Rattle.sk_base.specs.Numbers.{length_of}
 use Rattle.sk_model.specs.Documents.{Document}
-use Rattle.sk_index.specs.Listed.{list_of}
-use Rattle.sk_index.specs.Wild.{figure_of}
-use Rattle.sk_index.specs.declared.term_lists.Figure.TheVariants as Figure
+use Rattle.sk_terms.specs.Listed.{list_of}
+use Rattle.sk_terms.specs.Wild.{figure_of}
+use Rattle.sk_terms.specs.declared.term_lists.Figure.TheVariants as Figure
 use Rattle.sk_index.proofs.WildLemmas.{sum_behind-terms_with, length_of-none}
 use Rattle.sk_index.proofs.NumberLemmas.{length-postings}
 use Rattle.sk_index.proofs.stats.IndexStats.wild_length.Goals as goal

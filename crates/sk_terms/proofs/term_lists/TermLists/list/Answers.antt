@@ -2,9 +2,9 @@
 use Rattle.std.proofs.Common.{◌<◌, [], length, sym, ap, ◌∙◌, subst, arith}
 use Rattle.std.proofs.lemmas.List.{get_or_default}
 use Rattle.sk_sorted.specs.Runs.{flat}
-use Rattle.sk_index.specs.Listed.{Listed}
-use Rattle.sk_index.proofs.ListedLemmas.{list_of-number}
-use Rattle.sk_index.proofs.term_lists.TermLists.list.Goals as goal
+use Rattle.sk_terms.specs.Listed.{Listed}
+use Rattle.sk_terms.proofs.ListedLemmas.{list_of-number}
+use Rattle.sk_terms.proofs.term_lists.TermLists.list.Goals as goal
 
 pub returns-clause-entries : goal.returns-clause-entries
 returns-clause-entries c =

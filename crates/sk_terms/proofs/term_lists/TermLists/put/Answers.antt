@@ -4,9 +4,9 @@ use Rattle.sk_dict.specs.Terms.{term_at}
 use Rattle.sk_dict.proofs.NumberLaws.{number_of-Some}
 use Rattle.sk_sorted.specs.Entries.{put}
 use Rattle.sk_chunks.specs.Postings.{Postings}
-use Rattle.sk_index.specs.Unpacked.{Grows}
-use Rattle.sk_index.proofs.ListedLemmas.{changed_at}
-use Rattle.sk_index.proofs.term_lists.TermLists.put.Goals as goal
+use Rattle.sk_terms.specs.Named.{Grows}
+use Rattle.sk_terms.proofs.ListedLemmas.{changed_at}
+use Rattle.sk_terms.proofs.term_lists.TermLists.put.Goals as goal
 
 pub returns-clause-puts : goal.returns-clause-puts
 returns-clause-puts c =

@@ -1,9 +1,9 @@
 -- What the terms that are left do from here on, all terms do from the start; those that are done have their numbers.
 use Rattle.std.proofs.Common.{◌≡◌, drop, take, length}
 use Rattle.sk_packed.specs.Packed.{AreKnown}
-use Rattle.sk_index.specs.Listed.{Listed, PutsAll}
-use Rattle.sk_index.specs.Unpacked.{named_all, Grows}
-use Rattle.sk_index.proofs.term_lists.TermLists.put_all.Given as goal
+use Rattle.sk_terms.specs.Listed.{Listed, PutsAll}
+use Rattle.sk_terms.specs.Named.{named_all, Grows}
+use Rattle.sk_terms.proofs.term_lists.TermLists.put_all.Given as goal
 
 abbrev pub invariant-terms : goal.invariant-terms
 invariant-terms l = record {

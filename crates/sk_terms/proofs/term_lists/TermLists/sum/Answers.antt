@@ -1,9 +1,9 @@
 -- The next term's number is added, and less is sum_behind.
 use Rattle.std.proofs.Common.{ap, ◌∙◌}
-use Rattle.sk_index.specs.Listed.{list_of}
-use Rattle.sk_index.specs.Wild.{figure_of}
-use Rattle.sk_index.proofs.WildLemmas.{sum_more, sum_ends, sum_shrinks}
-use Rattle.sk_index.proofs.term_lists.TermLists.sum.Goals as goal
+use Rattle.sk_terms.specs.Listed.{list_of}
+use Rattle.sk_terms.specs.Wild.{figure_of}
+use Rattle.sk_terms.proofs.WalkLemmas.{sum_more, sum_ends, sum_shrinks}
+use Rattle.sk_terms.proofs.term_lists.TermLists.sum.Goals as goal
 
 pub returns-in_default-clause-value : goal.returns-in_default-clause-value
 returns-in_default-clause-value c = sum_ends (λ t. figure_of c.args.figure (list_of t c.args.self.now)) c.args.self.now.terms c.args.prefix.now c.args.most c.walk.total c.walk.after c.walk.invariant c.in_default.ensures.next

@@ -1,11 +1,11 @@
 -- One term more.
 use Rattle.std.proofs.Common.{◌≡◌, ◌++◌, ◌∷◌, [], length, arith, ap, sym, ◌∙◌, subst}
 use Rattle.sk_packed.specs.Packed.{NumberedTerm, AreKnown}
-use Rattle.sk_index.specs.Listed.{Puts}
-use Rattle.sk_index.proofs.ListedLemmas.{puts_on, puts_end}
-use Rattle.sk_index.specs.Unpacked.{named_all}
-use Rattle.sk_index.proofs.UnpackedLemmas.{Grows-then, names_on, knows_on}
-use Rattle.sk_index.proofs.term_lists.TermLists.put_all.Goals as goal
+use Rattle.sk_terms.specs.Listed.{Puts}
+use Rattle.sk_terms.proofs.ListedLemmas.{puts_on, puts_end}
+use Rattle.sk_terms.specs.Named.{named_all}
+use Rattle.sk_terms.proofs.NamedLemmas.{Grows-then, names_on, knows_on}
+use Rattle.sk_terms.proofs.term_lists.TermLists.put_all.Goals as goal
 
 pub terms-preserved : goal.terms-preserved
 terms-preserved c =

@@ -16,7 +16,7 @@ use Rattle.sk_sorted.specs.Entries.{put, without}
 use Rattle.sk_sorted.specs.Runs.{flat}
 use Rattle.sk_chunks.specs.Postings.{Postings}
 use Rattle.sk_lists.specs.Lists.{Runs}
-use Rattle.sk_index.specs.Listed.{Listed, list_under, list_of, IsListed, IsEdited, Puts, TakesOut, PutsAll, TakesOutAll}
+use Rattle.sk_terms.specs.Listed.{Listed, list_under, list_of, IsListed, IsEdited, Puts, TakesOut, PutsAll, TakesOutAll}
 
 -- no term stands before itself
 pub Precedes-irrefl : (t : List ℕ) → Precedes t t → ⊥

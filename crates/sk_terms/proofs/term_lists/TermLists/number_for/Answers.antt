@@ -1,8 +1,8 @@
 -- A new term has an empty list, and the terms stay different.
 use Rattle.std.proofs.Common.{◌≡◌, ◌≤◌, [], ◌∷◌, ◌++◌, None, length, ◌∙◌, arith}
 use Rattle.sk_dict.specs.Terms.{number_of}
-use Rattle.sk_index.proofs.ListedLemmas.{none-before, IsListed-added}
-use Rattle.sk_index.proofs.term_lists.TermLists.number_for.Goals as goal
+use Rattle.sk_terms.proofs.ListedLemmas.{none-before, IsListed-added}
+use Rattle.sk_terms.proofs.term_lists.TermLists.number_for.Goals as goal
 
 pub invariant_of-self-2 : goal.invariant_of-self-2
 invariant_of-self-2 c =

@@ -3,7 +3,7 @@ use Rattle.std.specs.Prelude.{ℕ, ◌+◌, Bool, true, ◌&&◌, List, [], ◌�
 use Rattle.std.specs.Ordering.{is_lt}
 use Rattle.sk_dict.specs.Terms.{term_at, term_cmp, begins_with}
 use Rattle.sk_chunks.specs.Postings.{Postings, greatest_wdf}
-use Rattle.sk_index.specs.declared.term_lists.Figure.{Figure}
+use Rattle.sk_terms.specs.declared.term_lists.Figure.{Figure}
 
 -- A number of a list.
 abbrev pub figure_of : Figure → Postings → ℕ

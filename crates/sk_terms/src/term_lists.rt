@@ -5,9 +5,9 @@ ghost use Rattle.sk_dict.specs.Terms.{term_at, number_of, begins_with, IsNext, H
 ghost use Rattle.sk_sorted.specs.Entries.{put, without, ids_of};
 ghost use Rattle.sk_sorted.specs.Runs.{flat};
 ghost use Rattle.sk_packed.specs.Packed.{AreKnown};
-ghost use Rattle.sk_index.specs.Listed.{list_of, IsListed, IsEdited, SameLists, Puts, TakesOut, PutsAll, TakesOutAll};
-ghost use Rattle.sk_index.specs.Unpacked.{named_all, Grows};
-ghost use Rattle.sk_index.specs.Wild.{figure_of, sum_behind};
+ghost use Rattle.sk_terms.specs.Listed.{list_of, IsListed, IsEdited, SameLists, Puts, TakesOut, PutsAll, TakesOutAll};
+ghost use Rattle.sk_terms.specs.Named.{named_all, Grows};
+ghost use Rattle.sk_terms.specs.Wild.{figure_of, sum_behind};
 
 use sk_base::{DocId, DocTerm};
 use sk_dict::{Dict, make_room};
@@ -18,7 +18,7 @@ use std::marker::Model;
 
 /// Terms, and for each the documents that have it. A term that was given a number keeps it; its list may become empty.
 #[derive(Drop)]
-pub(crate) struct TermLists {
+pub struct TermLists {
     alloc: Global,
     dict: Dict,
     lists: Vec<List>,
@@ -26,13 +26,13 @@ pub(crate) struct TermLists {
 
 /// A number of a list that is known without a reading.
 #[derive(Clone, Copy)]
-pub(crate) enum Figure {
+pub enum Figure {
     Length,
     Greatest,
 }
 
 impl Model for TermLists {
-    ghost use Rattle.sk_index.specs.Listed.{Listed, IsListed};
+    ghost use Rattle.sk_terms.specs.Listed.{Listed, IsListed};
 
     ghost Value = { Listed };
 

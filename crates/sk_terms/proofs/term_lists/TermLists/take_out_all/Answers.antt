@@ -1,7 +1,7 @@
 -- One term more.
 use Rattle.std.proofs.Common.{◌∙◌, arith}
-use Rattle.sk_index.proofs.UnpackedLemmas.{takes_next, takes_end}
-use Rattle.sk_index.proofs.term_lists.TermLists.take_out_all.Goals as goal
+use Rattle.sk_terms.proofs.NamedLemmas.{takes_next, takes_end}
+use Rattle.sk_terms.proofs.term_lists.TermLists.take_out_all.Goals as goal
 
 pub terms-preserved : goal.terms-preserved
 terms-preserved c = record {

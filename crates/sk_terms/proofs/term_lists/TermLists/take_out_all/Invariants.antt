@@ -1,8 +1,8 @@
 -- What the terms that are left do from here on, all terms do from the start.
 use Rattle.std.proofs.Common.{◌≡◌, drop}
-use Rattle.sk_index.specs.Listed.{Listed, TakesOutAll}
-use Rattle.sk_index.specs.Unpacked.{named_all}
-use Rattle.sk_index.proofs.term_lists.TermLists.take_out_all.Given as goal
+use Rattle.sk_terms.specs.Listed.{Listed, TakesOutAll}
+use Rattle.sk_terms.specs.Named.{named_all}
+use Rattle.sk_terms.proofs.term_lists.TermLists.take_out_all.Given as goal
 
 abbrev pub invariant-terms : goal.invariant-terms
 invariant-terms l = record {

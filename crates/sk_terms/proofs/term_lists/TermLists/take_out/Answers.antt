@@ -2,8 +2,8 @@
 use Rattle.sk_dict.specs.Terms.{term_at}
 use Rattle.sk_dict.proofs.NumberLaws.{number_of-term_at}
 use Rattle.sk_sorted.specs.Entries.{without}
-use Rattle.sk_index.proofs.ListedLemmas.{changed_at}
-use Rattle.sk_index.proofs.term_lists.TermLists.take_out.Goals as goal
+use Rattle.sk_terms.proofs.ListedLemmas.{changed_at}
+use Rattle.sk_terms.proofs.term_lists.TermLists.take_out.Goals as goal
 
 pub returns-clause-takes : goal.returns-clause-takes
 returns-clause-takes c =
