@@ -1,7 +1,7 @@
 -- What nodes give, and what a change and a move leave of it.
 use Rattle.std.proofs.Common.{min, ◌==◌, ◌≡◌, ◌≤◌, ◌<◌, ◌^◌, ℕ, Bool, true, false, Option, None, Some, unwrap_or, if◌then◌else◌, inl, inr, refl, sym, subst, ap, ◌∙◌, arith, rules, le_refl, List, length, Box, Vec, Global}
 use Rattle.std.specs.Vec.{with_items}
-use Rattle.std.proofs.lemmas.Bool.{cases_lt}
+use Rattle.std.proofs.lemmas.Bool.{cases_lt, eqb-true}
 use Rattle.std.proofs.lemmas.List.{with_items_is}
 use Rattle.sk_base.specs.declared.find.Scheme.{Scheme}
 use Rattle.sk_query.specs.declared.form.Form.{Form}
@@ -10,18 +10,22 @@ use Rattle.sk_model.specs.Covers.{CoversAt, Covers, first_need, second_need}
 use Rattle.sk_model.proofs.CoverLaws.{covers_itself, covers_then}
 use Rattle.sk_index.specs.Indexed.{Indexed}
 use Rattle.sk_decay.specs.declared.change.Change.{Change}
-use Rattle.sk_decay.specs.Changes.{change_of}
+use Rattle.sk_decay.specs.Changes.{changed, change_of, Serves}
 use Rattle.sk_decay.specs.Sides.{paired, greatest_under, is_led, second_target, IsSide}
 use Rattle.sk_decay.specs.Heads.{IsHead, NoneBelow}
 use Rattle.sk_decay.proofs.SideLaws.{paired-covers, paired-bound, paired-led, paired-none}
 use Rattle.sk_nodes.specs.declared.top.Top.{Top}
 use Rattle.sk_nodes.specs.declared.node.Node.{Node, the_lemmas}
+use Rattle.sk_nodes.specs.declared.node.Node.TheOpen.{Node-F}
+use Rattle.sk_nodes.specs.declared.node.Node.TheViews.{roll-Node}
+use Rattle.sk_nodes.specs.declared.node.Node.TheFolds.{ind-Node, fold-roll-Node}
+use Rattle.sk_nodes.specs.declared.node.Node.TheVariants.{rolls-Pair}
 use Rattle.sk_nodes.specs.declared.node.Node.TheVariants as Node
 use Rattle.sk_nodes.specs.Leaves.{AtMost}
 use Rattle.sk_nodes.specs.declared.proximity.Proximity.{Proximity}
 use Rattle.sk_nodes.specs.declared.leaf.Leaf.{Leaf}
-use Rattle.sk_nodes.specs.Shapes.{Shape, ended, leaf, range, pair, xor_many, or_many, positional, synonym, shape_of, size_of, sides_on, merged}
-use Rattle.sk_nodes.specs.Decayed.{changed_pair, decayed, SidesFit}
+use Rattle.sk_nodes.specs.Shapes.{Shape, ended, leaf, range, pair, xor_many, or_many, positional, synonym, shape_of, node_step, size_of, sides_on, merged}
+use Rattle.sk_nodes.specs.Decayed.{changed_pair, decayed, SidesFit, Decays}
 use Rattle.sk_nodes.specs.Left.{rest, from_on, unread_of, greatest_held}
 use Rattle.sk_nodes.specs.Skips.{WeighsBelow}
 use Rattle.sk_nodes.specs.Moved.{WasSought}
@@ -315,16 +319,68 @@ decays_itself i need s sound = record {
   unread = le_refl (unread_of i s);
 }
 
--- nothing, where the rule says so
-pub decays_ended : (i : Indexed) (need : ℕ) (form : Form) (ta : Top) (a : Shape) (tb : Top) (b : Shape) (a_ended b_ended : Bool) → (a_ended ≡ true → ta.head ≡ 2 ^ 32) → (b_ended ≡ true → tb.head ≡ 2 ^ 32)
-    → Sound i (pair form ta a tb b) → ((v w : Option ℕ) → IsSide ta.greatest a_ended v → IsSide tb.greatest b_ended w → CoversAt (paired form v w) None need)
-    → Replaces i need (pair form ta a tb b) ended
-decays_ended i need form ta a tb b a_ended b_ended first second sound covers = record {
-  sound = tt;
-  covers = λ id. covers (rest i a id) (rest i b id) (IsTop-side i ta a a_ended first sound.first id) (IsTop-side i tb b b_ended second sound.second id);
-  smaller = omega arith;
-  unread = omega arith;
+-- two sides, as the rule says
+module _ (i : Indexed) (need : ℕ) (form : Form) (ta : Top) (a : Shape) (tb : Top) (b : Shape) (sound : Sound i (pair form ta a tb b)) where
+    gives : (change : Change) → Serves change form ta.greatest tb.greatest (ta.head == 2 ^ 32) (tb.head == 2 ^ 32) need → (id : ℕ) → CoversAt (paired form (rest i a id) (rest i b id)) (changed change form (rest i a id) (rest i b id)) need
+    gives change serves id = serves.covers (rest i a id) (rest i b id) (IsTop-side i ta a _ (λ e. eqb-true _ _ e) sound.first id) (IsTop-side i tb b _ (λ e. eqb-true _ _ e) sound.second id)
+
+    under : (other : Form) → ((id : ℕ) → CoversAt (paired form (rest i a id) (rest i b id)) (paired other (rest i a id) (rest i b id)) need) → Replaces i need (pair form ta a tb b) (pair other ta a tb b)
+    under other covers = record {
+      sound = record { first = sound.first; second = sound.second; first_sound = sound.first_sound; second_sound = sound.second_sound; fits = sound.fits };
+      covers = covers;
+      smaller = omega arith;
+      unread = omega arith;
+    }
+
+    swapped : (other : Form) → ((id : ℕ) → CoversAt (paired form (rest i a id) (rest i b id)) (paired other (rest i b id) (rest i a id)) need) → Replaces i need (pair form ta a tb b) (pair other tb b ta a)
+    swapped other covers = record {
+      sound = record { first = sound.second; second = sound.first; first_sound = sound.second_sound; second_sound = sound.first_sound; fits = omega (arith, sound.fits) };
+      covers = covers;
+      smaller = omega arith;
+      unread = omega arith;
+    }
+
+    replaced : (change : Change) → Serves change form ta.greatest tb.greatest (ta.head == 2 ^ 32) (tb.head == 2 ^ 32) need → Replaces i need (pair form ta a tb b) (changed_pair change form ta a tb b)
+    replaced Change.Keep serves = decays_itself i need _ sound
+    replaced Change.Nothing serves = record { sound = tt; covers = gives Change.Nothing serves; smaller = omega arith; unread = omega arith }
+    replaced Change.First serves = record { sound = sound.first_sound; covers = gives Change.First serves; smaller = omega arith; unread = omega arith }
+    replaced Change.Second serves = record { sound = sound.second_sound; covers = gives Change.Second serves; smaller = omega arith; unread = omega arith }
+    replaced Change.Maybe serves = under Form.AndMaybe (gives Change.Maybe serves)
+    replaced Change.MaybeSwap serves = swapped Form.AndMaybe (gives Change.MaybeSwap serves)
+    replaced Change.Both serves = under Form.And (gives Change.Both serves)
+    replaced Change.Not serves = under Form.AndNot (gives Change.Not serves)
+    replaced Change.NotSwap serves = swapped Form.AndNot (gives Change.NotSwap serves)
+
+pub decays_along : (need : ℕ) (old new : Shape) (change : Change) (form : Form) (ta : Top) (a : Shape) (tb : Top) (b : Shape) → old ≡ pair form ta a tb b
+    → Serves change form ta.greatest tb.greatest (ta.head == 2 ^ 32) (tb.head == 2 ^ 32) need → change ≡ change_of form ta.greatest tb.greatest (ta.head == 2 ^ 32) (tb.head == 2 ^ 32) need
+    → new ≡ changed_pair change form ta a tb b → Decays need old new
+decays_along need old new change form ta a tb b e serves table f = record {
+  covers = λ i sound.
+      subst (λ (s : Shape). Replaces i need s new) (sym e) (subst (λ (s : Shape). Replaces i need (pair form ta a tb b) s) (sym f)
+      (replaced i need form ta a tb b (subst (λ (s : Shape). Sound i s) e sound) change serves));
+  table = f ∙ ap (λ c. changed_pair c form ta a tb b) table ∙ ap (decayed need) (sym e);
 }
+
+-- any other node stays
+abbrev OtherStays : ℕ → Node → Type 0
+OtherStays need n = ((form : Form) (ta : Top) (a : Box Node Global) (tb : Top) (b : Box Node Global) → n ≡ Node.Pair form ta a tb b → ⊥) → Decays need (shape_of n) (shape_of n)
+
+pub other_stays : (need : ℕ) (n : Node) → OtherStays need n
+other_stays need = ind-Node (OtherStays need) (λ x y is. by x)
+  where
+    stays : (n : Node) (s : Shape) → shape_of n ≡ s → decayed need s ≡ s → Decays need (shape_of n) (shape_of n)
+    stays n s e same = record { covers = λ i sound. decays_itself i need (shape_of n) sound; table = e ∙ sym same ∙ ap (decayed need) (sym e) }
+
+    by : (x : Node-F Node) → OtherStays need (roll-Node x)
+    by Node-F.Nothing other = stays _ _ (fold-roll-Node Shape node_step Node-F.Nothing) refl
+    by (Node-F.Leaf l) other = stays _ _ (fold-roll-Node Shape node_step (Node-F.Leaf l)) refl
+    by (Node-F.Range r) other = stays _ _ (fold-roll-Node Shape node_step (Node-F.Range r)) refl
+    by (Node-F.Pair form ta a tb b) other = absurd (other form ta a tb b (rolls-Pair form ta a tb b))
+    by (Node-F.XorMany ts ns) other = stays _ _ (fold-roll-Node Shape node_step (Node-F.XorMany ts ns)) refl
+    by (Node-F.OrMany ts ns) other = stays _ _ (fold-roll-Node Shape node_step (Node-F.OrMany ts ns)) refl
+    by (Node-F.Merge queue ls) other = stays _ _ (fold-roll-Node Shape node_step (Node-F.Merge queue ls)) refl
+    by (Node-F.Positional p t n) other = stays _ _ (fold-roll-Node Shape node_step (Node-F.Positional p t n)) refl
+    by (Node-F.Synonym scheme factor t n) other = stays _ _ (fold-roll-Node Shape node_step (Node-F.Synonym scheme factor t n)) refl
 
 -- ---- nodes of two sides, by their shapes
 
@@ -369,47 +425,6 @@ merge_shape node queue leaves ms ls e f g = ap shape_of e ∙ shape_of-Merge que
 pub merge_written : (ms : List Mark) (w : Vec Leaf Global) (ls : List Leaf) → length ls ≡ w.len → shape_of (Node.Merge ms (with_items w ls)) ≡ or_many (merged ms ls)
 merge_written ms w ls e = shape_of-Merge ms (with_items w ls) ∙ (λ i. or_many (merged ms (with_items_is w ls e i)))
 
--- a side alone, and the sides under another form
-pub decays_first : (i : Indexed) (need : ℕ) (form : Form) (ta : Top) (a : Shape) (tb : Top) (b : Shape) (a_ended b_ended : Bool) → (a_ended ≡ true → ta.head ≡ 2 ^ 32) → (b_ended ≡ true → tb.head ≡ 2 ^ 32)
-    → Sound i (pair form ta a tb b) → ((v w : Option ℕ) → IsSide ta.greatest a_ended v → IsSide tb.greatest b_ended w → CoversAt (paired form v w) v need)
-    → Replaces i need (pair form ta a tb b) a
-decays_first i need form ta a tb b a_ended b_ended first second sound covers = record {
-  sound = sound.first_sound;
-  covers = λ id. covers (rest i a id) (rest i b id) (IsTop-side i ta a a_ended first sound.first id) (IsTop-side i tb b b_ended second sound.second id);
-  smaller = omega arith;
-  unread = omega arith;
-}
-
-pub decays_second : (i : Indexed) (need : ℕ) (form : Form) (ta : Top) (a : Shape) (tb : Top) (b : Shape) (a_ended b_ended : Bool) → (a_ended ≡ true → ta.head ≡ 2 ^ 32) → (b_ended ≡ true → tb.head ≡ 2 ^ 32)
-    → Sound i (pair form ta a tb b) → ((v w : Option ℕ) → IsSide ta.greatest a_ended v → IsSide tb.greatest b_ended w → CoversAt (paired form v w) w need)
-    → Replaces i need (pair form ta a tb b) b
-decays_second i need form ta a tb b a_ended b_ended first second sound covers = record {
-  sound = sound.second_sound;
-  covers = λ id. covers (rest i a id) (rest i b id) (IsTop-side i ta a a_ended first sound.first id) (IsTop-side i tb b b_ended second sound.second id);
-  smaller = omega arith;
-  unread = omega arith;
-}
-
-pub decays_under : (i : Indexed) (need : ℕ) (form other : Form) (ta : Top) (a : Shape) (tb : Top) (b : Shape) (a_ended b_ended : Bool) → (a_ended ≡ true → ta.head ≡ 2 ^ 32) → (b_ended ≡ true → tb.head ≡ 2 ^ 32)
-    → Sound i (pair form ta a tb b) → ((v w : Option ℕ) → IsSide ta.greatest a_ended v → IsSide tb.greatest b_ended w → CoversAt (paired form v w) (paired other v w) need)
-    → Replaces i need (pair form ta a tb b) (pair other ta a tb b)
-decays_under i need form other ta a tb b a_ended b_ended first second sound covers = record {
-  sound = record { first = sound.first; second = sound.second; first_sound = sound.first_sound; second_sound = sound.second_sound; fits = sound.fits };
-  covers = λ id. covers (rest i a id) (rest i b id) (IsTop-side i ta a a_ended first sound.first id) (IsTop-side i tb b b_ended second sound.second id);
-  smaller = omega arith;
-  unread = omega arith;
-}
-
-pub decays_swapped : (i : Indexed) (need : ℕ) (form other : Form) (ta : Top) (a : Shape) (tb : Top) (b : Shape) (a_ended b_ended : Bool) → (a_ended ≡ true → ta.head ≡ 2 ^ 32) → (b_ended ≡ true → tb.head ≡ 2 ^ 32)
-    → Sound i (pair form ta a tb b) → ((v w : Option ℕ) → IsSide ta.greatest a_ended v → IsSide tb.greatest b_ended w → CoversAt (paired form v w) (paired other w v) need)
-    → Replaces i need (pair form ta a tb b) (pair other tb b ta a)
-decays_swapped i need form other ta a tb b a_ended b_ended first second sound covers = record {
-  sound = record { first = sound.second; second = sound.first; first_sound = sound.second_sound; second_sound = sound.first_sound; fits = omega (arith, sound.fits) };
-  covers = λ id. covers (rest i a id) (rest i b id) (IsTop-side i ta a a_ended first sound.first id) (IsTop-side i tb b b_ended second sound.second id);
-  smaller = omega arith;
-  unread = omega arith;
-}
-
 -- ---- a node that was moved on, by what the shapes are
 
 pub sought_along : (i : Indexed) (target need before after steps more : ℕ) (old new s t : Shape) (top : Top) → old ≡ s → new ≡ t → WasSought i target need (greatest_held s) before after steps more s t top
@@ -443,14 +458,6 @@ sides_more i form target need from further ta0 a0 tb0 b0 ta a tb b ua c ub d far
   first_smaller = omega (arith, sa, far.first_smaller);
   second_smaller = omega (arith, sb, far.second_smaller);
 }
-
-pub decays_along : (i : Indexed) (need : ℕ) (old new s t : Shape) → old ≡ s → new ≡ t → Replaces i need s t → Replaces i need old new
-decays_along i need old new s t e f h = subst (λ (o : Shape). Replaces i need o new) (sym e) (subst (λ (n : Shape). Replaces i need s n) (sym f) h)
-
--- two sides are changed as the table says
-pub stands_along : (need : ℕ) (old new : Shape) (change : Change) (form : Form) (ta : Top) (a : Shape) (tb : Top) (b : Shape) → old ≡ pair form ta a tb b
-    → change ≡ change_of form ta.greatest tb.greatest (ta.head == 2 ^ 32) (tb.head == 2 ^ 32) need → new ≡ changed_pair change form ta a tb b → new ≡ decayed need old
-stands_along need old new change form ta a tb b e f g = g ∙ ap (λ c. changed_pair c form ta a tb b) f ∙ ap (decayed need) (sym e)
 
 -- a weight that none is above bounds a top
 pub capped_top : (i : Indexed) (t : Top) (s : Shape) (g : ℕ) → IsTop i t s → AtMost g (rest i s) → IsTop i (record t { greatest = min t.greatest g }) s

@@ -1,10 +1,12 @@
 -- What is put in a node's place under a need.
-use Rattle.std.specs.Prelude.{ℕ, ◌<◌, ◌+◌, ◌^◌, ◌==◌}
+use Rattle.std.specs.Prelude.{◌≡◌, ℕ, ◌<◌, ◌+◌, ◌^◌, ◌==◌}
 use Rattle.sk_query.specs.declared.form.Form.{Form}
 use Rattle.sk_decay.specs.declared.change.Change.{Change}
 use Rattle.sk_decay.specs.Changes.{change_of}
 use Rattle.sk_nodes.specs.declared.top.Top.{Top}
 use Rattle.sk_nodes.specs.Shapes.{Shape, ended, pair}
+use Rattle.sk_nodes.specs.Sound.{Sound, Replaces}
+use Rattle.sk_index.specs.Indexed.{Indexed}
 
 -- What a change makes of two sides under a form.
 abbrev pub changed_pair : Change → Form → Top → Shape → Top → Shape → Shape
@@ -27,3 +29,8 @@ SidesFit _ = Unit {0}
 abbrev pub decayed : ℕ → Shape → Shape
 decayed need (pair form ta a tb b) = changed_pair (change_of form ta.greatest tb.greatest (ta.head == 2 ^ 32) (tb.head == 2 ^ 32) need) form ta a tb b
 decayed need s = s
+
+-- What is put in a node's place under a need is what the table says, and may stand for it.
+pub record Decays (need : ℕ) (old new : Shape) : Type 0 where
+  pub covers : (i : Indexed) → Sound i old → Replaces i need old new
+  pub table : new ≡ decayed need old

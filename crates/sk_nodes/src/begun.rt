@@ -60,10 +60,10 @@ pub fn one_side(alloc: Global, top: Top, node: Node) -> Result<(Vec<Top>, Vec<No
     ensures sides { IfOk result (λ p. sides_on p.0.items p.1.items ≡ side top (shape_of node) no_sides) }
     ensures even { IfOk result (λ p. length p.0.items ≡ length p.1.items) }
 {
-    let mut tops = Vec::new(alloc);
     let mut nodes = Vec::new(alloc);
-    tops.push(top)?;
     nodes.push(node)?;
+    let mut tops = Vec::new(alloc);
+    tops.push(top)?;
     Ok((tops, nodes))
 }
 

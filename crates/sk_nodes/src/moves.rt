@@ -13,7 +13,7 @@ ghost use Rattle.sk_nodes.specs.Proximity.{entries_unread};
 
 use crate::many::{FEW, sides_greatest, sum_of};
 use crate::merge::seek_merge;
-use crate::node::{Node, settle};
+use crate::node::{Node, put, settle};
 use crate::or_many::{first_of, weight_at};
 use crate::proximity::Proximity;
 use crate::skip::skip;
@@ -65,7 +65,7 @@ fn give_up(top: &mut Top, node: &mut Node)
     ensures node { node.new ≡ Node.Nothing }
     ensures top { top.new ≡ record { head = 2 ^ 32; weight = 0; greatest = 0 } }
 {
-    *node = Node::Nothing;
+    put(node, Node::Nothing);
     *top = Top::ended();
 }
 
@@ -585,8 +585,7 @@ pub(crate) fn seek_positional<L: Ledger>(
         }
         from = below.head + 1;
         if from >= END {
-            *node = Node::Nothing;
-            *below = Top::ended();
+            give_up(below, node);
             *top = Top::ended();
             return;
         }

@@ -4,7 +4,7 @@ ghost use Rattle.sk_index.specs.Indexed.{Indexed};
 ghost use Rattle.sk_decay.specs.declared.change.Change.TheVariants as Change;
 ghost use Rattle.sk_decay.specs.Changes.{change_of};
 ghost use Rattle.sk_nodes.specs.Shapes.{shape_of};
-ghost use Rattle.sk_nodes.specs.Decayed.{decayed, SidesFit};
+ghost use Rattle.sk_nodes.specs.Decayed.{decayed, SidesFit, Decays};
 ghost use Rattle.sk_nodes.specs.Sound.{Sound, Replaces};
 
 use crate::leaf::Leaf;
@@ -84,52 +84,49 @@ fn stands(form: Form, a: Weight, b: Weight, need: Weight) -> bool
 #[inline(never)]
 fn decay(node: &mut Node, need: Weight)
     requires { SidesFit (shape_of node.old) }
-    ensures decays { (i : Indexed) → Sound i (shape_of node.old) → Replaces i need (shape_of node.old) (shape_of node.new) }
-    ensures stands { shape_of node.new ≡ decayed need (shape_of node.old) }
+    ensures { Decays need (shape_of node.old) (shape_of node.new) }
 {
-    match node {
-        Node::Nothing => {}
-        Node::Leaf(_) => {}
-        Node::Range(_) => {}
-        Node::XorMany(_, _) => {}
-        Node::OrMany(_, _) => {}
-        Node::Merge(_, _) => {}
-        Node::Positional(_, _, _) => {}
-        Node::Synonym(_, _, _, _) => {}
-        Node::Pair(form, ta, a, tb, b) => {
-            let change = rule(
-                *form,
-                ta.greatest,
-                tb.greatest,
-                ta.head == END,
-                tb.head == END,
-                need,
-            );
-            match change {
-                Change::Keep => {}
-                Change::Nothing => *node = Node::Nothing,
-                Change::First => {
-                    let side = mem::replace(&mut **a, Node::Nothing);
-                    *node = side;
-                }
-                Change::Second => {
-                    let side = mem::replace(&mut **b, Node::Nothing);
-                    *node = side;
-                }
-                Change::Maybe => *form = Form::AndMaybe,
-                Change::MaybeSwap => {
-                    *form = Form::AndMaybe;
-                    mem::swap(ta, tb);
-                    mem::swap(a, b);
-                }
-                Change::Both => *form = Form::And,
-                Change::Not => *form = Form::AndNot,
-                Change::NotSwap => {
-                    *form = Form::AndNot;
-                    mem::swap(tb, ta);
-                    mem::swap(b, a);
-                }
-            }
+    let Node::Pair(form, ta, a, tb, b) = node else {
+        return;
+    };
+    let change = rule(
+        *form,
+        ta.greatest,
+        tb.greatest,
+        ta.head == END,
+        tb.head == END,
+        need,
+    );
+    match change {
+        Change::Keep => {}
+        Change::Nothing => put(node, Node::Nothing),
+        Change::First => {
+            let side = mem::replace(&mut **a, Node::Nothing);
+            put(node, side);
+        }
+        Change::Second => {
+            let side = mem::replace(&mut **b, Node::Nothing);
+            put(node, side);
+        }
+        Change::Maybe => *form = Form::AndMaybe,
+        Change::MaybeSwap => {
+            *form = Form::AndMaybe;
+            mem::swap(ta, tb);
+            mem::swap(a, b);
+        }
+        Change::Both => *form = Form::And,
+        Change::Not => *form = Form::AndNot,
+        Change::NotSwap => {
+            *form = Form::AndNot;
+            mem::swap(tb, ta);
+            mem::swap(b, a);
         }
     }
+}
+
+/// Puts another node in a node's place.
+pub(crate) fn put(node: &mut Node, other: Node)
+    ensures { node.new ≡ other }
+{
+    *node = other;
 }
