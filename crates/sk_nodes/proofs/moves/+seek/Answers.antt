@@ -566,29 +566,26 @@ pub seek_positional-returns-then-from-ge-END : goal.seek_positional-returns-then
 seek_positional-returns-then-from-ge-END g t c =
     let i = c.args.index.now in
     let same : entries_unread i c.passes.new.self.next c.passes.new.self.numbers.items ≡ entries_unread i c.passes.new.self.next c.tests.test.numbers.items = ap (entries_unread i c.passes.new.self.next) c.passes.ensures.same.numbers in
+    let gone = ap shape_of c.give_up.ensures.node ∙ shape_of-Nothing in
     record {
       lands = record {
         top =
-            let i = c.args.index.now in
-            subst (λ (u : Top). IsTop i u (positional c.passes.new.self c.ended-then-from-ge-END.result (shape_of Node.Nothing))) (sym c.ended-then-from-ge-END-2.ensures)
-            (subst (λ (s : Shape). IsTop i (record { head = 2 ^ 32; weight = 0; greatest = 0 }) (positional c.passes.new.self c.ended-then-from-ge-END.result s)) (sym shape_of-Nothing)
-            (none_top i c.passes.new.self c.ended-then-from-ge-END.result ended (λ id. refl)));
+            subst (λ (u : Top). IsTop i u (positional c.passes.new.self c.give_up.new.top (shape_of c.give_up.new.node))) (sym c.ended-then-from-ge-END.ensures)
+            (none_top i c.passes.new.self c.give_up.new.top (shape_of c.give_up.new.node) (λ id. ap (λ (s : Shape). rest i s id) gone));
         sound =
-            let i = c.args.index.now in
-            subst (λ (u : Top). IsPositional i c.passes.new.self u (shape_of Node.Nothing) (Sound i (shape_of Node.Nothing))) (sym c.ended-then-from-ge-END.ensures)
-            (subst (λ (s : Shape). IsPositional i c.passes.new.self (record { head = 2 ^ 32; weight = 0; greatest = 0 }) s (Sound i s)) (sym shape_of-Nothing)
+            subst (λ (u : Top). IsPositional i c.passes.new.self u (shape_of c.give_up.new.node) (Sound i (shape_of c.give_up.new.node))) (sym c.give_up.ensures.top)
+            (subst (λ (s : Shape). IsPositional i c.passes.new.self (record { head = 2 ^ 32; weight = 0; greatest = 0 }) s (Sound i s)) (sym gone)
             (failed_ended_sound i c.args.target c.args.need c.tests.from c.args.test.now c.args.below.now (shape_of c.args.node.now) c.tests.test c.tests.below (shape_of c.tests.node) c.reach.new.top (shape_of c.reach.new.node)
             c.tests.invariant.far c.reach.ensures.sought.lands.top c.reach.ensures.sought.lands.sound c.reach.ensures.sought.lands.reached c.reach.ensures.sought.falls c.reach.ensures.sought.smaller c.reach.ensures.sought.lands.covers c.passes.new.self c.passes.ensures.same c.passes.ensures.next (omega (arith, c.if-below-ge-END.false))));
         covers =
-            let i = c.args.index.now in
-            subst (λ (s : Shape). Covers (from_on c.args.target (rest i (positional c.args.test.now c.args.below.now (shape_of c.args.node.now)))) (rest i (positional c.passes.new.self c.ended-then-from-ge-END.result s)) c.args.need) (sym shape_of-Nothing)
+            subst (λ (s : Shape). Covers (from_on c.args.target (rest i (positional c.args.test.now c.args.below.now (shape_of c.args.node.now)))) (rest i (positional c.passes.new.self c.give_up.new.top s)) c.args.need) (sym gone)
             (failed_ended_covers i c.args.target c.args.need c.tests.from c.args.test.now c.args.below.now (shape_of c.args.node.now) c.tests.test c.tests.below (shape_of c.tests.node) c.reach.new.top (shape_of c.reach.new.node)
-            c.tests.invariant.far c.reach.ensures.sought.lands.top c.reach.ensures.sought.lands.sound c.reach.ensures.sought.lands.reached c.reach.ensures.sought.falls c.reach.ensures.sought.smaller c.reach.ensures.sought.lands.covers c.passes.new.self c.passes.ensures.same c.passes.ensures.next (omega (arith, c.if-below-ge-END.false)) (c.passes.ensures.fails c.if-passes.false) (omega (arith, c.if-from-ge-END.true)) c.ended-then-from-ge-END.result);
-        reached = omega (arith, ap (λ (u : Top). u.head) c.ended-then-from-ge-END-2.ensures, c.requires.target);
+            c.tests.invariant.far c.reach.ensures.sought.lands.top c.reach.ensures.sought.lands.sound c.reach.ensures.sought.lands.reached c.reach.ensures.sought.falls c.reach.ensures.sought.smaller c.reach.ensures.sought.lands.covers c.passes.new.self c.passes.ensures.same c.passes.ensures.next (omega (arith, c.if-below-ge-END.false)) (c.passes.ensures.fails c.if-passes.false) (omega (arith, c.if-from-ge-END.true)) c.give_up.new.top);
+        reached = omega (arith, ap (λ (u : Top). u.head) c.ended-then-from-ge-END.ensures, c.requires.target);
       };
-      falls = omega (arith, ap (λ (u : Top). u.greatest) c.ended-then-from-ge-END-2.ensures);
-      smaller = omega (arith, c.reach.ensures.sought.smaller, c.tests.invariant.far.smaller, ap size_of shape_of-Nothing, size_some (shape_of c.reach.new.node));
-      spends = record { paid = omega (arith, same, ap (unread_of i) shape_of-Nothing, c.reach.ensures.sought.spends.paid, c.passes.ensures.spends.paid, c.tests.invariant.spends.paid); counted = omega (arith, c.reach.ensures.sought.spends.counted, c.passes.ensures.spends.counted, c.tests.invariant.spends.counted); later = omega (arith, c.reach.ensures.sought.spends.later, c.passes.ensures.spends.later, c.tests.invariant.spends.later) };
+      falls = omega (arith, ap (λ (u : Top). u.greatest) c.ended-then-from-ge-END.ensures);
+      smaller = omega (arith, c.reach.ensures.sought.smaller, c.tests.invariant.far.smaller, ap size_of gone, size_some (shape_of c.reach.new.node));
+      spends = record { paid = omega (arith, same, ap (unread_of i) gone, c.reach.ensures.sought.spends.paid, c.passes.ensures.spends.paid, c.tests.invariant.spends.paid); counted = omega (arith, c.reach.ensures.sought.spends.counted, c.passes.ensures.spends.counted, c.tests.invariant.spends.counted); later = omega (arith, c.reach.ensures.sought.spends.later, c.passes.ensures.spends.later, c.tests.invariant.spends.later) };
     }
 
 pub seek_positional-tests-preserved : goal.seek_positional-tests-preserved
@@ -797,3 +794,124 @@ seek_some-matches-preserved g t c =
         later = omega (arith, c.lead-head.ensures.spends.later, c.weigh-weight.ensures.spends.later, c.matches.invariant.spends.later);
       };
     }
+
+-- ---- what is asked of the nodes that are moved on
+
+pub reach-reach_inner-requires : goal.reach-reach_inner-requires
+reach-reach_inner-requires g t c κs within = (omega (arith, c.decreases), (within, (omega (arith, c.if-target-top.false), (c.if-top-need.false, (c.requires.top, (c.requires.sound, (c.requires.target, c.requires.room)))))))
+
+pub reach_inner-seek-requires : goal.reach_inner-seek-requires
+reach_inner-seek-requires g t c κs within =
+    let settled = c.settle.ensures.decays c.args.index.now c.requires.sound in
+    (omega (arith, c.decreases, settled.smaller), (within, (settled.sound, (c.requires.target, omega (arith, c.requires.room, settled.unread)))))
+
+pub seek-seek_sides-requires : goal.seek-seek_sides-requires
+seek-seek_sides-requires g t c κs within =
+    let i = c.args.index.now in
+    let shape = parts_shape c.args.node.now c.in-Pair.form c.in-Pair.ta c.in-Pair.tb c.in-Pair.a c.in-Pair.b _ _ _ _ _ c.in-Pair.is c.in-Pair.form-is c.in-Pair.ta-is c.in-Pair.tb-is (c.deref_mut.ensures.value ∙ ap (λ (x : Box Node Global). x.value) c.in-Pair.a-is) (c.deref_mut-in-Pair.ensures.value ∙ ap (λ (x : Box Node Global). x.value) c.in-Pair.b-is) in
+    (omega (arith, c.decreases, ap size_of shape), (within, (subst (λ (s : Shape). Sound i s) shape c.requires.sound, (c.requires.target, omega (arith, c.requires.room, ap (unread_of i) shape)))))
+
+pub seek-seek_xor_many-requires : goal.seek-seek_xor_many-requires
+seek-seek_xor_many-requires g t c κs within =
+    let i = c.args.index.now in
+    let shape = xor_many_shape c.args.node.now c.in-XorMany.tops c.in-XorMany.nodes _ _ c.in-XorMany.is (c.deref_mut-in-XorMany.ensures.value ∙ ap (λ (v : Vec Top Global). v.items) c.in-XorMany.tops-is) (c.deref_mut-in-XorMany-2.ensures.value ∙ ap (λ (v : Vec Node Global). v.items) c.in-XorMany.nodes-is) in
+    (omega (arith, c.decreases, ap size_of shape), (within, (subst (λ (s : Shape). Sound i s) shape c.requires.sound, (c.requires.target, omega (arith, c.requires.room, ap (unread_of i) shape)))))
+
+pub seek-seek_or_many-requires : goal.seek-seek_or_many-requires
+seek-seek_or_many-requires g t c κs within =
+    let i = c.args.index.now in
+    let shape = or_many_shape c.args.node.now c.in-OrMany.tops c.in-OrMany.nodes _ _ c.in-OrMany.is (c.deref_mut-in-OrMany.ensures.value ∙ ap (λ (v : Vec Top Global). v.items) c.in-OrMany.tops-is) (c.deref_mut-in-OrMany-2.ensures.value ∙ ap (λ (v : Vec Node Global). v.items) c.in-OrMany.nodes-is) in
+    (omega (arith, c.decreases, ap size_of shape), (within, (subst (λ (s : Shape). Sound i s) shape c.requires.sound, (c.requires.target, omega (arith, c.requires.room, ap (unread_of i) shape)))))
+
+pub seek-seek_positional-requires : goal.seek-seek_positional-requires
+seek-seek_positional-requires g t c κs within =
+    let i = c.args.index.now in
+    let shape = positional_shape c.args.node.now c.in-Positional.test c.in-Positional.below c.in-Positional.node _ _ _ c.in-Positional.is c.in-Positional.test-is c.in-Positional.below-is (c.deref_mut-in-Positional.ensures.value ∙ ap (λ (x : Box Node Global). x.value) c.in-Positional.node-is) in
+    (omega (arith, c.decreases, ap size_of shape), (within, (subst (λ (s : Shape). Sound i s) shape c.requires.sound, (c.requires.target, omega (arith, c.requires.room, ap (unread_of i) shape)))))
+
+pub seek-seek_synonym-requires : goal.seek-seek_synonym-requires
+seek-seek_synonym-requires g t c κs within =
+    let i = c.args.index.now in
+    let shape = synonym_shape c.args.node.now c.in-Synonym.scheme c.in-Synonym.factor c.in-Synonym.below c.in-Synonym.node _ _ _ _ c.in-Synonym.is c.in-Synonym.scheme-is c.in-Synonym.factor-is c.in-Synonym.below-is (c.deref_mut-in-Synonym.ensures.value ∙ ap (λ (x : Box Node Global). x.value) c.in-Synonym.node-is) in
+    (omega (arith, c.decreases, ap size_of shape), (within, (subst (λ (s : Shape). Sound i s) shape c.requires.sound, (c.requires.target, omega (arith, c.requires.room, ap (unread_of i) shape)))))
+
+pub seek_sides-seek_pair-requires : goal.seek_sides-seek_pair-requires
+seek_sides-seek_pair-requires g t c κs within = (omega (arith, c.decreases), (within, (c.requires.pair, (c.requires.target, c.requires.room))))
+
+pub seek_sides-seek_pair-requires-in-And : goal.seek_sides-seek_pair-requires-in-And
+seek_sides-seek_pair-requires-in-And g t c κs within = (omega (arith, c.decreases), (within, (c.requires.pair, (c.requires.target, c.requires.room))))
+
+pub seek_sides-seek_pair-requires-in_default : goal.seek_sides-seek_pair-requires-in_default
+seek_sides-seek_pair-requires-in_default g t c κs within = (omega (arith, c.decreases), (within, (c.requires.pair, (c.requires.target, c.requires.room))))
+
+pub seek_pair-reach-requires : goal.seek_pair-reach-requires
+seek_pair-reach-requires g t c κs within = (omega (arith, c.decreases, c.sides.invariant.far.first_smaller), (within, (c.sides.invariant.far.pair.first, (c.sides.invariant.far.pair.first_sound, (c.sides.invariant.far.within, omega (arith, c.requires.room, c.sides.invariant.spends.paid))))))
+
+pub seek_pair-reach-requires-in-sides : goal.seek_pair-reach-requires-in-sides
+seek_pair-reach-requires-in-sides g t c κs within =
+    (omega (arith, c.decreases, c.sides.invariant.far.second_smaller), (within, (c.sides.invariant.far.pair.second, (c.sides.invariant.far.pair.second_sound, (
+      omega (arith, c.if-next-ge-END.false),
+      omega (arith, c.requires.room, c.sides.invariant.spends.paid, c.reach.ensures.sought.spends.paid),
+    )))))
+
+pub seek_xor_many-reach_all-requires : goal.seek_xor_many-reach_all-requires
+seek_xor_many-reach_all-requires g t c κs within = (omega (arith, c.decreases, c.all.invariant.far.smaller), (within, (c.all.invariant.far.sides.sides, (c.all.invariant.far.within, omega (arith, c.requires.room, c.all.invariant.spends.paid)))))
+
+pub seek_or_many-seek_all-requires : goal.seek_or_many-seek_all-requires
+seek_or_many-seek_all-requires g t c κs within = (omega (arith, c.decreases), (within, (c.requires.sides, (c.requires.target, c.requires.room))))
+
+pub seek_or_many-seek_some-requires : goal.seek_or_many-seek_some-requires
+seek_or_many-seek_some-requires g t c κs within = (omega (arith, c.decreases), (within, (omega (arith, c.if-need-eq0.false), (c.requires.sides, (c.requires.target, c.requires.room)))))
+
+pub seek_or_many-returns-clause-sought : goal.seek_or_many-returns-clause-sought
+seek_or_many-returns-clause-sought g t c = c.seek_some.ensures.sought
+
+pub seek_or_many-returns-clause-accounts : goal.seek_or_many-returns-clause-accounts
+seek_or_many-returns-clause-accounts g t c = c.seek_some.ensures.accounts
+
+pub seek_all-reach_all-requires : goal.seek_all-reach_all-requires
+seek_all-reach_all-requires g t c κs within = (omega (arith, c.decreases), (within, (c.requires.sides.sides, (c.requires.target, c.requires.room))))
+
+pub lead-reach-requires : goal.lead-reach-requires
+lead-reach-requires g t c κs within =
+    let i = c.args.index.now in
+    let whole = sides_cons c.args.tops.now c.in-Some.tops.now c.args.nodes.now c.in-Some-split_first_mut.nodes.now _ _ c.in-Some.ensures.cases c.in-Some-split_first_mut.ensures.cases in
+    let sides = subst (λ (ss : Sides). AreSound i ss) whole c.requires.sound in
+    (omega (arith, c.decreases, ap sizes_in whole), (within, (sides.top, (sides.sound, (c.requires.from, omega (arith, c.requires.room, ap (unread_in i) whole))))))
+
+pub weigh-reach-requires : goal.weigh-reach-requires
+weigh-reach-requires g t c κs within =
+    let i = c.args.index.now in
+    let whole = sides_cons c.args.tops.now c.in-Some.tops.now c.args.nodes.now c.in-Some-split_first_mut.nodes.now _ _ c.in-Some.ensures.cases c.in-Some-split_first_mut.ensures.cases in
+    let sides = subst (λ (ss : Sides). AreSound i ss) whole c.requires.sound in
+    (omega (arith, c.decreases, ap sizes_in whole), (within, (sides.top, (sides.sound, (c.requires.id, omega (arith, c.requires.room, ap (unread_in i) whole))))))
+
+pub reach_few-reach-requires : goal.reach_few-reach-requires
+reach_few-reach-requires g t c κs within =
+    let i = c.args.index.now in
+    let whole = sides_cons c.args.tops.now c.in-Some.tops.now c.args.nodes.now c.in-Some-split_first_mut.nodes.now _ _ c.in-Some.ensures.cases c.in-Some-split_first_mut.ensures.cases in
+    let sides = subst (λ (ss : Sides). AreSound i ss) whole c.requires.sound in
+    (omega (arith, c.decreases, ap sizes_in whole), (within, (sides.top, (sides.sound, (c.requires.target, omega (arith, c.requires.room, ap (unread_in i) whole))))))
+
+pub reach_few-reach_few-requires : goal.reach_few-reach_few-requires
+reach_few-reach_few-requires g t c κs within =
+    let i = c.args.index.now in
+    let whole = sides_cons c.args.tops.now c.in-Some.tops.now c.args.nodes.now c.in-Some-split_first_mut.nodes.now _ _ c.in-Some.ensures.cases c.in-Some-split_first_mut.ensures.cases in
+    let sides = subst (λ (ss : Sides). AreSound i ss) whole c.requires.sound in
+    (omega (arith, c.decreases, ap sizes_in whole), (within, (sides.others, (c.requires.target, omega (arith, c.requires.room, ap (unread_in i) whole, c.reach.ensures.sought.spends.paid)))))
+
+pub reach_all-reach_few-requires : goal.reach_all-reach_few-requires
+reach_all-reach_few-requires g t c κs within = (omega (arith, c.decreases), (within, (c.requires.sound, (c.requires.target, c.requires.room))))
+
+pub seek_positional-reach-requires : goal.seek_positional-reach-requires
+seek_positional-reach-requires g t c κs within = (omega (arith, c.decreases, c.tests.invariant.far.smaller), (within, (c.tests.invariant.far.top, (c.tests.invariant.far.sound, (c.tests.invariant.far.bound, omega (arith, c.requires.room, c.tests.invariant.spends.paid))))))
+
+pub seek_synonym-reach-requires : goal.seek_synonym-reach-requires
+seek_synonym-reach-requires g t c κs within = (omega (arith, c.decreases), (within, (c.requires.synonym.top, (c.requires.synonym.sound, (c.requires.target, c.requires.room)))))
+
+pub seek_some-lead-head-requires : goal.seek_some-lead-head-requires
+seek_some-lead-head-requires g t c κs within =
+    (omega (arith, c.decreases, c.matches.invariant.far.smaller), (within, (c.matches.invariant.far.sides.sides, (c.matches.invariant.within, (
+      omega (arith, c.requires.room, c.matches.invariant.spends.paid),
+      (omega (arith, c.sum_of-most.ensures, c.matches.invariant.far.falls), omega (arith, c.matches.invariant.within)),
+    )))))
