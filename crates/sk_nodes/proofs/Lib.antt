@@ -9,6 +9,7 @@ pub mod ManyLaws
 pub mod RepeatLaws
 pub mod PhraseLaws
 pub mod ProximityLaws
+pub mod SpendLaws
 pub mod StopLaws
 pub mod OrManyLaws
 pub mod MergeLaws

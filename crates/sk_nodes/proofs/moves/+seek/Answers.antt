@@ -22,6 +22,7 @@ use Rattle.sk_nodes.proofs.SkipLaws.{sides_skipped, accounts_skipped, fades_skip
 use Rattle.sk_nodes.specs.OrMany.{AreKept, AreMoved, AreWeighed}
 use Rattle.sk_nodes.proofs.RangeLaws.{shape_of-Range, range_shape}
 use Rattle.sk_nodes.proofs.ListLaws.{weigh_more}
+use Rattle.sk_nodes.proofs.SpendLaws.{spends_none, spends_then, spends_first, spends_second, spends_less}
 use Rattle.sk_nodes.proofs.SumLaws.{sums_none, sums_light, sums_gone, sums_covers, sums_accounts}
 use Rattle.sk_nodes.proofs.OrManyLaws.{none_head, moved_first, or_found, or_accounts, or_kept, size_some, or_top, or_covers, kept_behind, led_none, weighed_light, weighed_more, or_begun, or_led, or_round, or_on, or_matches, or_gone, or_gone_kept, ended_unread, ended_lands}
 use Rattle.sk_nodes.proofs.moves.+seek.Goals as goal
@@ -57,7 +58,7 @@ reach_inner-returns-clause-sought g t c =
             subst (λ n. IsTop i (record c.seek.new.top { greatest = n }) (shape_of c.seek.new.node)) (sym c.min-top.ensures)
             (capped_top i c.seek.new.top (shape_of c.seek.new.node) c.args.top.now.greatest c.seek.ensures.sought.lands.top
             (AtMost-covers c.args.target c.args.need c.args.top.now.greatest (rest i (shape_of c.args.node.now)) (rest i (shape_of c.seek.new.node)) c.requires.top.bound covers));
-        sound = search rules;
+        sound = c.seek.ensures.sought.lands.sound;
         covers = covers;
         reached = omega arith;
       };
@@ -166,7 +167,7 @@ seek_pair-sides-init g t c =
       far = sides_skipped i c.args.form c.args.target c.args.need c.args.target c.skip-from.result ta a tb b ta a tb b skips (sides_begun i c.args.form c.args.target c.args.need ta a tb b c.requires.pair c.requires.target);
       accounts = accounts_skipped i c.args.form c.args.target c.args.need c.args.target c.skip-from.result ta a tb b ta a tb b skips spent spent (accounts_begun i c.args.form c.args.target c.args.need spent ta a tb b);
       fades = fades_skipped i c.args.form c.args.target c.args.need c.args.target c.skip-from.result ta a tb b ta a tb b skips spent spent (fades_begun i c.args.form c.args.target spent ta a tb b);
-      spends = record { paid = omega arith; counted = omega arith; later = omega arith };
+      spends = spends_none _ _ _;
     }
 
 pub seek_pair-meeting_of-requires-clause-fits : goal.seek_pair-meeting_of-requires-clause-fits
@@ -228,11 +229,7 @@ seek_pair-sides-preserved g t c =
           c.sides.ta (shape_of c.sides.a) c.sides.tb (shape_of c.sides.b) c.reach.new.top (shape_of c.reach.new.node) c.sides.invariant.fades c.reach.ensures.accounts.moves
           c.reach-in-sides.new.spent c.second_target-next.result c.if-next-ge-END.false c.reach-in-sides.new.top (shape_of c.reach-in-sides.new.node) c.second_target-next.ensures c.reach-in-sides.ensures.accounts.moves
           c.in-Behind.further c.in-Behind.ensures.on c.in-Behind.ensures.both);
-      spends = record {
-        paid = omega (arith, c.reach.ensures.sought.spends.paid, c.reach-in-sides.ensures.sought.spends.paid, c.sides.invariant.spends.paid);
-        counted = omega (arith, c.reach.ensures.sought.spends.counted, c.reach-in-sides.ensures.sought.spends.counted, c.sides.invariant.spends.counted);
-        later = omega (arith, c.reach.ensures.sought.spends.later, c.reach-in-sides.ensures.sought.spends.later, c.sides.invariant.spends.later);
-      };
+      spends = spends_then c.sides.invariant.spends (spends_then (spends_first _ c.reach.ensures.sought.spends) (spends_second _ c.reach-in-sides.ensures.sought.spends));
     }
 
 pub seek_pair-returns-then-next-ge-END-clause-sought : goal.seek_pair-returns-then-next-ge-END-clause-sought
@@ -256,7 +253,7 @@ seek_pair-returns-then-next-ge-END-clause-sought g t c =
       };
       falls = omega (arith, ap (λ (u : Top). u.greatest) c.ended.ensures);
       smaller = omega (arith, c.reach.ensures.sought.smaller, c.sides.invariant.far.first_smaller, c.sides.invariant.far.second_smaller);
-      spends = record { paid = omega (arith, c.reach.ensures.sought.spends.paid, c.sides.invariant.spends.paid); counted = omega (arith, c.reach.ensures.sought.spends.counted, c.sides.invariant.spends.counted); later = omega (arith, c.reach.ensures.sought.spends.later, c.sides.invariant.spends.later) };
+      spends = spends_then c.sides.invariant.spends (spends_first _ c.reach.ensures.sought.spends);
     }
 
 pub seek_pair-returns-then-next-ge-END-clause-accounts : goal.seek_pair-returns-then-next-ge-END-clause-accounts
@@ -295,7 +292,13 @@ seek_pair-returns-in-At-clause-sought g t c =
             pair_top i c.args.form c.reach.new.top (shape_of c.reach.new.node) c.reach-in-sides.new.top (shape_of c.reach-in-sides.new.node) _ c.reach.ensures.sought.lands.top c.reach-in-sides.ensures.sought.lands.top
             (c.in-At.ensures.meets (rest i (shape_of c.reach.new.node)) (rest i (shape_of c.reach-in-sides.new.node)) c.reach.ensures.sought.lands.top.head c.reach-in-sides.ensures.sought.lands.top.head)
             c.greatest_at-top.ensures.there c.greatest_at-top.ensures.ended;
-        sound = search rules;
+        sound = record {
+          first = c.reach.ensures.sought.lands.top;
+          second = c.reach-in-sides.ensures.sought.lands.top;
+          first_sound = c.reach.ensures.sought.lands.sound;
+          second_sound = c.reach-in-sides.ensures.sought.lands.sound;
+          fits = omega (arith, c.reach.ensures.sought.falls, c.reach-in-sides.ensures.sought.falls, c.sides.invariant.far.pair.fits);
+        };
         covers = covers;
         reached =
             let i = c.args.index.now in
@@ -308,7 +311,7 @@ seek_pair-returns-in-At-clause-sought g t c =
           (omega (arith, c.reach.ensures.sought.falls, c.sides.invariant.far.first_falls)) (omega (arith, c.reach-in-sides.ensures.sought.falls, c.sides.invariant.far.second_falls)) in
           omega (arith, mono, c.greatest_at-top.ensures.bound);
       smaller = omega (arith, c.reach.ensures.sought.smaller, c.reach-in-sides.ensures.sought.smaller, c.sides.invariant.far.first_smaller, c.sides.invariant.far.second_smaller);
-      spends = record { paid = omega (arith, c.reach.ensures.sought.spends.paid, c.reach-in-sides.ensures.sought.spends.paid, c.sides.invariant.spends.paid); counted = omega (arith, c.reach.ensures.sought.spends.counted, c.reach-in-sides.ensures.sought.spends.counted, c.sides.invariant.spends.counted); later = omega (arith, c.reach.ensures.sought.spends.later, c.reach-in-sides.ensures.sought.spends.later, c.sides.invariant.spends.later) };
+      spends = spends_then c.sides.invariant.spends (spends_then (spends_first _ c.reach.ensures.sought.spends) (spends_second _ c.reach-in-sides.ensures.sought.spends));
     }
 
 pub seek_pair-returns-in-At-clause-accounts : goal.seek_pair-returns-in-At-clause-accounts
@@ -354,7 +357,7 @@ seek_xor_many-returns-in-At g t c need =
             xor_top i (sides_on c.reach_all.new.tops c.reach_all.new.nodes) _ c.reach_all.ensures.moved.sound
             (c.in-At.ensures i c.all.from c.all.invariant.far.within c.reach_all.ensures.moved.sound c.reach_all.ensures.reached).0
             c.sides_greatest-top.ensures.there c.sides_greatest-top.ensures.ended;
-        sound = search rules;
+        sound = record { sides = c.reach_all.ensures.moved.sound; fits = omega (arith, c.reach_all.ensures.moved.falls, c.all.invariant.far.sides.fits) };
         covers = covers;
         reached =
             let i = c.args.index.now in
@@ -363,7 +366,7 @@ seek_xor_many-returns-in-At g t c need =
       };
       falls = omega (arith, c.sides_greatest-top.ensures.bound, c.reach_all.ensures.moved.falls, c.all.invariant.far.falls);
       smaller = omega (arith, c.reach_all.ensures.moved.smaller, c.all.invariant.far.smaller);
-      spends = record { paid = omega (arith, c.reach_all.ensures.spends.paid, c.all.invariant.spends.paid); counted = omega (arith, c.reach_all.ensures.spends.counted, c.all.invariant.spends.counted); later = omega (arith, c.reach_all.ensures.spends.later, c.all.invariant.spends.later) };
+      spends = spends_then c.all.invariant.spends c.reach_all.ensures.spends;
     }
 
 pub seek_xor_many-all-smaller : goal.seek_xor_many-all-smaller
@@ -377,11 +380,7 @@ seek_xor_many-all-preserved g t c =
     record {
       far = xor_more c.args.index.now c.args.target c.all.from c.in-Behind.further (sides_on c.args.tops.now c.args.nodes.now) (sides_on c.all.tops c.all.nodes) (sides_on c.reach_all.new.tops c.reach_all.new.nodes)
           c.all.invariant.far c.reach_all.ensures.moved.sound c.reach_all.ensures.sought c.reach_all.ensures.moved.falls c.reach_all.ensures.moved.smaller on;
-      spends = record {
-        paid = omega (arith, c.reach_all.ensures.spends.paid, c.all.invariant.spends.paid);
-        counted = omega (arith, c.reach_all.ensures.spends.counted, c.all.invariant.spends.counted);
-        later = omega (arith, c.reach_all.ensures.spends.later, c.all.invariant.spends.later);
-      };
+      spends = spends_then c.all.invariant.spends c.reach_all.ensures.spends;
     }
 
 -- ---- all sides
@@ -506,7 +505,7 @@ pub seek_positional-tests-init : goal.seek_positional-tests-init
 seek_positional-tests-init g t c =
     record {
       far = test_begun c.args.index.now c.args.target c.args.need c.args.test.now c.args.below.now (shape_of c.args.node.now) c.requires.target c.requires.positional;
-      spends = record { paid = omega arith; counted = omega arith; later = omega arith };
+      spends = spends_none _ _ _;
     }
 
 pub seek_positional-passes-requires-clause-all : goal.seek_positional-passes-requires-clause-all
@@ -535,7 +534,7 @@ seek_positional-returns-then-below-ge-END g t c =
       };
       falls = omega (arith, ap (λ (u : Top). u.greatest) c.ended.ensures);
       smaller = omega (arith, c.reach.ensures.sought.smaller, c.tests.invariant.far.smaller);
-      spends = record { paid = omega (arith, c.reach.ensures.sought.spends.paid, c.tests.invariant.spends.paid); counted = omega (arith, c.reach.ensures.sought.spends.counted, c.tests.invariant.spends.counted); later = omega (arith, c.reach.ensures.sought.spends.later, c.tests.invariant.spends.later) };
+      spends = spends_then c.tests.invariant.spends (spends_first _ c.reach.ensures.sought.spends);
     }
 
 pub seek_positional-returns-then-passes : goal.seek_positional-returns-then-passes
@@ -559,7 +558,7 @@ seek_positional-returns-then-passes g t c =
       };
       falls = omega (arith, c.reach.ensures.sought.falls, c.tests.invariant.far.falls);
       smaller = omega (arith, c.reach.ensures.sought.smaller, c.tests.invariant.far.smaller);
-      spends = record { paid = omega (arith, same, c.reach.ensures.sought.spends.paid, c.passes.ensures.spends.paid, c.tests.invariant.spends.paid); counted = omega (arith, c.reach.ensures.sought.spends.counted, c.passes.ensures.spends.counted, c.tests.invariant.spends.counted); later = omega (arith, c.reach.ensures.sought.spends.later, c.passes.ensures.spends.later, c.tests.invariant.spends.later) };
+      spends = spends_less (omega (arith, same)) (spends_then c.tests.invariant.spends (spends_then (spends_first _ c.reach.ensures.sought.spends) (spends_second _ c.passes.ensures.spends)));
     }
 
 pub seek_positional-returns-then-from-ge-END : goal.seek_positional-returns-then-from-ge-END
@@ -585,7 +584,7 @@ seek_positional-returns-then-from-ge-END g t c =
       };
       falls = omega (arith, ap (λ (u : Top). u.greatest) c.ended-then-from-ge-END.ensures);
       smaller = omega (arith, c.reach.ensures.sought.smaller, c.tests.invariant.far.smaller, ap size_of gone, size_some (shape_of c.reach.new.node));
-      spends = record { paid = omega (arith, same, ap (unread_of i) gone, c.reach.ensures.sought.spends.paid, c.passes.ensures.spends.paid, c.tests.invariant.spends.paid); counted = omega (arith, c.reach.ensures.sought.spends.counted, c.passes.ensures.spends.counted, c.tests.invariant.spends.counted); later = omega (arith, c.reach.ensures.sought.spends.later, c.passes.ensures.spends.later, c.tests.invariant.spends.later) };
+      spends = spends_less (omega (arith, same, ap (unread_of i) gone)) (spends_then c.tests.invariant.spends (spends_then (spends_first _ c.reach.ensures.sought.spends) (spends_second _ c.passes.ensures.spends)));
     }
 
 pub seek_positional-tests-preserved : goal.seek_positional-tests-preserved
@@ -595,11 +594,7 @@ seek_positional-tests-preserved g t c =
     record {
       far = failed_more i c.args.target c.args.need c.tests.from c.args.test.now c.args.below.now (shape_of c.args.node.now) c.tests.test c.tests.below (shape_of c.tests.node) c.reach.new.top (shape_of c.reach.new.node)
           c.tests.invariant.far c.reach.ensures.sought.lands.top c.reach.ensures.sought.lands.sound c.reach.ensures.sought.lands.reached c.reach.ensures.sought.falls c.reach.ensures.sought.smaller c.reach.ensures.sought.lands.covers c.passes.new.self c.passes.ensures.same c.passes.ensures.next (omega (arith, c.if-below-ge-END.false)) (c.passes.ensures.fails c.if-passes.false) (omega (arith, c.if-from-ge-END.false));
-      spends = record {
-        paid = omega (arith, same, c.reach.ensures.sought.spends.paid, c.passes.ensures.spends.paid, c.tests.invariant.spends.paid);
-        counted = omega (arith, c.reach.ensures.sought.spends.counted, c.passes.ensures.spends.counted, c.tests.invariant.spends.counted);
-        later = omega (arith, c.reach.ensures.sought.spends.later, c.passes.ensures.spends.later, c.tests.invariant.spends.later);
-      };
+      spends = spends_less (omega (arith, same)) (spends_then c.tests.invariant.spends (spends_then (spends_first _ c.reach.ensures.sought.spends) (spends_second _ c.passes.ensures.spends)));
     }
 
 -- ---- an or of many sides
@@ -617,7 +612,7 @@ seek_all-returns-clause-sought g t c need =
             or_top i (sides_on c.reach_all.new.tops c.reach_all.new.nodes) _ c.reach_all.ensures.moved.sound
             (c.first_of-first.ensures.first i (λ id. None) c.reach_all.ensures.moved.sound none_head)
             c.sides_greatest-top.ensures.there c.sides_greatest-top.ensures.ended;
-        sound = search rules;
+        sound = record { sides = c.reach_all.ensures.moved.sound; fits = omega (arith, c.reach_all.ensures.moved.falls, c.requires.sides.fits) };
         covers = or_covers c.args.index.now c.args.target need (sides_on c.args.tops.now c.args.nodes.now) (sides_on c.reach_all.new.tops c.reach_all.new.nodes) c.reach_all.ensures.sought;
         reached = c.first_of-first.ensures.reached c.args.target (omega (arith, c.requires.target)) c.reach_all.ensures.reached;
       };
@@ -637,7 +632,7 @@ seek_some-matches-init g t c =
     record {
       far = or_begun c.args.index.now c.args.target c.args.need c.args.spent.now (sides_on c.args.tops.now c.args.nodes.now) c.requires.sides;
       within = c.requires.target;
-      spends = record { paid = omega arith; counted = omega arith; later = omega arith };
+      spends = spends_none _ _ _;
     }
 
 pub seek_some-returns-then-head-ge-END-clause-sought : goal.seek_some-returns-then-head-ge-END-clause-sought
@@ -654,7 +649,7 @@ seek_some-returns-then-head-ge-END-clause-sought g t c =
           c.end_sides.ensures.over);
       falls = omega (arith, ap (λ (u : Top). u.greatest) c.end_sides.ensures.top);
       smaller = omega (arith, c.end_sides.ensures.smaller, c.lead-head.ensures.moved.smaller, c.matches.invariant.far.smaller);
-      spends = record { paid = omega (arith, none, c.lead-head.ensures.spends.paid, c.matches.invariant.spends.paid); counted = omega (arith, c.lead-head.ensures.spends.counted, c.matches.invariant.spends.counted); later = omega (arith, c.lead-head.ensures.spends.later, c.matches.invariant.spends.later) };
+      spends = spends_less (omega (arith, none)) (spends_then c.matches.invariant.spends c.lead-head.ensures.spends);
     }
 
 pub seek_some-returns-then-head-ge-END-clause-accounts : goal.seek_some-returns-then-head-ge-END-clause-accounts
@@ -680,7 +675,7 @@ seek_some-returns-then-from-ge-END-clause-sought g t c =
           c.end_sides-then-from-ge-END.ensures.over);
       falls = omega (arith, ap (λ (u : Top). u.greatest) c.end_sides-then-from-ge-END.ensures.top);
       smaller = omega (arith, c.end_sides-then-from-ge-END.ensures.smaller, c.weigh-weight.ensures.moved.smaller, c.lead-head.ensures.moved.smaller, c.matches.invariant.far.smaller);
-      spends = record { paid = omega (arith, none, c.lead-head.ensures.spends.paid, c.weigh-weight.ensures.spends.paid, c.matches.invariant.spends.paid); counted = omega (arith, c.lead-head.ensures.spends.counted, c.weigh-weight.ensures.spends.counted, c.matches.invariant.spends.counted); later = omega (arith, c.lead-head.ensures.spends.later, c.weigh-weight.ensures.spends.later, c.matches.invariant.spends.later) };
+      spends = spends_less (omega (arith, none)) (spends_then c.matches.invariant.spends (spends_then c.lead-head.ensures.spends c.weigh-weight.ensures.spends));
     }
 
 pub seek_some-returns-then-from-ge-END-clause-accounts : goal.seek_some-returns-then-from-ge-END-clause-accounts
@@ -705,7 +700,7 @@ seek_some-returns-then-weight-need-clause-sought g t c =
             c.matches.invariant.within (omega (arith, c.if-head-ge-END.false)) c.matches.invariant.far c.lead-head.ensures.led c.lead-head.ensures.moved c.weigh-weight.ensures.weighed c.weigh-weight.ensures.moved)
             c.weigh-weight.ensures.weighed (omega (arith, c.if-weight-need.true)))
             c.sides_greatest-top.ensures.there c.sides_greatest-top.ensures.ended;
-        sound = search rules;
+        sound = record { sides = c.weigh-weight.ensures.moved.sound; fits = omega (arith, c.weigh-weight.ensures.moved.falls, c.lead-head.ensures.moved.falls, c.matches.invariant.far.sides.fits) };
         covers =
             let i = c.args.index.now in
             or_found i c.args.target c.args.need c.requires.needed c.args.spent.now (sides_on c.args.tops.now c.args.nodes.now) c.lead-head.result c.weigh-weight.new.spent (sides_on c.weigh-weight.new.tops c.weigh-weight.new.nodes)
@@ -716,7 +711,7 @@ seek_some-returns-then-weight-need-clause-sought g t c =
       };
       falls = omega (arith, c.sides_greatest-top.ensures.bound, c.weigh-weight.ensures.moved.falls, c.lead-head.ensures.moved.falls, c.matches.invariant.far.falls);
       smaller = omega (arith, c.weigh-weight.ensures.moved.smaller, c.lead-head.ensures.moved.smaller, c.matches.invariant.far.smaller);
-      spends = record { paid = omega (arith, c.lead-head.ensures.spends.paid, c.weigh-weight.ensures.spends.paid, c.matches.invariant.spends.paid); counted = omega (arith, c.lead-head.ensures.spends.counted, c.weigh-weight.ensures.spends.counted, c.matches.invariant.spends.counted); later = omega (arith, c.lead-head.ensures.spends.later, c.weigh-weight.ensures.spends.later, c.matches.invariant.spends.later) };
+      spends = spends_then c.matches.invariant.spends (spends_then c.lead-head.ensures.spends c.weigh-weight.ensures.spends);
     }
 
 pub seek_some-returns-then-weight-need-clause-accounts : goal.seek_some-returns-then-weight-need-clause-accounts
@@ -775,7 +770,7 @@ seek_or_many-returns-then-need-eq0-clause-accounts g t c = c.seek_all.ensures.ac
 pub seek_xor_many-all-init : goal.seek_xor_many-all-init
 seek_xor_many-all-init g t c = record {
   far = xor_begun c.args.index.now c.args.target (sides_on c.args.tops.now c.args.nodes.now) c.requires.sides c.requires.target;
-  spends = record { paid = omega arith; counted = omega arith; later = omega arith };
+  spends = spends_none _ _ _;
 }
 
 pub seek_some-matches-preserved : goal.seek_some-matches-preserved
@@ -788,11 +783,7 @@ seek_some-matches-preserved g t c =
           c.matches.invariant.within (omega (arith, c.if-head-ge-END.false)) c.matches.invariant.far c.lead-head.ensures.led c.lead-head.ensures.moved c.weigh-weight.ensures.weighed c.weigh-weight.ensures.moved)
           c.weigh-weight.ensures.weighed (omega (arith, c.if-weight-need.false));
       within = omega (arith, c.if-from-ge-END.false);
-      spends = record {
-        paid = omega (arith, c.lead-head.ensures.spends.paid, c.weigh-weight.ensures.spends.paid, c.matches.invariant.spends.paid);
-        counted = omega (arith, c.lead-head.ensures.spends.counted, c.weigh-weight.ensures.spends.counted, c.matches.invariant.spends.counted);
-        later = omega (arith, c.lead-head.ensures.spends.later, c.weigh-weight.ensures.spends.later, c.matches.invariant.spends.later);
-      };
+      spends = spends_then c.matches.invariant.spends (spends_then c.lead-head.ensures.spends c.weigh-weight.ensures.spends);
     }
 
 -- ---- what is asked of the nodes that are moved on
@@ -915,3 +906,30 @@ seek_some-lead-head-requires g t c κs within =
       omega (arith, c.requires.room, c.matches.invariant.spends.paid),
       (omega (arith, c.sum_of-most.ensures, c.matches.invariant.far.falls), omega (arith, c.matches.invariant.within)),
     )))))
+
+pub lead-returns-then-most-need-clause-spends : goal.lead-returns-then-most-need-clause-spends
+lead-returns-then-most-need-clause-spends g t c = spends_none _ _ _
+
+pub lead-returns-in_default-clause-spends : goal.lead-returns-in_default-clause-spends
+lead-returns-in_default-clause-spends g t c = spends_none _ _ _
+
+pub weigh-returns-then-others-most-clause-spends : goal.weigh-returns-then-others-most-clause-spends
+weigh-returns-then-others-most-clause-spends g t c = spends_none _ _ _
+
+pub weigh-returns-in_default-clause-spends : goal.weigh-returns-in_default-clause-spends
+weigh-returns-in_default-clause-spends g t c = spends_none _ _ _
+
+pub reach_few-returns-in_default-clause-spends : goal.reach_few-returns-in_default-clause-spends
+reach_few-returns-in_default-clause-spends g t c = spends_none _ _ _
+
+pub reach_all-returns-then-count-le-FEW-clause-moved : goal.reach_all-returns-then-count-le-FEW-clause-moved
+reach_all-returns-then-count-le-FEW-clause-moved g t c = c.reach_few.ensures.moved
+
+pub reach_all-returns-then-count-le-FEW-clause-sought : goal.reach_all-returns-then-count-le-FEW-clause-sought
+reach_all-returns-then-count-le-FEW-clause-sought g t c = c.reach_few.ensures.sought
+
+pub reach_all-returns-then-count-le-FEW-clause-reached : goal.reach_all-returns-then-count-le-FEW-clause-reached
+reach_all-returns-then-count-le-FEW-clause-reached g t c = c.reach_few.ensures.reached
+
+pub reach_all-returns-then-count-le-FEW-clause-spends : goal.reach_all-returns-then-count-le-FEW-clause-spends
+reach_all-returns-then-count-le-FEW-clause-spends g t c = c.reach_few.ensures.spends
