@@ -321,35 +321,35 @@ decays_itself i need s sound = record {
 
 -- two sides, as the rule says
 module _ (i : Indexed) (need : ℕ) (form : Form) (ta : Top) (a : Shape) (tb : Top) (b : Shape) (sound : Sound i (pair form ta a tb b)) where
-    gives : (change : Change) → Serves change form ta.greatest tb.greatest (ta.head == 2 ^ 32) (tb.head == 2 ^ 32) need → (id : ℕ) → CoversAt (paired form (rest i a id) (rest i b id)) (changed change form (rest i a id) (rest i b id)) need
-    gives change serves id = serves.covers (rest i a id) (rest i b id) (IsTop-side i ta a _ (λ e. eqb-true _ _ e) sound.first id) (IsTop-side i tb b _ (λ e. eqb-true _ _ e) sound.second id)
+  gives : (change : Change) → Serves change form ta.greatest tb.greatest (ta.head == 2 ^ 32) (tb.head == 2 ^ 32) need → (id : ℕ) → CoversAt (paired form (rest i a id) (rest i b id)) (changed change form (rest i a id) (rest i b id)) need
+  gives change serves id = serves.covers (rest i a id) (rest i b id) (IsTop-side i ta a _ (λ e. eqb-true _ _ e) sound.first id) (IsTop-side i tb b _ (λ e. eqb-true _ _ e) sound.second id)
 
-    under : (other : Form) → ((id : ℕ) → CoversAt (paired form (rest i a id) (rest i b id)) (paired other (rest i a id) (rest i b id)) need) → Replaces i need (pair form ta a tb b) (pair other ta a tb b)
-    under other covers = record {
-      sound = record { first = sound.first; second = sound.second; first_sound = sound.first_sound; second_sound = sound.second_sound; fits = sound.fits };
-      covers = covers;
-      smaller = omega arith;
-      unread = omega arith;
-    }
+  under : (other : Form) → ((id : ℕ) → CoversAt (paired form (rest i a id) (rest i b id)) (paired other (rest i a id) (rest i b id)) need) → Replaces i need (pair form ta a tb b) (pair other ta a tb b)
+  under other covers = record {
+    sound = record { first = sound.first; second = sound.second; first_sound = sound.first_sound; second_sound = sound.second_sound; fits = sound.fits };
+    covers = covers;
+    smaller = omega arith;
+    unread = omega arith;
+  }
 
-    swapped : (other : Form) → ((id : ℕ) → CoversAt (paired form (rest i a id) (rest i b id)) (paired other (rest i b id) (rest i a id)) need) → Replaces i need (pair form ta a tb b) (pair other tb b ta a)
-    swapped other covers = record {
-      sound = record { first = sound.second; second = sound.first; first_sound = sound.second_sound; second_sound = sound.first_sound; fits = omega (arith, sound.fits) };
-      covers = covers;
-      smaller = omega arith;
-      unread = omega arith;
-    }
+  swapped : (other : Form) → ((id : ℕ) → CoversAt (paired form (rest i a id) (rest i b id)) (paired other (rest i b id) (rest i a id)) need) → Replaces i need (pair form ta a tb b) (pair other tb b ta a)
+  swapped other covers = record {
+    sound = record { first = sound.second; second = sound.first; first_sound = sound.second_sound; second_sound = sound.first_sound; fits = omega (arith, sound.fits) };
+    covers = covers;
+    smaller = omega arith;
+    unread = omega arith;
+  }
 
-    replaced : (change : Change) → Serves change form ta.greatest tb.greatest (ta.head == 2 ^ 32) (tb.head == 2 ^ 32) need → Replaces i need (pair form ta a tb b) (changed_pair change form ta a tb b)
-    replaced Change.Keep serves = decays_itself i need _ sound
-    replaced Change.Nothing serves = record { sound = tt; covers = gives Change.Nothing serves; smaller = omega arith; unread = omega arith }
-    replaced Change.First serves = record { sound = sound.first_sound; covers = gives Change.First serves; smaller = omega arith; unread = omega arith }
-    replaced Change.Second serves = record { sound = sound.second_sound; covers = gives Change.Second serves; smaller = omega arith; unread = omega arith }
-    replaced Change.Maybe serves = under Form.AndMaybe (gives Change.Maybe serves)
-    replaced Change.MaybeSwap serves = swapped Form.AndMaybe (gives Change.MaybeSwap serves)
-    replaced Change.Both serves = under Form.And (gives Change.Both serves)
-    replaced Change.Not serves = under Form.AndNot (gives Change.Not serves)
-    replaced Change.NotSwap serves = swapped Form.AndNot (gives Change.NotSwap serves)
+  replaced : (change : Change) → Serves change form ta.greatest tb.greatest (ta.head == 2 ^ 32) (tb.head == 2 ^ 32) need → Replaces i need (pair form ta a tb b) (changed_pair change form ta a tb b)
+  replaced Change.Keep serves = decays_itself i need _ sound
+  replaced Change.Nothing serves = record { sound = tt; covers = gives Change.Nothing serves; smaller = omega arith; unread = omega arith }
+  replaced Change.First serves = record { sound = sound.first_sound; covers = gives Change.First serves; smaller = omega arith; unread = omega arith }
+  replaced Change.Second serves = record { sound = sound.second_sound; covers = gives Change.Second serves; smaller = omega arith; unread = omega arith }
+  replaced Change.Maybe serves = under Form.AndMaybe (gives Change.Maybe serves)
+  replaced Change.MaybeSwap serves = swapped Form.AndMaybe (gives Change.MaybeSwap serves)
+  replaced Change.Both serves = under Form.And (gives Change.Both serves)
+  replaced Change.Not serves = under Form.AndNot (gives Change.Not serves)
+  replaced Change.NotSwap serves = swapped Form.AndNot (gives Change.NotSwap serves)
 
 pub decays_along : (need : ℕ) (old new : Shape) (change : Change) (form : Form) (ta : Top) (a : Shape) (tb : Top) (b : Shape) → old ≡ pair form ta a tb b
     → Serves change form ta.greatest tb.greatest (ta.head == 2 ^ 32) (tb.head == 2 ^ 32) need → change ≡ change_of form ta.greatest tb.greatest (ta.head == 2 ^ 32) (tb.head == 2 ^ 32) need

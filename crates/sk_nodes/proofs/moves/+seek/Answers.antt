@@ -839,11 +839,22 @@ pub seek_pair-reach-requires : goal.seek_pair-reach-requires
 seek_pair-reach-requires g t c κs within = (omega (arith, c.decreases, c.sides.invariant.far.first_smaller), (within, (c.sides.invariant.far.pair.first, (c.sides.invariant.far.pair.first_sound, (c.sides.invariant.far.within, omega (arith, c.requires.room, c.sides.invariant.spends.paid))))))
 
 pub seek_pair-reach-requires-in-sides : goal.seek_pair-reach-requires-in-sides
-seek_pair-reach-requires-in-sides g t c κs within =
-    (omega (arith, c.decreases, c.sides.invariant.far.second_smaller), (within, (c.sides.invariant.far.pair.second, (c.sides.invariant.far.pair.second_sound, (
-      omega (arith, c.if-next-ge-END.false),
-      omega (arith, c.requires.room, c.sides.invariant.spends.paid, c.reach.ensures.sought.spends.paid),
-    )))))
+seek_pair-reach-requires-in-sides g t c κs within = (
+  omega (arith, c.decreases, c.sides.invariant.far.second_smaller),
+  (
+    within,
+    (
+      c.sides.invariant.far.pair.second,
+      (
+        c.sides.invariant.far.pair.second_sound,
+        (
+          omega (arith, c.if-next-ge-END.false),
+          omega (arith, c.requires.room, c.sides.invariant.spends.paid, c.reach.ensures.sought.spends.paid),
+        ),
+      ),
+    ),
+  ),
+)
 
 pub seek_xor_many-reach_all-requires : goal.seek_xor_many-reach_all-requires
 seek_xor_many-reach_all-requires g t c κs within = (omega (arith, c.decreases, c.all.invariant.far.smaller), (within, (c.all.invariant.far.sides.sides, (c.all.invariant.far.within, omega (arith, c.requires.room, c.all.invariant.spends.paid)))))
@@ -901,11 +912,22 @@ pub seek_synonym-reach-requires : goal.seek_synonym-reach-requires
 seek_synonym-reach-requires g t c κs within = (omega (arith, c.decreases), (within, (c.requires.synonym.top, (c.requires.synonym.sound, (c.requires.target, c.requires.room)))))
 
 pub seek_some-lead-head-requires : goal.seek_some-lead-head-requires
-seek_some-lead-head-requires g t c κs within =
-    (omega (arith, c.decreases, c.matches.invariant.far.smaller), (within, (c.matches.invariant.far.sides.sides, (c.matches.invariant.within, (
-      omega (arith, c.requires.room, c.matches.invariant.spends.paid),
-      (omega (arith, c.sum_of-most.ensures, c.matches.invariant.far.falls), omega (arith, c.matches.invariant.within)),
-    )))))
+seek_some-lead-head-requires g t c κs within = (
+  omega (arith, c.decreases, c.matches.invariant.far.smaller),
+  (
+    within,
+    (
+      c.matches.invariant.far.sides.sides,
+      (
+        c.matches.invariant.within,
+        (
+          omega (arith, c.requires.room, c.matches.invariant.spends.paid),
+          (omega (arith, c.sum_of-most.ensures, c.matches.invariant.far.falls), omega (arith, c.matches.invariant.within)),
+        ),
+      ),
+    ),
+  ),
+)
 
 pub lead-returns-then-most-need-clause-spends : goal.lead-returns-then-most-need-clause-spends
 lead-returns-then-most-need-clause-spends g t c = spends_none _ _ _
