@@ -1,5 +1,5 @@
 -- A node of the sides of an or has their shape.
-use Rattle.std.proofs.Common.{◌∙◌, arith}
+use Rattle.std.proofs.Common.{◌∙◌}
 use Rattle.sk_nodes.proofs.NodeLaws.{or_many_written}
 use Rattle.sk_nodes.proofs.begun.or_many_of.Goals as goal
 

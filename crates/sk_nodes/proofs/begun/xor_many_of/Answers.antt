@@ -1,5 +1,5 @@
 -- A node of the sides of an xor has their shape.
-use Rattle.std.proofs.Common.{◌∙◌, arith}
+use Rattle.std.proofs.Common.{◌∙◌}
 use Rattle.sk_nodes.proofs.NodeLaws.{xor_many_written}
 use Rattle.sk_nodes.proofs.begun.xor_many_of.Goals as goal
 

@@ -5,12 +5,12 @@ use Rattle.sk_model.specs.Covers.{Covers}
 use Rattle.sk_nodes.specs.declared.top.Top.{Top}
 use Rattle.sk_nodes.specs.declared.leaf.Leaf.{Leaf}
 use Rattle.sk_nodes.specs.declared.node.Node.{Node}
-use Rattle.sk_nodes.specs.Shapes.{Shape, Sides, side, ended, range, pair, xor_many, or_many, positional, synonym, shape_of, size_of, sides_on, sizes_in}
+use Rattle.sk_nodes.specs.Shapes.{Shape, Sides, side, range, pair, xor_many, or_many, positional, synonym, shape_of, size_of, sides_on, sizes_in}
 use Rattle.sk_nodes.specs.Left.{rest, from_on, greatest_sum, unread_of, unread_in}
 use Rattle.sk_nodes.specs.Sound.{IsTop, Sound, AreSound, IsPositional}
 use Rattle.sk_nodes.specs.Many.{AreFrom, AreSought, followed_by}
 use Rattle.sk_nodes.proofs.LeafLaws.{AtMost-covers}
-use Rattle.sk_nodes.proofs.NodeLaws.{sound_fits, ended_top, greatest_within, covers_more, capped_top, shape_of-Nothing, shape_of-Leaf, shape_of-Pair, leaf_shape, shape_of-Positional, positional_shape, shape_of-Synonym, synonym_shape, parts_shape, sought_along, greatest_under-mono, weight_le, target_ended, head_reached, pair_top, pair_top_ended, sides_covers, sides_covers_ended, sides_begun, sides_more, pair_covers, xor_many_shape, xor_many_written, or_many_shape, or_many_written, merge_shape, merge_written}
+use Rattle.sk_nodes.proofs.NodeLaws.{sound_fits, greatest_within, covers_more, capped_top, shape_of-Nothing, shape_of-Leaf, shape_of-Pair, leaf_shape, shape_of-Positional, positional_shape, shape_of-Synonym, synonym_shape, parts_shape, sought_along, greatest_under-mono, weight_le, target_ended, head_reached, pair_top, pair_top_ended, sides_covers, sides_covers_ended, sides_begun, sides_more, pair_covers, xor_many_shape, xor_many_written, or_many_shape, or_many_written, merge_shape, merge_written}
 use Rattle.sk_nodes.proofs.ManyLaws.{weights_fit, xor_begun, sides_cons, xor_covers, xor_more, xor_top, sides_split, sides_append, both_sound, sound_behind, from_behind, sought_behind, greatest_behind, unread_behind, sizes_behind, some_sizes}
 use Rattle.sk_nodes.specs.Proximity.{entries_unread}
 use Rattle.sk_nodes.proofs.ProximityLaws.{test_begun, moved_all, moved_covers, moved_ended, ended_test, passed_top, passed_sound, passed_covers, none_top, failed_ended_covers, failed_ended_sound, failed_more}
@@ -839,22 +839,7 @@ pub seek_pair-reach-requires : goal.seek_pair-reach-requires
 seek_pair-reach-requires g t c κs within = (omega (arith, c.decreases, c.sides.invariant.far.first_smaller), (within, (c.sides.invariant.far.pair.first, (c.sides.invariant.far.pair.first_sound, (c.sides.invariant.far.within, omega (arith, c.requires.room, c.sides.invariant.spends.paid))))))
 
 pub seek_pair-reach-requires-in-sides : goal.seek_pair-reach-requires-in-sides
-seek_pair-reach-requires-in-sides g t c κs within = (
-  omega (arith, c.decreases, c.sides.invariant.far.second_smaller),
-  (
-    within,
-    (
-      c.sides.invariant.far.pair.second,
-      (
-        c.sides.invariant.far.pair.second_sound,
-        (
-          omega (arith, c.if-next-ge-END.false),
-          omega (arith, c.requires.room, c.sides.invariant.spends.paid, c.reach.ensures.sought.spends.paid),
-        ),
-      ),
-    ),
-  ),
-)
+seek_pair-reach-requires-in-sides g t c κs within = (omega (arith, c.decreases, c.sides.invariant.far.second_smaller), (within, (c.sides.invariant.far.pair.second, (c.sides.invariant.far.pair.second_sound, (omega (arith, c.if-next-ge-END.false), omega (arith, c.requires.room, c.sides.invariant.spends.paid, c.reach.ensures.sought.spends.paid))))))
 
 pub seek_xor_many-reach_all-requires : goal.seek_xor_many-reach_all-requires
 seek_xor_many-reach_all-requires g t c κs within = (omega (arith, c.decreases, c.all.invariant.far.smaller), (within, (c.all.invariant.far.sides.sides, (c.all.invariant.far.within, omega (arith, c.requires.room, c.all.invariant.spends.paid)))))
@@ -912,22 +897,7 @@ pub seek_synonym-reach-requires : goal.seek_synonym-reach-requires
 seek_synonym-reach-requires g t c κs within = (omega (arith, c.decreases), (within, (c.requires.synonym.top, (c.requires.synonym.sound, (c.requires.target, c.requires.room)))))
 
 pub seek_some-lead-head-requires : goal.seek_some-lead-head-requires
-seek_some-lead-head-requires g t c κs within = (
-  omega (arith, c.decreases, c.matches.invariant.far.smaller),
-  (
-    within,
-    (
-      c.matches.invariant.far.sides.sides,
-      (
-        c.matches.invariant.within,
-        (
-          omega (arith, c.requires.room, c.matches.invariant.spends.paid),
-          (omega (arith, c.sum_of-most.ensures, c.matches.invariant.far.falls), omega (arith, c.matches.invariant.within)),
-        ),
-      ),
-    ),
-  ),
-)
+seek_some-lead-head-requires g t c κs within = (omega (arith, c.decreases, c.matches.invariant.far.smaller), (within, (c.matches.invariant.far.sides.sides, (c.matches.invariant.within, (omega (arith, c.requires.room, c.matches.invariant.spends.paid), (omega (arith, c.sum_of-most.ensures, c.matches.invariant.far.falls), omega (arith, c.matches.invariant.within)))))))
 
 pub lead-returns-then-most-need-clause-spends : goal.lead-returns-then-most-need-clause-spends
 lead-returns-then-most-need-clause-spends g t c = spends_none _ _ _
