@@ -25,7 +25,7 @@ use Rattle.sk_nodes.specs.Leaves.{AtMost}
 use Rattle.sk_nodes.specs.declared.proximity.Proximity.{Proximity}
 use Rattle.sk_nodes.specs.declared.leaf.Leaf.{Leaf}
 use Rattle.sk_nodes.specs.Shapes.{Shape, ended, leaf, range, pair, xor_many, or_many, positional, synonym, shape_of, node_step, size_of, sides_on, merged}
-use Rattle.sk_nodes.specs.Decayed.{changed_pair, decayed, SidesFit, Decays}
+use Rattle.sk_nodes.specs.Decayed.{changed_pair, decayed, SidesFit, IsDecayed}
 use Rattle.sk_nodes.specs.Left.{rest, from_on, unread_of, greatest_held}
 use Rattle.sk_nodes.specs.Skips.{WeighsBelow}
 use Rattle.sk_nodes.specs.Moved.{WasSought}
@@ -353,7 +353,7 @@ module _ (i : Indexed) (need : ℕ) (form : Form) (ta : Top) (a : Shape) (tb : T
 
 pub decays_along : (need : ℕ) (old new : Shape) (change : Change) (form : Form) (ta : Top) (a : Shape) (tb : Top) (b : Shape) → old ≡ pair form ta a tb b
     → Serves change form ta.greatest tb.greatest (ta.head == 2 ^ 32) (tb.head == 2 ^ 32) need → change ≡ change_of form ta.greatest tb.greatest (ta.head == 2 ^ 32) (tb.head == 2 ^ 32) need
-    → new ≡ changed_pair change form ta a tb b → Decays need old new
+    → new ≡ changed_pair change form ta a tb b → IsDecayed need old new
 decays_along need old new change form ta a tb b e serves table f = record {
   covers = λ i sound.
       subst (λ (s : Shape). Replaces i need s new) (sym e) (subst (λ (s : Shape). Replaces i need (pair form ta a tb b) s) (sym f)
@@ -363,12 +363,12 @@ decays_along need old new change form ta a tb b e serves table f = record {
 
 -- any other node stays
 abbrev OtherStays : ℕ → Node → Type 0
-OtherStays need n = ((form : Form) (ta : Top) (a : Box Node Global) (tb : Top) (b : Box Node Global) → n ≡ Node.Pair form ta a tb b → ⊥) → Decays need (shape_of n) (shape_of n)
+OtherStays need n = ((form : Form) (ta : Top) (a : Box Node Global) (tb : Top) (b : Box Node Global) → n ≡ Node.Pair form ta a tb b → ⊥) → IsDecayed need (shape_of n) (shape_of n)
 
 pub other_stays : (need : ℕ) (n : Node) → OtherStays need n
 other_stays need = ind-Node (OtherStays need) (λ x y is. by x)
   where
-    stays : (n : Node) (s : Shape) → shape_of n ≡ s → decayed need s ≡ s → Decays need (shape_of n) (shape_of n)
+    stays : (n : Node) (s : Shape) → shape_of n ≡ s → decayed need s ≡ s → IsDecayed need (shape_of n) (shape_of n)
     stays n s e same = record { covers = λ i sound. decays_itself i need (shape_of n) sound; table = e ∙ sym same ∙ ap (decayed need) (sym e) }
 
     by : (x : Node-F Node) → OtherStays need (roll-Node x)

@@ -31,6 +31,6 @@ decayed need (pair form ta a tb b) = changed_pair (change_of form ta.greatest tb
 decayed need s = s
 
 -- What is put in a node's place under a need is what the table says, and may stand for it.
-pub record Decays (need : ℕ) (old new : Shape) : Type 0 where
+pub record IsDecayed (need : ℕ) (old new : Shape) : Type 0 where
   pub covers : (i : Indexed) → Sound i old → Replaces i need old new
   pub table : new ≡ decayed need old

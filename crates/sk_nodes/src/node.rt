@@ -4,7 +4,7 @@ ghost use Rattle.sk_index.specs.Indexed.{Indexed};
 ghost use Rattle.sk_decay.specs.declared.change.Change.TheVariants as Change;
 ghost use Rattle.sk_decay.specs.Changes.{change_of};
 ghost use Rattle.sk_nodes.specs.Shapes.{shape_of};
-ghost use Rattle.sk_nodes.specs.Decayed.{decayed, SidesFit, Decays};
+ghost use Rattle.sk_nodes.specs.Decayed.{decayed, SidesFit, IsDecayed};
 ghost use Rattle.sk_nodes.specs.Sound.{Sound, Replaces};
 
 use crate::leaf::Leaf;
@@ -84,7 +84,7 @@ fn stands(form: Form, a: Weight, b: Weight, need: Weight) -> bool
 #[inline(never)]
 fn decay(node: &mut Node, need: Weight)
     requires { SidesFit (shape_of node.old) }
-    ensures { Decays need (shape_of node.old) (shape_of node.new) }
+    ensures { IsDecayed need (shape_of node.old) (shape_of node.new) }
 {
     let Node::Pair(form, ta, a, tb, b) = node else {
         return;
