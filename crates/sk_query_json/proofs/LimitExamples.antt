@@ -1,10 +1,12 @@
 -- Queries at their limits and one beyond, and whether they fit.
-use Rattle.std.proofs.Common.{◌≡◌, ℕ, zero, suc, ◌+◌, Bool, true, false, List, [], ◌∷◌, map, is_some, codes, refl}
+use Rattle.std.proofs.Common.{◌≡◌, ℕ, zero, suc, ◌+◌, Bool, true, false, List, [], ◌∷◌, map, is_some, codes, refl, ap, ◌∙◌, arith, ◌≤◌, ◌&&◌, ◌||◌, not, nat_le, length, bytes_eq}
+use Rattle.std.specs.List.{list_any}
+use Rattle.std.proofs.lemmas.Bool.Decides.{nat_tests}
 use Rattle.serde_json.specs.Data.{Data, null, string, number, array, object, Items, no_items, item, no_members, member, unsigned}
 use Rattle.sk_query.specs.declared.form.Form.{Form}
 use Rattle.sk_query.specs.Trees.{unbounded, Tree, nothing, all, term, wildcard, parts, near, phrase, synonym, scale, range, no_trees, tree, trees_from}
 use Rattle.sk_query.specs.Trees.{number as number_limit}
-use Rattle.sk_query.specs.Fits.{fits_tree}
+use Rattle.sk_query.specs.Fits.{fits_tree, are_given, are_different}
 use Rattle.sk_query_json.specs.Reading.{tree_of}
 
 -- so many times the same item, and more behind
@@ -94,8 +96,23 @@ texts (suc n) = (suc n ∷ []) ∷ texts n
 abbrev synonyms : List (ℕ × Bool)
 synonyms = (1, true) ∷ (1024, true) ∷ (1025, false) ∷ []
 
+-- no two of them are equal, which is not computed for each pair
+not_among : (n m : ℕ) → m ≤ n → list_any (λ other. bytes_eq (suc n ∷ []) other) (texts m) ≡ false
+not_among n zero l = refl
+not_among n (suc m) l = ap (λ b. b || list_any (λ other. bytes_eq (suc n ∷ []) other) (texts m)) (unlike n m l) ∙ not_among n m (omega arith)
+  where
+    unlike : (n m : ℕ) → suc m ≤ n → bytes_eq (suc n ∷ []) (suc m ∷ []) ≡ false
+    unlike n m l = grind (arith, nat_tests)
+
+different : (n : ℕ) → are_different (texts n) ≡ true
+different zero = refl
+different (suc n) = ap (λ b. not b && are_different (texts n)) (not_among n n (omega arith)) ∙ different n
+
+fits : (n : ℕ) → fits_tree (synonym (texts n)) ≡ ((are_given (texts n) && true) && nat_le (length (texts n)) 1024 && nat_le 1 1000)
+fits n = ap (λ b. (are_given (texts n) && b) && nat_le (length (texts n)) 1024 && nat_le 1 1000) (different n)
+
 pub synonyms-hold : map (λ row. fits_tree (synonym (texts row.0))) synonyms ≡ map (λ row. row.1) synonyms
-synonyms-hold = refl
+synonyms-hold = λ i. fits 1 i ∷ fits 1024 i ∷ fits 1025 i ∷ []
 
 -- a query with so many queries above, ands and scales in turn
 abbrev deep : ℕ → Bool → Tree

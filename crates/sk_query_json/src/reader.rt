@@ -27,6 +27,7 @@ pub fn from_json(alloc: Global, value: &Value) -> Result<Query, TreeFault>
     if query.fits() {
         Ok(query)
     } else {
+        drop(query);
         Err(TreeFault::Shape)
     }
 }

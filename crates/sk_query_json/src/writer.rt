@@ -1,8 +1,8 @@
 //! The JSON value of a query.
-ghost use Rattle.std.specs.Prelude.{◌≡◌, ◌++◌, true, Some, IfOk, map};
-ghost use Rattle.serde_json.specs.Data.{string, array};
+ghost use Rattle.std.specs.Prelude.{◌≡◌, ◌++◌, true, Some, IfOk, map, codes};
+ghost use Rattle.serde_json.specs.Data.{string, number, array, no_items, item, unsigned};
 ghost use Rattle.serde_json.specs.View.{view, items_view};
-ghost use Rattle.sk_query.specs.Trees.{limit_of, query_view, queries_view};
+ghost use Rattle.sk_query.specs.Trees.{limit_of, query_view, queries_view, name_of, synonym, range};
 ghost use Rattle.sk_query.specs.Fits.{fits_tree};
 ghost use Rattle.sk_query_json.specs.Reading.{tree_of};
 ghost use Rattle.sk_query_json.specs.Writing.{named, windowed, json_of_limit, json_of, json_of_all};
@@ -29,51 +29,59 @@ fn json_of(alloc: Global, query: &Query) -> Result<Value, AllocError>
         Query::All => array_named(alloc, "all", Vec::new(alloc)),
         Query::Term(term) => text_named(alloc, "term", term),
         Query::Wildcard(prefix) => text_named(alloc, "wildcard", prefix),
-        Query::And(parts) => array_named(alloc, Form::And.name(), values_of(alloc, parts)?),
-        Query::Or(parts) => array_named(alloc, Form::Or.name(), values_of(alloc, parts)?),
-        Query::Xor(parts) => array_named(alloc, Form::Xor.name(), values_of(alloc, parts)?),
-        Query::Max(parts) => array_named(alloc, Form::Max.name(), values_of(alloc, parts)?),
-        Query::AndNot(parts) => {
-            array_named(alloc, Form::AndNot.name(), values_of(alloc, parts)?)
-        }
-        Query::AndMaybe(parts) => {
-            array_named(alloc, Form::AndMaybe.name(), values_of(alloc, parts)?)
-        }
-        Query::Filter(parts) => {
-            array_named(alloc, Form::Filter.name(), values_of(alloc, parts)?)
-        }
+        Query::And(parts) => parts_named(alloc, Form::And, parts),
+        Query::Or(parts) => parts_named(alloc, Form::Or, parts),
+        Query::Xor(parts) => parts_named(alloc, Form::Xor, parts),
+        Query::Max(parts) => parts_named(alloc, Form::Max, parts),
+        Query::AndNot(parts) => parts_named(alloc, Form::AndNot, parts),
+        Query::AndMaybe(parts) => parts_named(alloc, Form::AndMaybe, parts),
+        Query::Filter(parts) => parts_named(alloc, Form::Filter, parts),
         Query::Near(window, texts) => windowed(alloc, "near", *window, texts.as_slice()),
         Query::Phrase(window, texts) => windowed(alloc, "phrase", *window, texts.as_slice()),
-        Query::Synonym(texts) => {
-            let strings = with_strings(alloc, Vec::new(alloc), texts.as_slice())?;
-            array_named(alloc, "synonym", strings)
-        }
-        Query::Scale(factor, part) => {
-            let mut items = Vec::new(alloc);
-            items.push(Value::from(*factor))?;
-            items.push(json_of(alloc, part)?)?;
-            array_named(alloc, "scale", items)
-        }
-        Query::Range(slot, lo, hi) => {
-            let mut items = Vec::new(alloc);
-            items.push(Value::from(*slot))?;
-            items.push(json_of_bound(alloc, lo)?)?;
-            items.push(json_of_bound(alloc, hi)?)?;
-            array_named(alloc, "range", items)
-        }
+        Query::Synonym(texts) => synonym(alloc, texts.as_slice()),
+        Query::Scale(factor, part) => scaled(alloc, *factor, json_of(alloc, part)?),
+        Query::Range(slot, lo, hi) => range(alloc, *slot, lo, hi),
     }
 }
 
-/// The values of queries, in order.
+/// The values of the parts of a form, in order.
 #[cycle(json_of)]
-fn values_of(alloc: Global, parts: &[Query]) -> Result<Vec<Value>, AllocError>
-    ensures { IfOk result (λ made. items_view made.items ≡ json_of_all (queries_view parts.now)) }
+fn parts_named(alloc: Global, form: Form, parts: &[Query]) -> Result<Value, AllocError>
+    ensures { IfOk result (λ value. view value ≡ named (name_of form) (array (json_of_all (queries_view parts.now)))) }
 {
     let mut made = Vec::new(alloc);
     'parts: for part in parts {
         made.push(json_of(alloc, part)?)?;
     }
-    Ok(made)
+    array_named(alloc, form.name(), made)
+}
+
+/// A factor, and the value of a part.
+fn scaled(alloc: Global, factor: u32, part: Value) -> Result<Value, AllocError>
+    ensures { IfOk result (λ value. view value ≡ named (codes "scale") (array (item (number (unsigned factor)) (item (view part) no_items)))) }
+{
+    let mut items = Vec::new(alloc);
+    items.push(Value::from(factor))?;
+    items.push(part)?;
+    array_named(alloc, "scale", items)
+}
+
+/// A slot and two ends.
+fn range(alloc: Global, slot: u32, lo: &Bound, hi: &Bound) -> Result<Value, AllocError>
+    ensures { IfOk result (λ value. view value ≡ json_of (range slot (limit_of lo.now) (limit_of hi.now))) }
+{
+    let mut items = Vec::new(alloc);
+    items.push(Value::from(slot))?;
+    items.push(json_of_bound(alloc, lo)?)?;
+    items.push(json_of_bound(alloc, hi)?)?;
+    array_named(alloc, "range", items)
+}
+
+fn synonym(alloc: Global, texts: &[Text]) -> Result<Value, AllocError>
+    ensures { IfOk result (λ value. view value ≡ json_of (synonym texts.now)) }
+{
+    let strings = with_strings(alloc, Vec::new(alloc), texts)?;
+    array_named(alloc, "synonym", strings)
 }
 
 /// A window, and behind it the texts.
@@ -134,7 +142,8 @@ fn array_named(alloc: Global, name: &str, items: Vec<Value>) -> Result<Value, Al
 fn named(alloc: Global, name: &str, value: Value) -> Result<Value, AllocError>
     ensures { IfOk result (λ object. view object ≡ named name.now (view value)) }
 {
+    let name = String::from_str(alloc, name)?;
     let mut members = Map::new(alloc);
-    members.insert(String::from_str(alloc, name)?, value)?;
+    members.insert(name, value)?;
     Ok(Value::Object(members))
 }
