@@ -26,10 +26,10 @@ pub fn command(
     // It may come under that schema: an edit fits it, and a question its bounds.
     ensures comes { IfOk result (MayCome (option_copied schema.entry)) }
 {
-    let value = line_value(alloc, line)?;
+    let mut value = line_value(alloc, line)?;
     match schema {
         None => first_command(alloc, &value),
-        Some(schema) => later_command(alloc, schema, value),
+        Some(schema) => later_command(alloc, schema, &mut value),
     }
 }
 
@@ -53,15 +53,15 @@ fn first_command(alloc: Global, value: &Value) -> Result<Command<Value>, LineFau
 fn later_command(
     alloc: Global,
     schema: &Schema,
-    mut value: Value,
+    value: &mut Value,
 ) -> Result<Command<Value>, LineFault>
-    ensures reads { CommandReadsAs (value_outcome (Some schema.now) (view value)) result }
+    ensures reads { CommandReadsAs (value_outcome (Some schema.now) (view value.old)) result }
     ensures comes { IfOk result (MayCome (Some schema.now)) }
 {
-    if has(&value, "schema") {
+    if has(value, "schema") {
         return Err(LineFault::SchemaAgain);
     }
-    let Some(row) = later_row(alloc, &mut value) else {
+    let Some(row) = later_row(alloc, value) else {
         return Err(LineFault::BadShape);
     };
     match command_of(alloc, schema.fields(), row)? {

@@ -3,11 +3,12 @@ ghost use Rattle.std.specs.Prelude.{◌≡◌, OnSome, option_map, codes};
 ghost use Rattle.serde_json.specs.View.{view};
 ghost use Rattle.sk_json.specs.Values.{optional_text};
 ghost use Rattle.sk_record.specs.Rows.{values_object, given_at, id_member, pair_at, add_row, replace_row, replace_by_row, delete_row, delete_by_row, show_row, told_at, facets_row, number_at, times_at, open_row, turn_row, close_row, drop_row, later_shape};
-ghost use Rattle.sk_record.specs.Shown.{pair_shown, given_shown, counted_shown, flight_shown, shape_shown};
+ghost use Rattle.sk_record.specs.Shapes.{seek, facets, flight};
+ghost use Rattle.sk_record.specs.Shown.{pair_shown, given_shown, wanted_shown, counted_shown, flight_shown, shape_shown};
 ghost use Rattle.sk_record.specs.Taken.{without_member};
 
 use crate::options::{find_row, is_alone, join_at, plain_find, query_at, tree_row};
-use crate::row::{FacetRow, FlightRow, RecordRow, Row, TextRow};
+use crate::row::{FacetRow, FindRow, FlightRow, RecordRow, Row, TextRow};
 use crate::taken::{take_member, text_of};
 use serde_json::Value;
 use sk_base::{MOST_HITS, MOST_TEXT, Text, default_options};
@@ -38,31 +39,42 @@ pub fn later_row(alloc: Global, line: &mut Value) -> Option<Row<'_>>
     } else if has(line, "delete_by") {
         delete_by_row(line)
     } else if has(line, "find") {
-        let find = find_row(line, "find")?;
-        Some(Row::Find(find))
+        found(find_row(line, "find"))
     } else if has(line, "tree") {
-        let find = tree_row(line)?;
-        Some(Row::Find(find))
+        found(tree_row(line))
     } else if has(line, "show") {
         show_row(line)
     } else if has(line, "facets") {
-        let facets = facets_row(line)?;
-        Some(Row::Facets(facets))
+        counted(facets_row(line))
     } else if has(line, "open") {
-        let asked = open_row(line)?;
-        Some(Row::Flight(asked))
+        asked(open_row(line))
     } else if has(line, "turn") {
-        let asked = turn_row(line)?;
-        Some(Row::Flight(asked))
+        asked(turn_row(line))
     } else if has(line, "close") {
-        let asked = close_row(line)?;
-        Some(Row::Flight(asked))
+        asked(close_row(line))
     } else if has(line, "drop") {
-        let asked = drop_row(line)?;
-        Some(Row::Flight(asked))
+        asked(drop_row(line))
     } else {
         None
     }
+}
+
+fn found(row: Option<FindRow<'_>>) -> Option<Row<'_>>
+    ensures { option_map shape_shown result ≡ option_map seek (option_map wanted_shown row.entry) }
+{
+    Some(Row::Find(row?))
+}
+
+fn counted(row: Option<FacetRow<'_>>) -> Option<Row<'_>>
+    ensures { option_map shape_shown result ≡ option_map facets (option_map counted_shown row.entry) }
+{
+    Some(Row::Facets(row?))
+}
+
+fn asked(row: Option<FlightRow<'_>>) -> Option<Row<'_>>
+    ensures { option_map shape_shown result ≡ option_map flight (option_map flight_shown row.entry) }
+{
+    Some(Row::Flight(row?))
 }
 
 fn add_row(alloc: Global, line: &mut Value) -> Option<Row<'_>>

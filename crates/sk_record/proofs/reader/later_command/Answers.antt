@@ -11,5 +11,5 @@ pub returns-in-Some-2-clause-comes : goal.returns-in-Some-2-clause-comes
 returns-in-Some-2-clause-comes c =
     let shape = shape_shown c.in-Some.row in
     command_comes c.args.schema.now shape c.in-Some-2.command c.fields.ensures.sound
-    (later_fits (view c.args.value) shape (sym c.in-Some.ensures))
+    (later_fits (view c.args.value.now) shape (sym c.in-Some.ensures))
     (ap (λ fields. command_of fields shape) (sym c.fields.ensures.value) ∙ sym c.in_ok-command.ensures ∙ ap (option_map (command_over view)) c.in-Some-2.is)
