@@ -11,9 +11,9 @@ pub behind_last : (xs : List Part) (x : Part) → parts_behind (xs ++ x ∷ []) 
 behind_last xs x = ap reverse (map-append part_view xs (x ∷ [])) ∙ reverse-append (map part_view xs) (part_view x ∷ [])
 
 -- Words behind a link and a chain go to the chain, which asks for no stem.
-pub linked_chain : (ordered : Bool) (n : ℕ) (p : Bool) (k : ℕ) (stem other : Option Text) (us : List (List ℕ)) (mid old new : List Part) (o : Bool) (m most : ℕ) (ts all : Vec Text Global)
-    → old ≡ mid ++ Part.Chain o m other ts ∷ []
-    → new ≡ mid ++ Part.Chain ordered most None all ∷ [] → most ≡ max m n → all.items ≡ ts.items ++ us → parts_behind new ≡ linked ordered n (parts_behind old) p k stem us
-linked_chain ordered n p k stem other us mid old new o m most ts all e f g h =
-    ap parts_behind f ∙ behind_last mid (Part.Chain ordered most None all) ∙ (λ i. chain ordered (g i) None (h i) ∷ parts_behind mid)
+pub linked_chain : (ordered : Bool) (n : ℕ) (p : Bool) (k : ℕ) (stem other : Option Text) (us : List (List ℕ)) (mid old : List Part) (o : Bool) (m most : ℕ) (ts all : Vec Text Global)
+    → old ≡ mid ++ Part.Chain o m other ts ∷ [] → most ≡ max m n → all.items ≡ ts.items ++ us
+    → chain ordered most None all.items ∷ parts_behind mid ≡ linked ordered n (parts_behind old) p k stem us
+linked_chain ordered n p k stem other us mid old o m most ts all e g h =
+    (λ i. chain ordered (g i) None (h i) ∷ parts_behind mid)
     ∙ sym (ap (λ ps. linked ordered n ps p k stem us) (ap parts_behind e ∙ behind_last mid (Part.Chain o m other ts)))

@@ -1,11 +1,36 @@
 //! Puts linked words together.
-ghost use Rattle.std.specs.Prelude.{◌≡◌, OnOk};
-ghost use Rattle.sk_grammar.specs.Parts.{linked, with_words, with_part};
+ghost use Rattle.std.specs.Prelude.{◌≡◌, ◌∷◌, OnOk};
+ghost use Rattle.sk_grammar.specs.Parts.{chain, link, linked, with_words, with_part};
 ghost use Rattle.sk_parser.specs.Views.{part_view, parts_behind};
 
 use crate::part::Part;
 use sk_base::Text;
 use std::alloc::AllocError;
+
+/// Adds a part as it is.
+#[tactic(auto, using(crate::proofs::ChainLemmas::behind_last))]
+fn put(parts: &mut Vec<Part>, part: Part) -> Result<(), AllocError>
+    ensures { OnOk result (parts_behind parts.new.items ≡ part_view part ∷ parts_behind parts.old.items) }
+{
+    parts.push(part)?;
+    Ok(())
+}
+
+/// Adds a link and words, as they are.
+fn put_linked(
+    parts: &mut Vec<Part>,
+    ordered: bool,
+    distance: u32,
+    in_order: bool,
+    own: u32,
+    stem: Option<Text>,
+    words: Vec<Text>,
+) -> Result<(), AllocError>
+    ensures { OnOk result (parts_behind parts.new.items ≡ chain in_order own stem words.items ∷ link ordered distance ∷ parts_behind parts.old.items) }
+{
+    put(parts, Part::Link(ordered, distance))?;
+    put(parts, Part::Chain(in_order, own, stem, words))
+}
 
 /// Adds words behind a link, which was taken off.
 #[tactic(auto, using(crate::proofs::ChainLemmas::behind_last))]
@@ -25,20 +50,16 @@ fn link(
         Some(Part::Chain(_, greatest, _, before)) => {
             let mut all = before;
             all.append(&mut words)?;
-            parts.push(Part::Chain(ordered, greatest.max(distance), None, all))?;
-            Ok(())
+            put(
+                parts,
+                Part::Chain(ordered, greatest.max(distance), None, all),
+            )
         }
         Some(other) => {
-            parts.push(other)?;
-            parts.push(Part::Link(ordered, distance))?;
-            parts.push(Part::Chain(in_order, own, stem, words))?;
-            Ok(())
+            put(parts, other)?;
+            put_linked(parts, ordered, distance, in_order, own, stem, words)
         }
-        None => {
-            parts.push(Part::Link(ordered, distance))?;
-            parts.push(Part::Chain(in_order, own, stem, words))?;
-            Ok(())
-        }
+        None => put_linked(parts, ordered, distance, in_order, own, stem, words),
     }
 }
 
@@ -58,14 +79,10 @@ fn add_words(
             link(parts, ordered, distance, in_order, own, stem, words)
         }
         Some(other) => {
-            parts.push(other)?;
-            parts.push(Part::Chain(in_order, own, stem, words))?;
-            Ok(())
+            put(parts, other)?;
+            put(parts, Part::Chain(in_order, own, stem, words))
         }
-        None => {
-            parts.push(Part::Chain(in_order, own, stem, words))?;
-            Ok(())
-        }
+        None => put(parts, Part::Chain(in_order, own, stem, words)),
     }
 }
 
@@ -76,9 +93,6 @@ pub(crate) fn add(parts: &mut Vec<Part>, part: Part) -> Result<(), AllocError>
 {
     match part {
         Part::Chain(in_order, own, stem, words) => add_words(parts, in_order, own, stem, words),
-        other => {
-            parts.push(other)?;
-            Ok(())
-        }
+        other => put(parts, other),
     }
 }

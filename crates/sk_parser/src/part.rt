@@ -2,10 +2,10 @@
 ghost use Rattle.std.specs.Prelude.{◌≡◌, ◌<◌, ◌≤◌, ◌+◌, ◌-◌, ◌^◌, [], ◌∷◌, IfOk, map, true, false, length};
 ghost use Rattle.std.specs.List.{slice_get};
 ghost use Rattle.sk_base.specs.Terms.{prefixed};
-ghost use Rattle.sk_query.specs.Trees.{limit_of, query_view};
+ghost use Rattle.sk_query.specs.Trees.{term, wildcard, limit_of, query_view};
 ghost use Rattle.sk_grammar.specs.Bounds.{halves, is_number, is_number_kind, are_numbers};
 ghost use Rattle.sk_grammar.specs.Faults.{is_bad_range, takes_numbers};
-ghost use Rattle.sk_grammar.specs.Parts.{chain, unit, prefix_of, prefix_in, side_by_side, limit_in, slot_of, range_in, all_prefixed, stem_asked, single_part, chain_tree};
+ghost use Rattle.sk_grammar.specs.Parts.{chain, unit, chosen, prefix_of, prefix_in, side_by_side, limit_in, slot_of, range_in, all_prefixed, stem_asked, single_part, chain_tree};
 ghost use Rattle.sk_parser.specs.Views.{part_view, kind_range};
 
 use sk_base::{Field, FieldKind, Items, Schema, Text, prefixed};
@@ -173,8 +173,7 @@ pub(crate) fn part_of(
             term.as_str(),
         ),
         Kind::Wild(field, term) => {
-            let term = prefixed(alloc, prefix_in(schema, around, *field), term.as_str())?;
-            Ok(Part::Unit(Query::Wildcard(term)))
+            wild_part(alloc, prefix_in(schema, around, *field), term.as_str())
         }
         Kind::Joined(field, terms) => {
             words_part(alloc, prefix_in(schema, around, *field), terms.as_slice())
@@ -182,16 +181,8 @@ pub(crate) fn part_of(
         Kind::Quote(field, terms) => {
             words_part(alloc, prefix_in(schema, around, *field), terms.as_slice())
         }
-        Kind::Filter(field, text) => {
-            let term = prefixed(alloc, prefix_of(schema.fields(), *field), text.as_str())?;
-            Ok(Part::Chosen(*field, Query::Term(term)))
-        }
-        Kind::Range(field, text) => {
-            Ok(Part::Chosen(
-                *field,
-                range_in(alloc, schema.fields(), *field, text.as_str())?,
-            ))
-        }
+        Kind::Filter(field, text) => filter_part(alloc, schema.fields(), *field, text.as_str()),
+        Kind::Range(field, text) => range_part(alloc, schema.fields(), *field, text.as_str()),
         Kind::Near(n) => Ok(Part::Link(false, *n)),
         Kind::Adj(n) => Ok(Part::Link(true, *n)),
         Kind::Open(field) => Ok(Part::Operator(Kind::Open(*field))),
@@ -203,6 +194,36 @@ pub(crate) fn part_of(
         Kind::Xor => Ok(Part::Operator(Kind::Xor)),
         Kind::Not => Ok(Part::Operator(Kind::Not)),
     }
+}
+
+/// The words that begin so.
+fn wild_part(alloc: Global, prefix: &str, term: &str) -> Result<Part, AllocError>
+    ensures { IfOk result (λ p. part_view p ≡ unit (wildcard (prefixed prefix.now term.now))) }
+{
+    let term = prefixed(alloc, prefix, term)?;
+    Ok(Part::Unit(Query::Wildcard(term)))
+}
+
+/// A text of the filter at this place.
+fn filter_part(
+    alloc: Global,
+    fields: &[Field],
+    place: usize,
+    text: &str,
+) -> Result<Part, AllocError>
+    ensures { IfOk result (λ p. part_view p ≡ chosen place (term (prefixed (prefix_of (slice_get fields.now place)) text.now))) }
+{
+    let term = prefixed(alloc, prefix_of(fields, place), text)?;
+    Ok(Part::Chosen(place, Query::Term(term)))
+}
+
+/// A range of the field at this place.
+fn range_part(alloc: Global, fields: &[Field], place: usize, text: &str) -> Result<Part, AllocError>
+    requires { takes_numbers (slice_get fields.now place) ≡ true → are_numbers (halves text.now) ≡ true }
+    ensures { IfOk result (λ p. part_view p ≡ chosen place (range_in (slice_get fields.now place) text.now)) }
+{
+    let range = range_in(alloc, fields, place, text)?;
+    Ok(Part::Chosen(place, range))
 }
 
 /// The range of the field at this place.
@@ -226,9 +247,9 @@ fn word_part(
 ) -> Result<Part, AllocError>
     ensures { IfOk result (λ p. part_view p ≡ chain false 0 (stem_asked stems capital prefix.now term.now) (prefixed prefix.now term.now ∷ [])) }
 {
-    let stem = stem_asked(alloc, stems, capital, prefix, term)?;
     let mut words = Vec::new(alloc);
     words.push(prefixed(alloc, prefix, term)?)?;
+    let stem = stem_asked(alloc, stems, capital, prefix, term)?;
     Ok(Part::Chain(false, 0, stem, words))
 }
 

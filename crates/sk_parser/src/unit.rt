@@ -1,5 +1,6 @@
 //! The units of a run.
-ghost use Rattle.std.specs.Prelude.{◌≡◌, ◌++◌, IfOk, OnOk, map};
+ghost use Rattle.std.specs.Prelude.{◌≡◌, [], ◌∷◌, ◌++◌, IfOk, OnOk, map};
+ghost use Rattle.sk_query.specs.Trees.{query_view};
 ghost use Rattle.sk_grammar.specs.declared.token.Mark.TheVariants as Mark;
 ghost use Rattle.sk_grammar.specs.Runs.{unit_of, mark_set, mark_behind, units};
 ghost use Rattle.sk_parser.specs.Views.{part_view, parts_view, unit_view};
@@ -37,6 +38,19 @@ fn mark_behind(part: &Part) -> Mark
     }
 }
 
+/// Adds a unit.
+fn put(
+    made: &mut Vec<Unit>,
+    mark: Mark,
+    field: Option<usize>,
+    query: Query,
+) -> Result<(), AllocError>
+    ensures { OnOk result (map unit_view made.new.items ≡ map unit_view made.old.items ++ record { mark = mark; field = field; query = query_view query } ∷ []) }
+{
+    made.push(Unit { mark, field, query })?;
+    Ok(())
+}
+
 /// Adds the unit that a part is behind this mark, if it is one.
 fn add(made: &mut Vec<Unit>, mark: Mark, part: Part) -> Result<(), AllocError>
     ensures { OnOk result (map unit_view made.new.items ≡ map unit_view made.old.items ++ unit_of mark (part_view part)) }
@@ -44,29 +58,10 @@ fn add(made: &mut Vec<Unit>, mark: Mark, part: Part) -> Result<(), AllocError>
     match part {
         Part::Chain(ordered, distance, stem, words) => {
             let query = chain_tree(ordered, distance, stem, words)?;
-            made.push(Unit {
-                mark,
-                field: None,
-                query,
-            })?;
-            Ok(())
+            put(made, mark, None, query)
         }
-        Part::Unit(query) => {
-            made.push(Unit {
-                mark,
-                field: None,
-                query,
-            })?;
-            Ok(())
-        }
-        Part::Chosen(field, query) => {
-            made.push(Unit {
-                mark,
-                field: Some(field),
-                query,
-            })?;
-            Ok(())
-        }
+        Part::Unit(query) => put(made, mark, None, query),
+        Part::Chosen(field, query) => put(made, mark, Some(field), query),
         Part::Empty | Part::Link(_, _) | Part::Operator(_) => Ok(()),
     }
 }
