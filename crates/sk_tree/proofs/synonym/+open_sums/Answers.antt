@@ -5,6 +5,7 @@ use Rattle.sk_model.specs.Edits.{document_at}
 use Rattle.sk_decay.specs.Sides.{paired}
 use Rattle.sk_nodes.specs.Shapes.{shape_of}
 use Rattle.sk_tree.proofs.SynonymLaws.{sums_capped}
+use Rattle.sk_tree.proofs.MergeOpenLaws.{counts_both}
 use Rattle.sk_tree.proofs.NestLaws.{halves_nest, paired_nest}
 use Rattle.sk_tree.proofs.synonym.+open_sums.Goals as goal
 
@@ -47,3 +48,51 @@ pub returns-clause-nest : goal.returns-clause-nest
 returns-clause-nest g t c =
     let i = c.args.index.now in
     halves_nest i (shape_of c.in_ok-ta.a) (shape_of c.in-Ok.b) (shape_of c.in_ok-top.node) _ _ _ _ _ _ _ c.in_ok-ta.ensures.nest c.in-Ok.ensures.nest (λ joint first second. paired_nest i Form.Or _ _ c.in_ok-ta.ta (shape_of c.in_ok-ta.a) c.in-Ok.tb (shape_of c.in-Ok.b) (shape_of c.in_ok-top.node) c.in_ok-top.ensures.accounts.all first second joint) (c.number_halves.ensures i c.requires.there c.requires.apart).terms
+
+pub open_one-requires-clause-there : goal.open_one-requires-clause-there
+open_one-requires-clause-there g t c = c.requires.there
+
+pub open_one-requires-clause-can : goal.open_one-requires-clause-can
+open_one-requires-clause-can g t c = c.requires.can
+
+pub returns-then-numbers-eq1-clause-opens : goal.returns-then-numbers-eq1-clause-opens
+returns-then-numbers-eq1-clause-opens g t c = c.open_one.ensures.opens
+
+pub returns-then-numbers-eq1-clause-pays : goal.returns-then-numbers-eq1-clause-pays
+returns-then-numbers-eq1-clause-pays g t c = c.open_one.ensures.pays
+
+pub returns-then-numbers-eq1-clause-counts : goal.returns-then-numbers-eq1-clause-counts
+returns-then-numbers-eq1-clause-counts g t c = c.open_one.ensures.counts
+
+pub returns-then-numbers-eq1-clause-nest : goal.returns-then-numbers-eq1-clause-nest
+returns-then-numbers-eq1-clause-nest g t c = c.open_one.ensures.nest
+
+pub open_many-requires-clause-there : goal.open_many-requires-clause-there
+open_many-requires-clause-there g t c = c.requires.there
+
+pub open_many-requires-clause-apart : goal.open_many-requires-clause-apart
+open_many-requires-clause-apart g t c = c.requires.apart
+
+pub open_many-requires-clause-can : goal.open_many-requires-clause-can
+open_many-requires-clause-can g t c = c.requires.can
+
+pub returns-then-numbers-gt-FEW_TERMS-clause-opens : goal.returns-then-numbers-gt-FEW_TERMS-clause-opens
+returns-then-numbers-gt-FEW_TERMS-clause-opens g t c = c.open_many.ensures.opens
+
+pub returns-then-numbers-gt-FEW_TERMS-clause-pays : goal.returns-then-numbers-gt-FEW_TERMS-clause-pays
+returns-then-numbers-gt-FEW_TERMS-clause-pays g t c = c.open_many.ensures.pays
+
+pub returns-then-numbers-gt-FEW_TERMS-clause-counts : goal.returns-then-numbers-gt-FEW_TERMS-clause-counts
+returns-then-numbers-gt-FEW_TERMS-clause-counts g t c = c.open_many.ensures.counts
+
+pub returns-then-numbers-gt-FEW_TERMS-clause-nest : goal.returns-then-numbers-gt-FEW_TERMS-clause-nest
+returns-then-numbers-gt-FEW_TERMS-clause-nest g t c = c.open_many.ensures.nest
+
+pub returns-in_err-ta-clause-counts : goal.returns-in_err-ta-clause-counts
+returns-in_err-ta-clause-counts g t c = c.open_sums.ensures.counts
+
+pub returns-in_default-clause-counts : goal.returns-in_default-clause-counts
+returns-in_default-clause-counts g t c = counts_both _ _ _ _ _ _ _ _ c.open_sums.ensures.counts c.open_sums-2.ensures.counts
+
+pub pair_of-requires-clause-room : goal.pair_of-requires-clause-room
+pair_of-requires-clause-room g t c = omega (arith, c.in_ok-ta.ensures.pays.paid, c.in-Ok.ensures.pays.paid, c.open_sums-2.ensures.counts.small, c.requires.can.read.room)
