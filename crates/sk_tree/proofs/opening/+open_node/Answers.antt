@@ -1,13 +1,15 @@
 -- The sides of one half behind those of the other.
-use Rattle.std.proofs.Common.{◌≡◌, ◌+◌, ℕ, List, refl, sym, subst, ap, ◌∙◌, arith, [], ◌∷◌}
+use Rattle.std.proofs.Common.{IfOk, ◌≡◌, ◌+◌, ℕ, List, refl, sym, subst, ap, ◌∙◌, arith, [], ◌∷◌}
 use Rattle.sk_query.specs.declared.form.Form.{Form}
 use Rattle.sk_model.specs.Bounds.{ceil, ceils, ceil_of, lengths_of}
-use Rattle.sk_model.specs.Allowance.{leaves_readings}
+use Rattle.sk_model.specs.Allowance.{leaf_readings, leaves_readings}
 use Rattle.sk_nodes.specs.Shapes.{shape_of, sides_on}
-use Rattle.sk_nodes.specs.Left.{unread_in}
+use Rattle.sk_nodes.specs.Left.{unread_of, unread_in}
 use Rattle.sk_nodes.specs.Proximity.{entries_unread, AreInOrder}
+use Rattle.sk_tree.specs.Readings.{Pays}
 use Rattle.sk_tree.specs.Opened.{proximity_query, score_of, part_scores, joint_score_of, parts_size, AreParts, Opens}
 use Rattle.sk_nodes.proofs.ManyLaws.{unread_behind}
+use Rattle.sk_tree.proofs.MergeOpenLaws.{counts_both}
 use Rattle.sk_tree.proofs.SideLaws.{opens_behind}
 use Rattle.sk_nodes.proofs.NodeLaws.{shape_of-Nothing}
 use Rattle.sk_tree.proofs.TermLaws.{nothing_opened}
@@ -369,3 +371,133 @@ open_sides-returns-in-Some-clause-pays g t c =
     let pays = c.in_ok-top.ensures.pays in
     let unread = ap (unread_in i) c.in_ok-tops.ensures.sides in
     record { paid = omega (arith, unread, pays.paid); within = omega (arith, only.readings i.live.documents, pays.within); room = pays.room }
+
+pub open_node-returns-in-Some-clause-counts : goal.open_node-returns-in-Some-clause-counts
+open_node-returns-in-Some-clause-counts g t c = c.open_parts.ensures.counts
+
+pub open_node-open_term-requires-clause-factor : goal.open_node-open_term-requires-clause-factor
+open_node-open_term-requires-clause-factor g t c = c.requires.can.bounded
+
+pub open_node-open_term-requires-clause-can : goal.open_node-open_term-requires-clause-can
+open_node-open_term-requires-clause-can g t c = c.requires.can.read
+
+pub open_node-open_synonym-requires-clause-can : goal.open_node-open_synonym-requires-clause-can
+open_node-open_synonym-requires-clause-can g t c = c.requires.can
+
+pub open_node-open_synonym-requires-clause-part : goal.open_node-open_synonym-requires-clause-part
+open_node-open_synonym-requires-clause-part g t c = c.requires.part
+
+pub open_node-open_wildcard-requires-clause-can : goal.open_node-open_wildcard-requires-clause-can
+open_node-open_wildcard-requires-clause-can g t c = c.requires.can
+
+pub open_node-open_wildcard-requires-clause-part : goal.open_node-open_wildcard-requires-clause-part
+open_node-open_wildcard-requires-clause-part g t c = c.requires.part
+
+pub open_node-returns-in-All-clause-pays : goal.open_node-returns-in-All-clause-pays
+open_node-returns-in-All-clause-pays g t c =
+    subst (λ q. IfOk c.open_all.result (λ p. Pays c.args.spent.now c.open_all.new.spent c.args.most.now c.open_all.new.most (unread_of c.args.index.now (shape_of p.1)) (leaf_readings q c.args.index.now.live.documents))) (sym (ap query_view c.in-All.is ∙ view-All)) c.open_all.ensures.pays
+
+pub open_node-returns-in-All-clause-counts : goal.open_node-returns-in-All-clause-counts
+open_node-returns-in-All-clause-counts g t c = c.open_all.ensures.counts
+
+pub open_node-returns-in-Term-clause-opens : goal.open_node-returns-in-Term-clause-opens
+open_node-returns-in-Term-clause-opens g t c =
+    subst (λ q. IfOk c.open_term.result (λ p. Opens c.args.index.now p.0 (shape_of p.1) (score_of q c.args.scheme c.args.factor) (ceil q c.args.scheme c.args.factor c.args.index.now.live.documents))) (sym (ap query_view c.in-Term.is ∙ view-Term _)) c.open_term.ensures.opens
+
+pub open_node-returns-in-Term-clause-pays : goal.open_node-returns-in-Term-clause-pays
+open_node-returns-in-Term-clause-pays g t c =
+    subst (λ q. IfOk c.open_term.result (λ p. Pays c.args.spent.now c.open_term.new.spent c.args.most.now c.open_term.new.most (unread_of c.args.index.now (shape_of p.1)) (leaf_readings q c.args.index.now.live.documents))) (sym (ap query_view c.in-Term.is ∙ view-Term _)) c.open_term.ensures.pays
+
+pub open_node-returns-in-Term-clause-counts : goal.open_node-returns-in-Term-clause-counts
+open_node-returns-in-Term-clause-counts g t c = c.open_term.ensures.counts
+
+pub open_node-returns-in-Scale-clause-counts : goal.open_node-returns-in-Scale-clause-counts
+open_node-returns-in-Scale-clause-counts g t c = c.open_node.ensures.counts
+
+pub open_node-returns-in-Synonym-clause-opens : goal.open_node-returns-in-Synonym-clause-opens
+open_node-returns-in-Synonym-clause-opens g t c = c.open_synonym.ensures.opens
+
+pub open_node-returns-in-Synonym-clause-counts : goal.open_node-returns-in-Synonym-clause-counts
+open_node-returns-in-Synonym-clause-counts g t c = c.open_synonym.ensures.counts
+
+pub open_node-returns-in-Near-clause-counts : goal.open_node-returns-in-Near-clause-counts
+open_node-returns-in-Near-clause-counts g t c = c.open_proximity.ensures.counts
+
+pub open_node-returns-in-Phrase-clause-counts : goal.open_node-returns-in-Phrase-clause-counts
+open_node-returns-in-Phrase-clause-counts g t c = c.open_proximity-in-Phrase.ensures.counts
+
+pub open_node-returns-in-Wildcard-clause-opens : goal.open_node-returns-in-Wildcard-clause-opens
+open_node-returns-in-Wildcard-clause-opens g t c = c.open_wildcard.ensures.opens
+
+pub open_node-returns-in-Wildcard-clause-pays : goal.open_node-returns-in-Wildcard-clause-pays
+open_node-returns-in-Wildcard-clause-pays g t c =
+    subst (λ q. IfOk c.open_wildcard.result (λ p. Pays c.args.spent.now c.open_wildcard.new.spent c.args.most.now c.open_wildcard.new.most (unread_of c.args.index.now (shape_of p.1)) (leaf_readings q c.args.index.now.live.documents))) (sym (ap query_view c.in-Wildcard.is ∙ view-Wildcard _)) c.open_wildcard.ensures.pays
+
+pub open_node-returns-in-Wildcard-clause-counts : goal.open_node-returns-in-Wildcard-clause-counts
+open_node-returns-in-Wildcard-clause-counts g t c = c.open_wildcard.ensures.counts
+
+pub open_node-returns-in-Range-clause-pays : goal.open_node-returns-in-Range-clause-pays
+open_node-returns-in-Range-clause-pays g t c =
+    subst (λ q. IfOk c.open_range.result (λ p. Pays c.args.spent.now c.open_range.new.spent c.args.most.now c.open_range.new.most (unread_of c.args.index.now (shape_of p.1)) (leaf_readings q c.args.index.now.live.documents))) (sym (ap query_view c.in-Range.is ∙ view-Range _ _ _)) c.open_range.ensures.pays
+
+pub open_node-returns-in-Range-clause-counts : goal.open_node-returns-in-Range-clause-counts
+open_node-returns-in-Range-clause-counts g t c = c.open_range.ensures.counts
+
+pub open_parts-returns-in-Some-clause-counts : goal.open_parts-returns-in-Some-clause-counts
+open_parts-returns-in-Some-clause-counts g t c = c.open_node.ensures.counts
+
+pub open_parts-returns-in-Some-as_one-clause-counts : goal.open_parts-returns-in-Some-as_one-clause-counts
+open_parts-returns-in-Some-as_one-clause-counts g t c = c.open_node-in-Some-as_one.ensures.counts
+
+pub open_parts-returns-in_err-tops-clause-counts : goal.open_parts-returns-in_err-tops-clause-counts
+open_parts-returns-in_err-tops-clause-counts g t c = c.open_sides.ensures.counts
+
+pub open_parts-returns-in_err-ta-clause-counts : goal.open_parts-returns-in_err-ta-clause-counts
+open_parts-returns-in_err-ta-clause-counts g t c = c.open_parts.ensures.counts
+
+pub open_parts-returns-in_default-open_parts-clause-counts : goal.open_parts-returns-in_default-open_parts-clause-counts
+open_parts-returns-in_default-open_parts-clause-counts g t c =
+    counts_both _ _ _ _ _ _ _ _ c.open_parts.ensures.counts c.open_parts-2.ensures.counts
+
+pub open_parts-pair_of-requires-clause-room : goal.open_parts-pair_of-requires-clause-room
+open_parts-pair_of-requires-clause-room g t c =
+    omega (arith, c.in_ok-ta.ensures.pays.paid, c.in-Ok.ensures.pays.paid, c.open_parts-2.ensures.counts.small, c.requires.can.read.room)
+
+pub open_proximity-returns-in_err-below-clause-counts : goal.open_proximity-returns-in_err-below-clause-counts
+open_proximity-returns-in_err-below-clause-counts g t c = c.open_parts.ensures.counts
+
+pub open_sides-returns-in_err-top-clause-counts : goal.open_sides-returns-in_err-top-clause-counts
+open_sides-returns-in_err-top-clause-counts g t c = c.open_node.ensures.counts
+
+pub open_sides-returns-in_err-tops-clause-counts : goal.open_sides-returns-in_err-tops-clause-counts
+open_sides-returns-in_err-tops-clause-counts g t c = c.open_node.ensures.counts
+
+pub open_sides-returns-in-Some-clause-even : goal.open_sides-returns-in-Some-clause-even
+open_sides-returns-in-Some-clause-even g t c = c.in_ok-tops.ensures.even
+
+pub open_sides-returns-in-Some-clause-counts : goal.open_sides-returns-in-Some-clause-counts
+open_sides-returns-in-Some-clause-counts g t c = c.open_node.ensures.counts
+
+pub open_sides-returns-in_err-some_tops-clause-counts : goal.open_sides-returns-in_err-some_tops-clause-counts
+open_sides-returns-in_err-some_tops-clause-counts g t c = c.open_sides.ensures.counts
+
+pub open_sides-returns-in_err-more_tops-clause-counts : goal.open_sides-returns-in_err-more_tops-clause-counts
+open_sides-returns-in_err-more_tops-clause-counts g t c =
+    counts_both _ _ _ _ _ _ _ _ c.open_sides.ensures.counts c.open_sides-2.ensures.counts
+
+pub open_sides-with_more-requires-clause-even : goal.open_sides-with_more-requires-clause-even
+open_sides-with_more-requires-clause-even g t c = c.in_ok-some_tops.ensures.even
+
+pub open_sides-with_more-requires-clause-more_even : goal.open_sides-with_more-requires-clause-more_even
+open_sides-with_more-requires-clause-more_even g t c = c.in_ok-more_tops.ensures.even
+
+pub open_sides-returns-in_err-tops-2-clause-counts : goal.open_sides-returns-in_err-tops-2-clause-counts
+open_sides-returns-in_err-tops-2-clause-counts g t c =
+    counts_both _ _ _ _ _ _ _ _ c.open_sides.ensures.counts c.open_sides-2.ensures.counts
+
+pub open_sides-returns-clause-even : goal.open_sides-returns-clause-even
+open_sides-returns-clause-even g t c = c.in_ok-tops-2.ensures.even
+
+pub open_sides-returns-clause-counts : goal.open_sides-returns-clause-counts
+open_sides-returns-clause-counts g t c =
+    counts_both _ _ _ _ _ _ _ _ c.open_sides.ensures.counts c.open_sides-2.ensures.counts

@@ -23,3 +23,19 @@ numbers-preserved g c =
       pays = pays_both i _ (merged c.numbers.marks.items c.numbers.leaves.items) (merged (mark ∷ []) (leaf ∷ [])) _ _ _ is named _ _ _ _ _ _ inv.pays one.pays;
       counts = counts_both _ _ _ _ _ _ _ _ inv.counts one.counts;
     }
+
+pub open_list-requires-clause-can : goal.open_list-requires-clause-can
+open_list-requires-clause-can g c =
+    record { read = record { documents = c.requires.can.read.documents; room = c.numbers.invariant.pays.room; small = c.numbers.invariant.counts.small }; bounded = c.requires.can.bounded; light = c.requires.can.light }
+
+pub returns-in_err-mark-clause-counts : goal.returns-in_err-mark-clause-counts
+returns-in_err-mark-clause-counts g c =
+    counts_both _ _ _ _ _ _ _ _ c.numbers.invariant.counts c.open_list.ensures.counts
+
+pub returns-in_err-push-clause-counts : goal.returns-in_err-push-clause-counts
+returns-in_err-push-clause-counts g c =
+    counts_both _ _ _ _ _ _ _ _ c.numbers.invariant.counts c.open_list.ensures.counts
+
+pub returns-in_err-push-2-clause-counts : goal.returns-in_err-push-2-clause-counts
+returns-in_err-push-2-clause-counts g c =
+    counts_both _ _ _ _ _ _ _ _ c.numbers.invariant.counts c.open_list.ensures.counts
