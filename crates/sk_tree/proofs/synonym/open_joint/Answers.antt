@@ -32,3 +32,33 @@ returns-clause-flat g c =
 
 pub returns-then-numbers-eq1-clause-flat : goal.returns-then-numbers-eq1-clause-flat
 returns-then-numbers-eq1-clause-flat g c = IfOk-weaker c.open_one.result _ _ (λ p h. one_as_one c.args.index.now (shape_of p.1) _ _ _ h) c.open_one.ensures.nest
+
+pub open_one-requires-clause-there : goal.open_one-requires-clause-there
+open_one-requires-clause-there g c = c.requires.there
+
+pub open_one-requires-clause-can : goal.open_one-requires-clause-can
+open_one-requires-clause-can g c = c.requires.can
+
+pub open_sums-requires-clause-there : goal.open_sums-requires-clause-there
+open_sums-requires-clause-there g c = c.requires.there
+
+pub open_sums-requires-clause-apart : goal.open_sums-requires-clause-apart
+open_sums-requires-clause-apart g c = c.requires.apart
+
+pub returns-then-numbers-eq1-clause-opens : goal.returns-then-numbers-eq1-clause-opens
+returns-then-numbers-eq1-clause-opens g c = c.open_one.ensures.opens
+
+pub returns-then-numbers-eq1-clause-pays : goal.returns-then-numbers-eq1-clause-pays
+returns-then-numbers-eq1-clause-pays g c = c.open_one.ensures.pays
+
+pub returns-then-numbers-eq1-clause-counts : goal.returns-then-numbers-eq1-clause-counts
+returns-then-numbers-eq1-clause-counts g c = c.open_one.ensures.counts
+
+pub returns-in_err-below-clause-counts : goal.returns-in_err-below-clause-counts
+returns-in_err-below-clause-counts g c = c.open_sums.ensures.counts
+
+pub returns-in_err-top-clause-counts : goal.returns-in_err-top-clause-counts
+returns-in_err-top-clause-counts g c = c.open_sums.ensures.counts
+
+pub returns-clause-counts : goal.returns-clause-counts
+returns-clause-counts g c = c.open_sums.ensures.counts

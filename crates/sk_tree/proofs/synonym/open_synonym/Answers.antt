@@ -44,3 +44,12 @@ returns-clause-flat g c =
     let named = ap (λ (ns : List ℕ). map (term_at i.terms) ns) c.as_slice.ensures.value ∙ c.in_ok-numbers.ensures.terms in
     other_opens i (shape_of c.in_ok-top.node) _ c.args.words.now _ _
     (λ point. numbered_entered i _ c.args.words.now point named) c.in_ok-top.ensures.flat
+
+pub open_joint-requires-clause-can : goal.open_joint-requires-clause-can
+open_joint-requires-clause-can g c = c.requires.can
+
+pub returns-in_err-top-clause-counts : goal.returns-in_err-top-clause-counts
+returns-in_err-top-clause-counts g c = c.open_joint.ensures.counts
+
+pub returns-clause-counts : goal.returns-clause-counts
+returns-clause-counts g c = c.open_joint.ensures.counts

@@ -54,3 +54,12 @@ returns-clause-flat g c =
     let are = subst (λ (t : List ℕ). AreAllWith t i.terms i.live.documents ns) bytes c.in_ok-numbers.ensures in
     other_opens i (shape_of c.in_ok-top.node) _ (terms_with c.args.prefix.now i.live.documents) _ _
     (λ point. wild_entered i c.args.prefix.now ns _ are point c.as_slice.ensures.value) c.in_ok-top.ensures.flat
+
+pub open_joint-requires-clause-can : goal.open_joint-requires-clause-can
+open_joint-requires-clause-can g c = c.requires.can
+
+pub returns-in_err-top-clause-counts : goal.returns-in_err-top-clause-counts
+returns-in_err-top-clause-counts g c = c.open_joint.ensures.counts
+
+pub returns-clause-counts : goal.returns-clause-counts
+returns-clause-counts g c = c.open_joint.ensures.counts
