@@ -86,3 +86,7 @@ on_err_as P Q (Err e) f h = f h
 pub on_err : {T E : Type 0} (P : Type 0) (r : Result T E) → P → OnErr r P
 on_err P (Ok x) h = tt
 on_err P (Err e) h = h
+
+-- what waits is what waited, and a text
+pub moves_joined : (bytes waiting text waiting' : List ℕ) (h0 h1 : Option (List ℕ)) → MovesOut bytes waiting h0 h1 → waiting' ≡ waiting ++ text → MovesOut (bytes ++ text) waiting' h0 h1
+moves_joined bytes waiting text waiting' h0 h1 m is = rw is (moves_text bytes waiting text h0 h1 m)

@@ -62,10 +62,7 @@ impl<M: Store> Machine<M> {
         match request {
             Request::Blank => Ok((self, Response::Skipped)),
             Request::Refused(why) => Ok((self, Response::Refused(why))),
-            Request::Asks(command) => {
-                let (machine, response) = self.obey(alloc, command, steps)?;
-                Ok((machine, response))
-            }
+            Request::Asks(command) => self.obey(alloc, command, steps),
         }
     }
 

@@ -1,6 +1,5 @@
 //! Why a line is refused.
 ghost use Rattle.std.specs.Prelude.{◌≡◌, IfOk, string_bytes};
-ghost use Rattle.sk_run.specs.declared.refusal.Refusal.TheVariants as Refusal;
 ghost use Rattle.sk_run.specs.Refusals.{refusal_number, refusal_name, fault_name, detail_of, refusal_line};
 
 use sk_grammar::FaultKind;
@@ -87,7 +86,10 @@ impl Refusal {
         ensures { IfOk result (λ s. string_bytes s ≡ detail_of self) }
     {
         match self {
-            Refusal::BadQuery(kind, place) => fault_text(alloc, kind, place),
+            Refusal::BadQuery(kind, place) => {
+                let name = fault_name(kind);
+                format!(in alloc; " {name} at {place}")
+            }
             _ => Ok(String::new(alloc)),
         }
     }
@@ -102,13 +104,6 @@ impl Refusal {
         let detail = detail.as_str();
         format!(in alloc; "refused {number} {name}{detail}\n")
     }
-}
-
-fn fault_text(alloc: Global, kind: FaultKind, place: usize) -> Result<String, AllocError>
-    ensures { IfOk result (λ s. string_bytes s ≡ detail_of (Refusal.BadQuery kind place)) }
-{
-    let name = fault_name(kind);
-    format!(in alloc; " {name} at {place}")
 }
 
 fn fault_name(kind: FaultKind) -> &'static str

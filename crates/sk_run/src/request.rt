@@ -18,7 +18,7 @@ use sk_record::{LineFault, command};
 use std::alloc::{AllocError, Global};
 
 /// What a line asks for.
-#[derive(Debug, Drop)]
+#[derive(Drop)]
 pub(crate) enum Request {
     /// A blank line asks for nothing.
     Blank,

@@ -1,15 +1,16 @@
 //! What a line is answered, and its text.
-ghost use Rattle.std.specs.Prelude.{◌≡◌, ◌++◌, codes, decimal, flat_map, IfOk, string_bytes};
-ghost use Rattle.sk_run.specs.Responses.{response_to, turn_name, open_line};
+ghost use Rattle.std.specs.Prelude.{◌≡◌, ◌++◌, flat_map, IfOk, string_bytes};
+ghost use Rattle.sk_run.specs.Responses.{response_to, open_line};
 
 use crate::facets::facets_lines;
 use crate::found::found_lines;
 use crate::refusal::Refusal;
 use sk_base::{DocId, Facets, Items, Reply, Report, Text, ValueKind};
 use std::alloc::{AllocError, Global};
+use std::fmt::{Debug, Error, Formatter, Write};
 
 /// What one line is answered.
-#[derive(Debug, Drop)]
+#[derive(Drop)]
 pub enum Response {
     /// A blank line has no answer.
     Skipped,
@@ -82,10 +83,16 @@ impl Response {
             Response::Id(id) => format!(in alloc; "ok id {id}\n"),
             Response::Deleted(count) => format!(in alloc; "ok deleted {count}\n"),
             Response::Found(first, report) => found_lines(alloc, *first, report),
-            Response::Query(text) => query_line(alloc, text),
+            Response::Query(text) => {
+                let text = text.as_str();
+                format!(in alloc; "query {text}\n")
+            }
             Response::Facets(kind, facets) => facets_lines(alloc, *kind, facets),
             Response::Opened(number, _) => format!(in alloc; "ok open {number}\n"),
-            Response::Turned(number, done, _) => turned_line(alloc, *number, *done),
+            Response::Turned(number, done, _) => {
+                let turn = if *done { "done" } else { "more" };
+                format!(in alloc; "ok turn {number} {turn}\n")
+            }
             Response::Closed(first, report, _) => found_lines(alloc, *first, report),
             Response::Dropped(number, spent) => {
                 format!(in alloc; "dropped {number} steps={spent}\n")
@@ -110,18 +117,10 @@ impl Response {
     }
 }
 
-fn query_line(alloc: Global, text: &Text) -> Result<String, AllocError>
-    ensures { IfOk result (λ s. string_bytes s ≡ codes "query " ++ (text.now ++ codes "\n")) }
-{
-    let text = text.as_str();
-    format!(in alloc; "query {text}\n")
-}
-
-fn turned_line(alloc: Global, number: u64, done: bool) -> Result<String, AllocError>
-    ensures { IfOk result (λ s. string_bytes s ≡ codes "ok turn " ++ (decimal number ++ (codes " " ++ (turn_name done ++ codes "\n")))) }
-{
-    let turn = if done { "done" } else { "more" };
-    format!(in alloc; "ok turn {number} {turn}\n")
+impl Debug for Response {
+    fn fmt<W: Write>(&self, f: &mut Formatter<W>) -> Result<(), Error> {
+        f.write_str(if self.refuses() { "a refusal" } else { "an answer" })
+    }
 }
 
 /// The lines of the searches that are still open.
@@ -130,8 +129,7 @@ fn open_lines(alloc: Global, readings: &[(u64, u128)]) -> Result<String, AllocEr
 {
     let mut text = String::new(alloc);
     'searches: for (number, spent) in readings {
-        let line = format!(in alloc; "open {number} steps={spent}\n")?;
-        text.push_str(line.as_str())?;
+        write!(text, "open {number} steps={spent}\n")?;
     }
     Ok(text)
 }
