@@ -119,7 +119,8 @@ impl Response {
 
 impl Debug for Response {
     fn fmt<W: Write>(&self, f: &mut Formatter<W>) -> Result<(), Error> {
-        f.write_str(if self.refuses() { "a refusal" } else { "an answer" })
+        let kind = if self.refuses() { "refusal" } else { "answer" };
+        f.write_str(kind)
     }
 }
 
