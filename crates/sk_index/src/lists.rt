@@ -65,13 +65,15 @@ impl Lists {
     pub fn copy(&self, alloc: Global) -> Result<Lists, AllocError>
         ensures { IfOk result (λ copy. copy ≡ self.now) }
     {
+        let (map, payloads) = documents_copied(alloc, &self.map, &self.payloads)?;
+        let (all, terms, slots) = lists_copied(&self.all, &self.terms, &self.slots)?;
         Ok(Lists {
-            map: self.map.copy(&TermsCopier { alloc })?,
+            map,
             none: PackedTerms::new(alloc),
-            all: self.all.copy()?,
-            terms: self.terms.copy()?,
-            slots: self.slots.copy()?,
-            payloads: self.payloads.copy(alloc)?,
+            all,
+            terms,
+            slots,
+            payloads,
         })
     }
 
@@ -208,4 +210,34 @@ fn put_into(
     payloads.set(id, payload)?;
     map.put(id, packed)?;
     Ok(())
+}
+
+/// The same documents and payloads.
+fn documents_copied(
+    alloc: Global,
+    map: &Pieces<PackedTerms>,
+    payloads: &Payloads,
+) -> Result<(Pieces<PackedTerms>, Payloads), AllocError>
+    ensures map { IfOk result (λ copies. copies.0 ≡ map.now) }
+    ensures payloads { IfOk result (λ copies. copies.1 ≡ payloads.now) }
+{
+    let map = map.copy(&TermsCopier { alloc })?;
+    let payloads = payloads.copy(alloc)?;
+    Ok((map, payloads))
+}
+
+/// The same lists.
+fn lists_copied(
+    all: &List,
+    terms: &TermLists,
+    slots: &SlotLists,
+) -> Result<(List, TermLists, SlotLists), AllocError>
+    ensures all { IfOk result (λ copies. copies.0 ≡ all.now) }
+    ensures terms { IfOk result (λ copies. copies.1 ≡ terms.now) }
+    ensures slots { IfOk result (λ copies. copies.2 ≡ slots.now) }
+{
+    let all = all.copy()?;
+    let terms = terms.copy()?;
+    let slots = slots.copy()?;
+    Ok((all, terms, slots))
 }
