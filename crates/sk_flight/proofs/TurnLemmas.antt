@@ -14,6 +14,11 @@ pub done_from : (b : Bool) (turn : Turn) → turn ≡ (if b then Done else More)
 done_from true turn is done = refl
 done_from false turn is done = absurd (true≢false (ap was_done (sym done ∙ is)))
 
+-- and one that moves on was not done
+pub going_from : (was b : Bool) (turn : Turn) → turn ≡ (if b then Done else More) → turn ≡ More → (was ≡ true → b ≡ true) → was ≡ false
+going_from false b turn is more ended = refl
+going_from true b turn is more ended = absurd (true≢false (ap was_done (sym (is ∙ ap (λ b. if b then Done else More) (ended refl)) ∙ more)))
+
 pub made_none : (old : Open) → Made 0 old old
 made_none old = record {
   seeks = record { paging = refl; query = refl; documents = refl };

@@ -121,9 +121,7 @@ impl Flights {
             flights,
             opened,
         } = self;
-        let index = unshared(newest)?;
-        let (index, reply) = index.apply(edit)?;
-        let newest = Rc::new(alloc, index)?;
+        let (newest, reply) = edit_newest(alloc, newest, edit)?;
         Ok((
             Flights {
                 alloc,
@@ -261,6 +259,26 @@ impl Debug for Flights {
     fn fmt<W: Write>(&self, f: &mut Formatter<W>) -> Result<(), Error> {
         write!(f, "{:?}, {} open", self.index(), self.open_now())
     }
+}
+
+/// The documents behind an edit, and what it is answered.
+fn edit_newest(
+    alloc: Global,
+    newest: Rc<Index>,
+    edit: Edit,
+) -> Result<(Rc<Index>, Reply), AllocError>
+    requires { FitsEdit newest.value.schema edit }
+    ensures live { IfOk result (λ p. p.0.value.live ≡ edited newest.value.schema newest.value.live edit) }
+    ensures reply { IfOk result (λ p. p.1 ≡ reply_to newest.value.live edit) }
+    ensures schema { IfOk result (λ p. p.0.value.schema ≡ newest.value.schema) }
+{
+    let Ok(index) = unshared(newest) else {
+        drop(edit);
+        return Err(AllocError);
+    };
+    let (index, reply) = index.apply(edit)?;
+    let newest = Rc::new(alloc, index)?;
+    Ok((newest, reply))
 }
 
 /// These documents where no search stands on them, and a copy where one does.

@@ -1,10 +1,15 @@
-use Rattle.std.proofs.Common.{◌+◌, true, false, sym, subst, arith}
+use Rattle.std.proofs.Common.{◌+◌, true, false, refl, sym, subst, arith}
 use Rattle.sk_query.specs.Trees.{query_view}
-use Rattle.sk_match.specs.Searches.{is_done}
-use Rattle.sk_flight.specs.Kept.{Flies}
-use Rattle.sk_flight.proofs.FlightLemmas.{few_turns, moved, stayed, even_on, may_read, told_whole}
-use Rattle.sk_flight.proofs.TurnLemmas.{done_from}
+use Rattle.sk_match.specs.Searches.{IsOn, is_done}
+use Rattle.sk_flight.specs.Kept.{Flies, Moves, open_as, open_of}
+use Rattle.sk_flight.proofs.FlightLemmas.{few_turns, is_on, moved, stayed, even_on, may_read, told_whole}
+use Rattle.sk_flight.proofs.TurnLemmas.{done_from, going_from}
 use Rattle.sk_flight.proofs.flight.Flight.turn.Goals as goal
+
+pub turn-requires : goal.turn-requires
+turn-requires g c =
+    let old = c.args.self.now in
+    record { on = subst (IsOn old.search) (sym c.as_ref.ensures) (is_on old.search old.revision.value old.paging (query_view old.query) old.turns old.is_done c.requires) }
 
 pub overflow_add-self : goal.overflow_add-self
 overflow_add-self g c =
@@ -36,3 +41,17 @@ returns-in-Done-clause-flight g c =
     subst (λ i. Flies c.turn.new.self i old.paging query old.turns true) c.as_ref.ensures
     (stayed old.search i old.paging query c.turn.new.self old.turns old.is_done is (c.in_ok-turn.ensures.same c.in-Done.is).0 (done_from (is_done i old.search) c.in_ok-turn.turn c.in_ok-turn.ensures.done c.in-Done.is)
     (c.in_ok-turn.ensures.enough c.in-Done.is old.paging query is.stands))
+
+pub returns-in-More-clause-moves : goal.returns-in-More-clause-moves
+returns-in-More-clause-moves g c =
+    let old = c.args.self.now in
+    let query = query_view old.query in
+    let i = c.as_ref.result.now in
+    let is : Flies old.search i old.paging query old.turns old.is_done = subst (λ i. Flies old.search i old.paging query old.turns old.is_done) (sym c.as_ref.ensures) c.requires in
+    let paid = c.in_ok-turn.ensures.cost in
+    let later = c.turn.ensures.later in
+    subst (Moves (open_of old) (open_as c.turn.new.self old.revision.value old.paging query (old.turns + 1) false)) (sym c.in-More.is) (record {
+      seeks = record { paging = refl; query = refl; documents = refl };
+      comes = (refl, refl, going_from old.is_done (is_done i old.search) c.in_ok-turn.turn c.in_ok-turn.ensures.done c.in-More.is is.ended);
+      later = omega (arith, paid, later);
+    })

@@ -12,6 +12,9 @@ invariant_of-self-2 g c =
     subst (AreFlights (c.self.inside.opened + 1)) (sym (c.in_ok-insert.ensures.entries ∙ insert_last c.self.inside.opened c.in_ok-flight.flight c.self.inside.flights.entries c.self.invariant.numbers))
     (kept_last c.self.inside.opened c.self.inside.flights.entries c.in_ok-flight.flight c.self.invariant c.in_ok-flight.ensures.flight (omega (arith, c.if-len-ge-MOST.false, c.len.ensures.len)))
 
+pub overflow_add-number : goal.overflow_add-number
+overflow_add-number g c = let same : c.args.self.now.flights.opened ≡ c.self.inside.opened = ap (λ (s : Flying). s.flights.opened) (sym c.self.view_is) in omega (arith, same, c.requires.left)
+
 pub returns-clause-opens : goal.returns-clause-opens
 returns-clause-opens g c =
     rw (← c.self.view_is) (
