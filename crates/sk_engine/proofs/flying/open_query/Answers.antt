@@ -1,6 +1,10 @@
-use Rattle.std.proofs.Common.{◌≡◌, is_some, unwrap_or, ap, sym, ◌∙◌, true≢false, arith}
+use Rattle.std.proofs.Common.{◌≡◌, inl, inr, is_some, unwrap_or, refl, ap, sym, subst, ◌∙◌, true≢false, arith}
 use Rattle.sk_query.specs.Trees.{query_view}
-use Rattle.sk_engine.proofs.FlightLaws.{opened_spent}
+use Rattle.sk_report.specs.Flights.{owed}
+use Rattle.sk_flight.specs.Flying.{Flying}
+use Rattle.sk_flight.specs.Told.{Opens}
+use Rattle.sk_engine.specs.Sessions.{held_by}
+use Rattle.sk_engine.proofs.FlightLaws.{opened_spent, flown}
 use Rattle.sk_engine.proofs.flying.open_query.Goals as goal
 
 pub unreachable-requires : goal.unreachable-requires
@@ -22,3 +26,26 @@ returns-in-Some-clause-cost g c =
     let owes = it.2 in
     let cost = c.in_ok-number.ensures.cost in
     omega (arith, same, owes, cost)
+
+pub returns-in-Some-clause-opens : goal.returns-in-Some-clause-opens
+returns-in-Some-clause-opens g c =
+    let opens = subst (Opens c.args.paging (query_view c.args.query) c.args.flights.now c.open.new.self) c.in-Number.is c.in_ok-number.ensures.opens in
+    inr (c.in-Number.number, c.in-Some.reads, c.open.new.self.flights, opens.1, refl, flown c.args.flights.now c.open.new.self opens.0)
+
+pub returns-in-Full-clause-opens : goal.returns-in-Full-clause-opens
+returns-in-Full-clause-opens g c =
+    let opens = subst (Opens c.args.paging (query_view c.args.query) c.args.flights.now c.open.new.self) c.in-Full.is c.in_ok-number.ensures.opens in
+    inl (opens.0, refl, ap held_by opens.1)
+
+pub returns-in-Full-clause-paid : goal.returns-in-Full-clause-paid
+returns-in-Full-clause-paid g c =
+    let opens = subst (Opens c.args.paging (query_view c.args.query) c.args.flights.now c.open.new.self) c.in-Full.is c.in_ok-number.ensures.opens in
+    let same = ap (λ (f : Flying). owed f.flights) opens.1 in
+    omega (arith, same)
+
+pub returns-in-Full-clause-cost : goal.returns-in-Full-clause-cost
+returns-in-Full-clause-cost g c =
+    let opens = subst (Opens c.args.paging (query_view c.args.query) c.args.flights.now c.open.new.self) c.in-Full.is c.in_ok-number.ensures.opens in
+    let same = ap (λ (f : Flying). owed f.flights) opens.1 in
+    let cost = c.in_ok-number.ensures.cost in
+    omega (arith, same, cost)
