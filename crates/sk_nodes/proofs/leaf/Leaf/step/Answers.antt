@@ -28,7 +28,7 @@ returns-clause-lands g c =
     let covers = sought_covers old.factor old.scheme 0 0 c.args.target runs old.cursor c.advance-read.new.self c.requires.sound.runs c.requires.sound.on (λ w lt. absurd (omega arith)) passes in
     let new : Leaf = record old { cursor = c.advance-read.new.self } in
     let on = leaf_moved i old new c.args.target c.requires.sound refl refl refl refl (subst (λ (rs : Runs). IsOn c.advance-read.new.self rs) c.list_of-list.ensures.runs c.advance-read.ensures.on) c.requires.sound.light
-          (λ id. covers_weaker (from_on c.args.target (leaf_rest i old) id) (leaf_rest i new id) 0 old.need (omega arith) (covers id)) in
+    (λ id. covers_weaker (from_on c.args.target (leaf_rest i old) id) (leaf_rest i new id) 0 old.need (omega arith) (covers id)) in
     record {
       top = c.point.ensures.top i on
           (AtMost-covers c.args.target 0 c.args.top.now.greatest (leaf_rest i old) _ c.requires.top.bound covers)
