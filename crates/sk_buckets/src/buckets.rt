@@ -1,5 +1,5 @@
 //! A bucket queue of lists.
-ghost use Rattle.std.specs.Prelude.{◌≡◌, ◌≤◌, ◌<◌, ◌^◌, [], length, set, slice_index_or, IfOk};
+ghost use Rattle.std.specs.Prelude.{◌≡◌, ◌≤◌, ◌<◌, ◌^◌, length, set, slice_index_or, IfOk};
 ghost use Rattle.sk_buckets.specs.declared.mark.Mark.{Mark};
 ghost use Rattle.sk_buckets.specs.Marks.{first_head, weight_at, greatest_of, IsMark, AreMarks};
 
@@ -137,17 +137,6 @@ impl Buckets {
         ensures { result ≡ greatest_of self.now }
     {
         self.greatest
-    }
-
-    /// Leaves no list. It takes no memory.
-    pub fn clear(&mut self)
-        ensures { self.new ≡ [] }
-    {
-        self.marks.clear();
-        self.greatest = 0;
-        self.at = 0;
-        self.buckets.clear();
-        self.next.clear();
     }
 }
 

@@ -1,5 +1,5 @@
 -- Many lists that are added up: the first of them, one that is moved on, and how far they have come.
-use Rattle.std.proofs.Common.{◌≡◌, ◌≢◌, ◌≤◌, ◌<◌, ◌+◌, ◌^◌, ◌==◌, ◌⊎◌, ℕ, zero, suc, max, List, [], ◌∷◌, length, set, slice_index_or, Option, None, Some, if◌then◌else◌, inl, inr, refl, sym, subst, ap, ◌∙◌, arith, le_refl}
+use Rattle.std.proofs.Common.{◌≡◌, ◌≢◌, ◌≤◌, ◌<◌, ◌+◌, ◌^◌, ◌==◌, ℕ, zero, suc, List, [], ◌∷◌, length, set, slice_index_or, Option, None, Some, if◌then◌else◌, inl, inr, refl, sym, subst, ap, ◌∙◌, arith, le_refl}
 use Rattle.std.proofs.lemmas.Bool.{cases_lt}
 use Rattle.std.proofs.lemmas.Bool.Decides.{nat_tests}
 use Rattle.sk_query.specs.declared.form.Form.{Form}
@@ -12,8 +12,8 @@ use Rattle.sk_buckets.specs.declared.mark.Mark.{Mark}
 use Rattle.sk_buckets.specs.Marks.{first_head, weight_at, greatest_of, IsMark, AreMarks}
 use Rattle.sk_nodes.specs.declared.top.Top.{Top}
 use Rattle.sk_nodes.specs.declared.leaf.Leaf.{Leaf}
-use Rattle.sk_nodes.specs.Leaves.{leaf_unread, IsLeafOn}
-use Rattle.sk_nodes.specs.Shapes.{Shape, ended, leaf, or_many, Sides, no_sides, side, sizes_in, top_at, merged}
+use Rattle.sk_nodes.specs.Leaves.{leaf_rest, leaf_unread, IsLeafOn}
+use Rattle.sk_nodes.specs.Shapes.{Shape, ended, leaf, or_many, Sides, side, sizes_in, top_at, merged}
 use Rattle.sk_nodes.specs.Left.{rest, rests, from_on, unread_in, greatest_sum}
 use Rattle.sk_nodes.specs.Sound.{IsTop, IsMany, Sound, AreSound, Lands}
 use Rattle.sk_nodes.specs.Skips.{WeighsBelow}
@@ -28,7 +28,7 @@ use Rattle.sk_nodes.proofs.NodeLaws.{weight_le}
 use Rattle.sk_nodes.proofs.AccountLaws.{keeps_other}
 use Rattle.sk_nodes.proofs.BlockLaws.{light_enough}
 use Rattle.sk_nodes.proofs.MoveLaws.{accounts_same}
-use Rattle.sk_nodes.proofs.OrManyLaws.{or_top, head_first, head_second, head_both, none_head, kept_same, kept_first, moved_first, sum_past, light_covers, same_side}
+use Rattle.sk_nodes.proofs.OrManyLaws.{or_top, head_first, head_second, head_both, none_head, kept_same, kept_first, moved_first, light_covers, same_side}
 
 -- ---- marks
 
@@ -240,46 +240,38 @@ merge_begun i target need spent ss sides = record {
   nests_paid = λ head unread none following nests. le_refl (spent + follow_rooms i head unread ss);
 }
 
--- an id behind another, and no further than its next one
-next_id : (id head from : ℕ) → id < max from (head + 1) → from ≤ id → head ≤ id → id ≡ head
-next_id id head from lt le up = omega (arith, lt, le, up)
-
 module _ (i : Indexed) (target need before : ℕ) (ss0 : Sides) where
-  -- what stands first lies before, or weighs too little
-  pub merge_on : (from head weight next after : ℕ) (ss : Sides) → MergeSoFar i target need from before after ss0 ss → IsHead head weight (rest i (or_many ss)) → head < 2 ^ 32 → (head < from) ⊎ (weight < need) → next ≡ max from (head + 1)
+  -- what lies before another id weighs too little
+  pub merge_past : (from next after : ℕ) (ss : Sides) → MergeSoFar i target need from before after ss0 ss → from ≤ next → (need ≡ 0 → next ≡ from) → ((id : ℕ) → from ≤ id → id < next → WeighsBelow need (sum_of_any (rests i ss id)))
       → MergeSoFar i target need next before after ss0 ss
-  merge_on from head weight next after ss far h small passed is = record {
+  merge_past from next after ss far later unneeded light = record {
     sides = far.sides;
-    same = λ id up. far.same id (omega (arith, up, is));
+    same = λ id up. far.same id (omega (arith, up, later));
     light = λ id up lt. elim (cases_lt id from) as (λ _. WeighsBelow need (sum_of_any (rests i ss0 id))) [
       | inl less ↦ far.light id up less
-      | inr le ↦ subst (λ (o : Option ℕ). WeighsBelow need o) (far.same id le) (between id le (omega (arith, lt, is)))
+      | inr le ↦ subst (λ (o : Option ℕ). WeighsBelow need o) (far.same id le) (light id le lt)
     ];
-    begun = omega (arith, far.begun, is);
-    unneeded = λ none. let same = far.unneeded none in let before = not_light none passed in omega (arith, same, before, is);
+    begun = omega (arith, far.begun, later);
+    unneeded = λ none. let same = far.unneeded none in let stays = unneeded none in omega (arith, same, stays);
     falls = far.falls;
     smaller = far.smaller;
     flat = far.flat;
-    paid = λ point flat near. far.paid point flat (omega (arith, near, is));
+    paid = λ point flat near. far.paid point flat (omega (arith, near, later));
     nests = far.nests;
     nests_paid = far.nests_paid;
   }
+
+  -- where they meet, it weighs too little
+  pub merge_on : (from after : ℕ) (ss : Sides) (t : Top) → MergeSoFar i target need from before after ss0 ss → IsTop i t (or_many ss) → from ≤ t.head → t.head < 2 ^ 32 → t.weight < need → MergeSoFar i target need (t.head + 1) before after ss0 ss
+  merge_on from after ss t far top le small less = merge_past from (t.head + 1) after ss far (omega (arith, le)) (λ none. absurd (omega (arith, none, less))) light
     where
-      not_light : need ≡ 0 → (head < from) ⊎ (weight < need) → head < from
-      not_light none (inl lt) = lt
-      not_light none (inr less) = absurd (omega (arith, none, less))
-
-      is_light : from ≤ head → (head < from) ⊎ (weight < need) → weight < need
-      is_light le (inl lt) = absurd (omega (arith, le, lt))
-      is_light le (inr less) = less
-
-      between : (id : ℕ) → from ≤ id → id < max from (head + 1) → WeighsBelow need (sum_of_any (rests i ss id))
-      between id le lt =
-          elim (cases_lt id head) as (λ _. WeighsBelow need (sum_of_any (rests i ss id))) [
-            | inl less ↦ subst (λ (o : Option ℕ). WeighsBelow need o) (sym (h.below id less)) tt
-            | inr up ↦
-                let same : id ≡ head = next_id id head from lt le up in
-                subst (λ (o : Option ℕ). WeighsBelow need o) (sym (ap (λ n. sum_of_any (rests i ss n)) same ∙ h.at small)) (is_light (omega (arith, le, same)) passed)
+      light : (id : ℕ) → from ≤ id → id < t.head + 1 → WeighsBelow need (sum_of_any (rests i ss id))
+      light id up lt =
+          elim (cases_lt id t.head) as (λ _. WeighsBelow need (sum_of_any (rests i ss id))) [
+            | inl before ↦ subst (λ (o : Option ℕ). WeighsBelow need o) (sym (top.head.below id before)) tt
+            | inr behind ↦
+                let same : id ≡ t.head = omega (arith, lt, behind) in
+                subst (λ (o : Option ℕ). WeighsBelow need o) (sym (ap (λ n. sum_of_any (rests i ss n)) same ∙ top.head.at small)) less
           ]
 
   -- one of them moved on
@@ -305,21 +297,23 @@ module _ (i : Indexed) (target need before : ℕ) (ss0 : Sides) where
         omega (arith, one, more);
   }
 
-  -- no id is left
-  pub merge_cleared : (from after : ℕ) (ss : Sides) → AreSound i ss0 → 2 ^ 32 ≤ from → MergeSoFar i target need from before after ss0 ss → MergeSoFar i target need from before after ss0 no_sides
-  merge_cleared from after ss sound end far = record {
-    sides = record { sides = tt; fits = omega arith };
-    same = λ id up. sym (sum_past i ss0 id sound (omega (arith, end, up)));
-    light = far.light;
-    begun = far.begun;
-    unneeded = far.unneeded;
-    falls = omega arith;
-    smaller = omega arith;
-    flat = λ flat. tt;
-    paid = λ point flat near. let paid = far.paid point flat near in omega (arith, paid);
-    nests = λ nests. tt;
-    nests_paid = λ head unread none following nests. let paid = far.nests_paid head unread none following nests in omega (arith, paid);
-  }
+  -- one of those in the queue moved on, as a move takes them and gives them
+  pub merge_moved_one : (from between after : ℕ) (t : Top) (l : Leaf) (ms qs ns : List Mark) (ls ks ps rs : List Leaf) → qs ≡ ms → ks ≡ ls → rs ≡ ps → MergeSoFar i target need from before between ss0 (side t (leaf l) (merged ms ls))
+      → AreMoved i from between after (merged qs ks) (merged ns ps) → ((id : ℕ) → from ≤ id → rests i (merged ns ps) id ≡ rests i (merged qs ks) id) → MergeSoFar i target need from before after ss0 (side t (leaf l) (merged ns rs))
+  merge_moved_one from between after t l ms qs ns ls ks ps rs eq ek er far moved same =
+      let was : merged qs ks ≡ merged ms ls = λ j. merged (eq j) (ek j) in
+      let is : merged ns ps ≡ merged ns rs = λ j. merged ns (sym er j) in
+      let sound = far.sides.sides in
+      subst (λ (ss : Sides). MergeSoFar i target need from before after ss0 (side t (leaf l) ss)) is
+      (merge_moved from between after (side t (leaf l) (merged ms ls)) (side t (leaf l) (merged ns ps)) far
+      (moved_other i from between after t (leaf l) (merged ms ls) (merged ns ps) sound.top sound.sound (subst (λ (ss : Sides). AreMoved i from between after ss (merged ns ps)) was moved))
+      (λ id up. ap (λ (os : List (Option ℕ)). rest i (leaf l) id ∷ os) (same id up ∙ ap (λ (ss : Sides). rests i ss id) was)))
+
+  -- the longest moved on
+  pub merge_reached : (from between after : ℕ) (t u : Top) (l k : Leaf) (ss : Sides) → MergeSoFar i target need from before between ss0 (side t (leaf l) ss) → AreMoved i from between after (side t (leaf l) ss) (side u (leaf k) ss)
+      → ((id : ℕ) → from ≤ id → leaf_rest i k id ≡ leaf_rest i l id) → MergeSoFar i target need from before after ss0 (side u (leaf k) ss)
+  merge_reached from between after t u l k ss far moved same =
+      merge_moved from between after (side t (leaf l) ss) (side u (leaf k) ss) far moved (λ id up. ap (λ (o : Option ℕ). o ∷ rests i ss id) (same id up))
 
   -- what they give covers what they gave
   merge_covers : (from head after : ℕ) (ss : Sides) → MergeSoFar i target need from before after ss0 ss → NoneBelow head (rest i (or_many ss)) → from ≤ head → Covers (from_on target (rest i (or_many ss0))) (rest i (or_many ss)) need
@@ -331,39 +325,23 @@ module _ (i : Indexed) (target need before : ℕ) (ss0 : Sides) where
       ])
       (λ lt. below id (omega (arith, lt, far.begun, le)))
 
-  -- they stand at the first that is enough, or have ended
-  pub merge_sought : (from after steps more : ℕ) (ss : Sides) (t : Top) → MergeSoFar i target need from before after ss0 ss → IsHead t.head t.weight (rest i (or_many ss)) → from ≤ t.head
-      → (t.head < 2 ^ 32 → t.greatest ≡ greatest_sum ss) → (t.head ≡ 2 ^ 32 → t.greatest ≡ 0) → Spends (unread_in i ss0) (unread_in i ss) before after steps more
+  -- they stand where they meet
+  pub merge_sought : (from after steps more : ℕ) (ss : Sides) (t : Top) → MergeSoFar i target need from before after ss0 ss → IsTop i t (or_many ss) → from ≤ t.head → Spends (unread_in i ss0) (unread_in i ss) before after steps more
       → WasSought i target need (greatest_sum ss0) before after steps more (or_many ss0) (or_many ss) t
-  merge_sought from after steps more ss t far h le exact closed spends = record {
+  merge_sought from after steps more ss t far top le spends = record {
     lands = record {
-      top = or_top i ss t far.sides.sides h exact closed;
+      top = top;
       sound = far.sides;
-      covers = merge_covers from t.head after ss far h.below le;
+      covers = merge_covers from t.head after ss far top.head.below le;
       reached = omega (arith, far.begun, le);
     };
     falls = elim (cases_lt t.head (2 ^ 32)) as (λ _. t.greatest ≤ greatest_sum ss0) [
-      | inl lt ↦ let is = exact lt in omega (arith, is, far.falls)
-      | inr end ↦ let none = closed (omega (arith, end, h.within)) in omega (arith, none)
+      | inl lt ↦ let most = top.summed lt in omega (arith, most, far.falls)
+      | inr end ↦ let none = top.closed (omega (arith, end, top.head.within)) in omega (arith, none)
     ];
     smaller = omega (arith, far.smaller);
     spends = spends;
   }
-
-  -- where they stand, as the queue answers it
-  pub merge_stands : (from after steps more head weight greatest : ℕ) (ms : List Mark) (ls : List Leaf) → MergeSoFar i target need from before after ss0 (merged ms ls) → head < 2 ^ 32 → from ≤ head
-      → head ≡ first_head ms → weight ≡ weight_at head ms → greatest ≡ greatest_of ms → Spends (unread_in i ss0) (unread_in i (merged ms ls)) before after steps more
-      → WasSought i target need (greatest_sum ss0) before after steps more (or_many ss0) (or_many (merged ms ls)) (record { head = head; weight = weight; greatest = greatest })
-  merge_stands from after steps more head weight greatest ms ls far small le at weighs much spends =
-      merge_sought from after steps more (merged ms ls) (record { head = head; weight = weight; greatest = greatest }) far (first_there i ms ls head weight far.sides.sides at weighs) le
-      (λ lt. omega (arith, much, merged_greatest ms ls)) (λ end. absurd (omega (arith, end, small))) spends
-
-  -- and where they have ended
-  pub merge_gone : (from after steps more head : ℕ) (ms : List Mark) (ls : List Leaf) (t : Top) → t ≡ record { head = 2 ^ 32; weight = 0; greatest = 0 } → MergeSoFar i target need from before after ss0 (merged ms ls) → from ≤ 2 ^ 32
-      → head ≡ first_head ms → 2 ^ 32 ≤ head → Spends (unread_in i ss0) (unread_in i (merged ms ls)) before after steps more → WasSought i target need (greatest_sum ss0) before after steps more (or_many ss0) (or_many (merged ms ls)) t
-  merge_gone from after steps more head ms ls t is far le at end spends =
-      subst (λ (u : Top). WasSought i target need (greatest_sum ss0) before after steps more (or_many ss0) (or_many (merged ms ls)) u) (sym is)
-      (merge_sought from after steps more (merged ms ls) (record { head = 2 ^ 32; weight = 0; greatest = 0 }) far (first_ended i ms ls head far.sides.sides at end) le (λ lt. absurd (omega (arith, lt))) (λ same. refl) spends)
 
   -- they have not come behind a point to which the node may go
   merge_near : (from after point : ℕ) (ss : Sides) → from ≤ 2 ^ 32 → MergeSoFar i target need from before after ss0 ss → MayGo point target need (sum_of_any (rests i ss0 point)) → from ≤ point + 1

@@ -5,7 +5,6 @@ use Rattle.std.proofs.lemmas.Bool.{cases_lt, eqb-true}
 use Rattle.std.proofs.lemmas.List.{with_items_is}
 use Rattle.sk_base.specs.declared.find.Scheme.{Scheme}
 use Rattle.sk_query.specs.declared.form.Form.{Form}
-use Rattle.sk_buckets.specs.declared.mark.Mark.{Mark}
 use Rattle.sk_model.specs.Covers.{CoversAt, Covers, first_need, second_need}
 use Rattle.sk_model.proofs.CoverLaws.{covers_itself, covers_then}
 use Rattle.sk_index.specs.Indexed.{Indexed}
@@ -24,7 +23,8 @@ use Rattle.sk_nodes.specs.declared.node.Node.TheVariants as Node
 use Rattle.sk_nodes.specs.Leaves.{AtMost}
 use Rattle.sk_nodes.specs.declared.proximity.Proximity.{Proximity}
 use Rattle.sk_nodes.specs.declared.leaf.Leaf.{Leaf}
-use Rattle.sk_nodes.specs.Shapes.{Shape, ended, leaf, range, pair, xor_many, or_many, positional, synonym, shape_of, node_step, size_of, sides_on, merged}
+use Rattle.sk_nodes.specs.declared.merge.Merge.{Merge}
+use Rattle.sk_nodes.specs.Shapes.{Shape, ended, leaf, range, pair, xor_many, or_many, positional, synonym, shape_of, node_step, size_of, sides_on, gathered}
 use Rattle.sk_nodes.specs.Decayed.{changed_pair, decayed, SidesFit, IsDecayed}
 use Rattle.sk_nodes.specs.Left.{rest, from_on, unread_of, greatest_held}
 use Rattle.sk_nodes.specs.Skips.{WeighsBelow}
@@ -49,8 +49,8 @@ shape_of-XorMany tops nodes = search (rules, the_lemmas)
 pub shape_of-OrMany : (tops : Vec Top Global) (nodes : Vec Node Global) → shape_of (Node.OrMany tops nodes) ≡ or_many (sides_on tops.items nodes.items)
 shape_of-OrMany tops nodes = search (rules, the_lemmas)
 
-pub shape_of-Merge : (queue : List Mark) (leaves : Vec Leaf Global) → shape_of (Node.Merge queue leaves) ≡ or_many (merged queue leaves.items)
-shape_of-Merge queue leaves = search (rules, the_lemmas)
+pub shape_of-Merge : (b : Box Merge Global) → shape_of (Node.Merge b) ≡ or_many (gathered b.value)
+shape_of-Merge b = search (rules, the_lemmas)
 
 pub shape_of-Positional : (p : Proximity) (t : Top) (b : Box Node Global) → shape_of (Node.Positional p t b) ≡ positional p t (shape_of b.value)
 shape_of-Positional p t b = search (rules, the_lemmas)
@@ -378,7 +378,7 @@ other_stays need = ind-Node (OtherStays need) (λ x y is. by x)
     by (Node-F.Pair form ta a tb b) other = absurd (other form ta a tb b (rolls-Pair form ta a tb b))
     by (Node-F.XorMany ts ns) other = stays _ _ (fold-roll-Node Shape node_step (Node-F.XorMany ts ns)) refl
     by (Node-F.OrMany ts ns) other = stays _ _ (fold-roll-Node Shape node_step (Node-F.OrMany ts ns)) refl
-    by (Node-F.Merge queue ls) other = stays _ _ (fold-roll-Node Shape node_step (Node-F.Merge queue ls)) refl
+    by (Node-F.Merge b) other = stays _ _ (fold-roll-Node Shape node_step (Node-F.Merge b)) refl
     by (Node-F.Positional p t n) other = stays _ _ (fold-roll-Node Shape node_step (Node-F.Positional p t n)) refl
     by (Node-F.Synonym scheme factor t n) other = stays _ _ (fold-roll-Node Shape node_step (Node-F.Synonym scheme factor t n)) refl
 
@@ -419,11 +419,8 @@ pub or_many_written : (v : Vec Top Global) (w : Vec Node Global) (ts : List Top)
 or_many_written v w ts ns e f = shape_of-OrMany (with_items v ts) (with_items w ns) ∙ (λ i. or_many (sides_on (with_items_is v ts e i) (with_items_is w ns f i)))
 
 -- many lists
-pub merge_shape : (node : Node) (queue : List Mark) (leaves : Vec Leaf Global) (ms : List Mark) (ls : List Leaf) → node ≡ Node.Merge queue leaves → ms ≡ queue → ls ≡ leaves.items → shape_of node ≡ or_many (merged ms ls)
-merge_shape node queue leaves ms ls e f g = ap shape_of e ∙ shape_of-Merge queue leaves ∙ (λ i. or_many (merged (sym f i) (sym g i)))
-
-pub merge_written : (ms : List Mark) (w : Vec Leaf Global) (ls : List Leaf) → length ls ≡ w.len → shape_of (Node.Merge ms (with_items w ls)) ≡ or_many (merged ms ls)
-merge_written ms w ls e = shape_of-Merge ms (with_items w ls) ∙ (λ i. or_many (merged ms (with_items_is w ls e i)))
+pub merge_shape : (node : Node) (b : Box Merge Global) (m : Merge) → node ≡ Node.Merge b → m ≡ b.value → shape_of node ≡ or_many (gathered m)
+merge_shape node b m e f = ap shape_of e ∙ shape_of-Merge b ∙ (λ i. or_many (gathered (sym f i)))
 
 -- ---- a node that was moved on, by what the shapes are
 

@@ -7,6 +7,7 @@ use Rattle.sk_nodes.specs.declared.top.Top.{Top}
 use Rattle.sk_nodes.specs.declared.leaf.Leaf.{Leaf}
 use Rattle.sk_nodes.specs.declared.range_node.RangeNode.{RangeNode}
 use Rattle.sk_nodes.specs.declared.proximity.Proximity.{Proximity}
+use Rattle.sk_nodes.specs.declared.merge.Merge.{Merge}
 use Rattle.sk_nodes.specs.declared.node.Node.{Node, fold-Node}
 use Rattle.sk_nodes.specs.declared.node.Node.TheOpen.{Node-F}
 
@@ -37,11 +38,15 @@ sides_of (t ∷ ts) (s ∷ ss) = side t s (sides_of ts ss)
 abbrev pub top_at : Mark → Top
 top_at m = record { head = m.head; weight = m.weight; greatest = m.greatest }
 
--- The lists of a merge as sides. A mark without a list is a side that gives nothing.
+-- Lists with their marks as sides. A mark without a list is a side that gives nothing.
 abbrev pub merged : List Mark → List Leaf → Sides
 merged [] ls = no_sides
 merged (m ∷ ms) [] = side (top_at m) ended (merged ms [])
 merged (m ∷ ms) (l ∷ ls) = side (top_at m) (leaf l) (merged ms ls)
+
+-- All lists of a merge, the longest before the others.
+abbrev pub gathered : Merge → Sides
+gathered m = side m.longest_top (leaf m.longest) (merged m.queue m.leaves.items)
 
 -- One layer of a node, its sides being shapes already.
 abbrev pub node_step : Node-F Shape → Shape
@@ -51,7 +56,7 @@ node_step (Node-F.Range r) = range r
 node_step (Node-F.Pair form ta a tb b) = pair form ta a.value tb b.value
 node_step (Node-F.XorMany tops nodes) = xor_many (sides_of tops.items nodes.items)
 node_step (Node-F.OrMany tops nodes) = or_many (sides_of tops.items nodes.items)
-node_step (Node-F.Merge queue leaves) = or_many (merged queue leaves.items)
+node_step (Node-F.Merge m) = or_many (gathered m.value)
 node_step (Node-F.Positional p t s) = positional p t s.value
 node_step (Node-F.Synonym scheme factor t s) = synonym scheme factor t s.value
 

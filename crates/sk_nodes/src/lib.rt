@@ -20,7 +20,7 @@ pub use begun::{
     one_side, or_many_of, pair_of, positional_of, synonym_over, with_more, xor_many_of,
 };
 pub use leaf::{Leaf, ListOf, list_length};
-pub use merge::{mark_of, merge_of};
+pub use merge::{Merge, mark_of, merge_of};
 pub use moves::reach;
 pub use node::Node;
 pub use proximity::{Proximity, ProximityKind};

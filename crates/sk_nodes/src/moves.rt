@@ -125,9 +125,7 @@ fn seek<L: Ledger>(
         Node::OrMany(tops, nodes) => seek_or_many(
             top, tops, nodes, index, target, need, spent, steps,
         ),
-        Node::Merge(queue, leaves) => seek_merge(
-            top, queue, leaves, index, target, need, spent, steps,
-        ),
+        Node::Merge(merge) => seek_merge(top, merge, index, target, need, spent, steps),
         Node::Positional(test, below, node) => seek_positional(
             top, test, below, node, index, target, need, spent, steps,
         ),

@@ -8,17 +8,16 @@ ghost use Rattle.sk_nodes.specs.Decayed.{decayed, SidesFit, IsDecayed};
 ghost use Rattle.sk_nodes.specs.Sound.{Sound, Replaces};
 
 use crate::leaf::Leaf;
+use crate::merge::Merge;
 use crate::proximity::Proximity;
 use crate::range_node::RangeNode;
 use crate::top::{END, Top};
 use sk_base::{Scheme, Weight};
-use sk_buckets::Buckets;
 use sk_decay::{Change, rule};
 use sk_query::Form;
 use std::mem;
 
-/// A node: a leaf, a range of values, two sides under a form, an xor or an or of many sides, an or of many lists that are
-/// moved one at a time, the first one first, a node whose documents are tested for the positions of terms, or one that gives
+/// A node: a leaf, a range of values, two sides under a form, an xor or an or of many sides, an or of many lists, a node whose documents are tested for the positions of terms, or one that gives
 /// sums of wdfs, which are weighed by a scheme and a factor. The tops of sides are kept beside them, so that their heads are
 /// read without following a box.
 #[derive(Drop)]
@@ -29,7 +28,7 @@ pub enum Node {
     Pair(Form, Top, Box<Node>, Top, Box<Node>),
     XorMany(Vec<Top>, Vec<Node>),
     OrMany(Vec<Top>, Vec<Node>),
-    Merge(Buckets, Vec<Leaf>),
+    Merge(Box<Merge>),
     Positional(Proximity, Top, Box<Node>),
     Synonym(Scheme, u64, Top, Box<Node>),
 }
@@ -61,7 +60,7 @@ fn is_settled(node: &Node, need: Weight) -> bool
         }
         Node::XorMany(_, _) => true,
         Node::OrMany(_, _) => true,
-        Node::Merge(_, _) => true,
+        Node::Merge(_) => true,
         Node::Positional(_, _, _) => true,
         Node::Synonym(_, _, _, _) => true,
     }

@@ -1,9 +1,12 @@
 -- How the lists of many terms are opened, one behind the other, and what one node of them all gives.
 use Rattle.std.proofs.Common.{◌≡◌, ◌≤◌, ◌<◌, ◌+◌, ◌-◌, ◌^◌, ◌++◌, ℕ, zero, suc, min, List, [], ◌∷◌, length, map, take, get_or, All, Option, None, Some, true, refl, sym, subst, ap, ◌∙◌, arith}
-use Rattle.std.proofs.Math.Seq.{take-suc}
-use Rattle.std.proofs.lemmas.List.{length-append, map-append, take_all}
+use Rattle.std.specs.List.{remove}
+use Rattle.std.proofs.lemmas.List.Edits.{length-remove}
+use Rattle.std.proofs.lemmas.List.Elements.{All-more, All-weaker}
+use Rattle.std.proofs.lemmas.List.{length-append, length-map, length-take-le, map-append, take_all, take_more}
 use Rattle.sk_base.specs.declared.find.Scheme.{Scheme}
 use Rattle.sk_base.specs.Loads.{IsLight}
+use Rattle.sk_base.specs.Numbers.{Docs}
 use Rattle.sk_sorted.specs.Entries.{AreSorted}
 use Rattle.sk_buckets.specs.declared.mark.Mark.{Mark}
 use Rattle.sk_dict.specs.Terms.{term_at}
@@ -14,7 +17,7 @@ use Rattle.sk_model.specs.Documents.{Document}
 use Rattle.sk_model.specs.Edits.{document_at}
 use Rattle.sk_model.specs.Combining.{either, sum_of_any}
 use Rattle.sk_model.specs.Bounds.{lengths_of}
-use Rattle.sk_model.proofs.CombiningLaws.{sum_of_any-append}
+use Rattle.sk_model.proofs.CombiningLaws.{either-end, either-apart, either-turned, sum_of_any-append}
 use Rattle.sk_index.specs.Indexed.{Indexed}
 use Rattle.sk_nodes.specs.declared.top.Top.{Top}
 use Rattle.sk_nodes.specs.declared.leaf.Leaf.{Leaf}
@@ -30,7 +33,7 @@ use Rattle.sk_nodes.proofs.ManyLaws.{rests_behind, sound_behind, greatest_behind
 use Rattle.sk_nodes.proofs.OrManyLaws.{rooms_behind, nests_behind}
 use Rattle.sk_tree.specs.Opened.{score_of, wdfs_of, Opens}
 use Rattle.sk_tree.specs.OpenedAccounts.{OpensList}
-use Rattle.sk_tree.specs.Nests.{OpensNest}
+use Rattle.sk_tree.specs.Nests.{entered, OpensNest}
 use Rattle.sk_tree.specs.Readings.{Pays, CountsReadings}
 use Rattle.sk_tree.specs.Sums.{OpensSums}
 use Rattle.sk_tree.proofs.TermLaws.{weighed-term, greatest-term}
@@ -44,21 +47,49 @@ there_at i [] k d lt there = absurd (omega (arith, lt))
 there_at i (n ∷ ns) zero d lt there = there.0
 there_at i (n ∷ ns) (suc k) d lt there = there_at i ns k d (omega (arith, lt)) there.1
 
-pub named_next : (f : ℕ → List ℕ) (ns : List ℕ) (k d : ℕ) → k < length ns → map f (take (k + 1) ns) ≡ map f (take k ns) ++ (f (get_or ns k d) ∷ [])
-named_next f ns k d lt =
-    let next : k + 1 ≡ suc k = omega arith in
-    ap (λ n. map f (take n ns)) next ∙ ap (map f) (take-suc ns k d lt) ∙ map-append f (take k ns) (get_or ns k d ∷ [])
+-- a bound on what stands before an element, and on that element
+pub within_next : (f : ℕ → ℕ) (ns : List ℕ) (k d most more : ℕ) → k < length ns → most ≤ more → f (get_or ns k d) ≤ more → All (λ n. f n ≤ most) (take k ns) → All (λ n. f n ≤ more) (take (k + 1) ns)
+within_next f ns k d most more lt le here before =
+    All-more (λ n. f n ≤ more) ns k d lt (All-weaker (λ n. f n ≤ most) (λ n. f n ≤ more) (λ n h. omega (arith, h, le)) (take k ns) before) here
 
-pub named_all : (f : ℕ → List ℕ) (ns : List ℕ) (k : ℕ) → length ns ≤ k → map f (take k ns) ≡ map f ns
-named_all f ns k le = ap (map f) (take_all k ns le)
+-- ---- all terms but one
+
+remove_behind : (ns : List ℕ) (m k : ℕ) → (length ns ≡ k → ⊥) → remove (ns ++ m ∷ []) k ≡ remove ns k ++ m ∷ []
+remove_behind [] m zero other = absurd (other refl)
+remove_behind [] m (suc zero) other = refl
+remove_behind [] m (suc (suc k)) other = refl
+remove_behind (n ∷ ns) m zero other = refl
+remove_behind (n ∷ ns) m (suc k) other = ap (λ (ms : List ℕ). n ∷ ms) (remove_behind ns m k (λ e. other (ap suc e)))
+
+remove_last : (ns : List ℕ) (m k : ℕ) → length ns ≡ k → remove (ns ++ m ∷ []) k ≡ remove ns k
+remove_last [] m zero e = refl
+remove_last [] m (suc k) e = absurd (omega (arith, e))
+remove_last (n ∷ ns) m zero e = absurd (omega (arith, e))
+remove_last (n ∷ ns) m (suc k) e = ap (λ (ms : List ℕ). n ∷ ms) (remove_last ns m k (omega (arith, e)))
+
+module _ (ns : List ℕ) (k d w : ℕ) (lt : k < length ns) where
+  long : length (take k ns) ≡ k
+  long = length-take-le k ns (omega (arith, lt))
+
+  pub others_next : (f : ℕ → List ℕ) → (k ≡ w → ⊥) → map f (remove (take (k + 1) ns) w) ≡ map f (remove (take k ns) w) ++ f (get_or ns k d) ∷ []
+  others_next f other =
+      ap (λ ms. map f (remove ms w)) (take_more ns k d lt) ∙ ap (map f) (remove_behind (take k ns) (get_or ns k d) w (λ e. other (sym long ∙ e)))
+      ∙ map-append f (remove (take k ns) w) (get_or ns k d ∷ [])
+
+  pub others_same : k ≡ w → remove (take (k + 1) ns) w ≡ remove (take k ns) w
+  others_same e = ap (λ ms. remove ms w) (take_more ns k d lt) ∙ remove_last (take k ns) (get_or ns k d) w (long ∙ e)
+
+pub others_all : (ns : List ℕ) (k w : ℕ) → length ns ≤ k → remove (take k ns) w ≡ remove ns w
+others_all ns k w le = ap (λ ms. remove ms w) (take_all k ns le)
 
 -- ---- one list
 
 -- a mark and a leaf behind others
-pub merged_next : (ms ns : List Mark) (ls ks : List Leaf) (m : Mark) (l : Leaf) → length ms ≡ length ls → ns ≡ ms ++ m ∷ [] → ks ≡ ls ++ l ∷ [] → merged ns ks ≡ followed_by (merged ms ls) (merged (m ∷ []) (l ∷ []))
-merged_next ms ns ls ks m l even e f = (λ j. merged (e j) (f j)) ∙ behind ms ls even
+pub merged_next : (ms ns : List Mark) (ls ks : List Leaf) (m : Mark) (t : Top) (l : Leaf) → length ms ≡ length ls → top_at m ≡ t → ns ≡ ms ++ m ∷ [] → ks ≡ ls ++ l ∷ []
+    → merged ns ks ≡ followed_by (merged ms ls) (side t (leaf l) no_sides)
+merged_next ms ns ls ks m t l even at e f = (λ j. merged (e j) (f j)) ∙ behind ms ls even ∙ ap (λ (u : Top). followed_by (merged ms ls) (side u (leaf l) no_sides)) at
   where
-    behind : (ms : List Mark) (ls : List Leaf) → length ms ≡ length ls → merged (ms ++ m ∷ []) (ls ++ l ∷ []) ≡ followed_by (merged ms ls) (merged (m ∷ []) (l ∷ []))
+    behind : (ms : List Mark) (ls : List Leaf) → length ms ≡ length ls → merged (ms ++ m ∷ []) (ls ++ l ∷ []) ≡ followed_by (merged ms ls) (side (top_at m) (leaf l) no_sides)
     behind [] [] e = refl
     behind [] (k ∷ ls) e = absurd (omega (arith, e))
     behind (n ∷ ms) [] e = absurd (omega (arith, e))
@@ -67,25 +98,21 @@ merged_next ms ns ls ks m l even e f = (λ j. merged (e j) (f j)) ∙ behind ms 
 pub even_next : (ms ns : List Mark) (ls ks : List Leaf) (m : Mark) (l : Leaf) → length ms ≡ length ls → ns ≡ ms ++ m ∷ [] → ks ≡ ls ++ l ∷ [] → length ns ≡ length ks
 even_next ms ns ls ks m l even e f = ap length e ∙ length-append ms (m ∷ []) ∙ ap (λ n. n + 1) even ∙ sym (length-append ls (l ∷ [])) ∙ ap length (sym f)
 
-either_end : (o : Option ℕ) → either o None ≡ o
-either_end None = refl
-either_end (Some v) = refl
-
 -- the list of one term
-pub list_sums : (i : Indexed) (m : Mark) (l : Leaf) (t : Top) (n before after : ℕ) → top_at m ≡ t → All IsLight i.live.documents → AreSorted i.live.documents
+pub list_sums : (i : Indexed) (l : Leaf) (t : Top) (n before after : ℕ) → All IsLight i.live.documents → AreSorted i.live.documents
     → Yields i t (leaf l) (weighed 1 Scheme.Nnn (list_in i (ListOf.Term n))) (leaf_greatest 1 Scheme.Nnn (list_in i (ListOf.Term n)))
     → OpensList i t (leaf l) (list_in i (ListOf.Term n)) (leaf_greatest 1 Scheme.Nnn (list_in i (ListOf.Term n))) before after
-    → OpensSums i (merged (m ∷ []) (l ∷ [])) (term_at i.terms n ∷ []) before after
-list_sums i m l t n before after at light sorted yields list =
+    → OpensSums i (side t (leaf l) no_sides) (term_at i.terms n ∷ []) before after
+list_sums i l t n before after light sorted yields list =
     let term = term_at i.terms n in
     let docs = i.live.documents in
-    subst (λ (u : Top). OpensSums i (side u (leaf l) no_sides) (term ∷ []) before after) (sym at) (record {
+    record {
       sound = record { top = yields.top; sound = yields.sound; others = tt };
-      gives = λ id. either_end (leaf_rest i l id) ∙ yields.gives id ∙ weighed-term 1 Scheme.Nnn term docs sorted id ∙ one_score Scheme.Nnn 1 term (document_at id docs);
+      gives = λ id. either-end (leaf_rest i l id) ∙ yields.gives id ∙ weighed-term 1 Scheme.Nnn term docs sorted id ∙ one_score Scheme.Nnn 1 term (document_at id docs);
       ceiling = let own = subst (λ g. t.greatest ≤ g) (greatest-term 1 Scheme.Nnn term docs) yields.ceiling in omega (arith, own, term_small Scheme.Nnn 1 term docs light);
       nests = (list.nest Form.Or, tt);
       account = λ point. let p = (term_nest i Form.Or (leaf l) n before after (list.nest Form.Or) list.entered).account point in omega (arith, p);
-    })
+    }
 
 -- ---- of no term, and of more behind others
 
@@ -119,6 +146,59 @@ module _ (i : Indexed) (us ss rs : Sides) (zs xs ys : List (List ℕ)) (is : us 
 
 pub counts_both : (s0 s1 s2 t0 t1 t2 m1 m2 : ℕ) → CountsReadings s0 s1 t0 t1 m1 → CountsReadings s1 s2 t1 t2 m2 → CountsReadings s0 s2 t0 t2 m2
 counts_both s0 s1 s2 t0 t1 t2 m1 m2 one two = record { counted = omega (arith, one.counted, two.counted); later = omega (arith, one.later, two.later); small = two.small }
+
+-- ---- of one term before all others
+
+module _ (f : ℕ → List ℕ) (d : ℕ) where
+  moved_lengths : (docs : Docs) (ns : List ℕ) (w : ℕ) → w < length ns → lengths_of (map f ns) docs ≡ lengths_of (f (get_or ns w d) ∷ map f (remove ns w)) docs
+  moved_lengths docs [] w lt = absurd (omega (arith, lt))
+  moved_lengths docs (n ∷ ns) zero lt = refl
+  moved_lengths docs (n ∷ ns) (suc w) lt = let rest = moved_lengths docs ns w (omega (arith, lt)) in omega (arith, rest)
+
+  moved_entered : (id : ℕ) (docs : Docs) (ns : List ℕ) (w : ℕ) → w < length ns → entered (map f ns) id docs ≡ entered (f (get_or ns w d) ∷ map f (remove ns w)) id docs
+  moved_entered id docs [] w lt = absurd (omega (arith, lt))
+  moved_entered id docs (n ∷ ns) zero lt = refl
+  moved_entered id docs (n ∷ ns) (suc w) lt = let rest = moved_entered id docs ns w (omega (arith, lt)) in omega (arith, rest)
+
+  moved_wdfs : (o : Option Document) (ns : List ℕ) (w : ℕ) → w < length ns
+      → score_of (Trees.synonym (f (get_or ns w d) ∷ map f (remove ns w))) Scheme.Nnn 1 o ≡ score_of (Trees.synonym (map f ns)) Scheme.Nnn 1 o
+  moved_wdfs o [] w lt = absurd (omega (arith, lt))
+  moved_wdfs o (n ∷ ns) zero lt = refl
+  moved_wdfs o (n ∷ ns) (suc w) lt =
+      let x = f (get_or ns w d) in
+      let ts = map f (remove ns w) in
+      wdfs-split (x ∷ []) (f n ∷ ts) o ∙ ap (either (score x)) (wdfs-split (f n ∷ []) ts o) ∙ sym (either-apart (score x) (score (f n)) (scores ts)) ∙ ap (λ s. either s (scores ts)) (either-turned (score x) (score (f n)))
+      ∙ either-apart (score (f n)) (score x) (scores ts) ∙ ap (either (score (f n))) (sym (wdfs-split (x ∷ []) ts o) ∙ moved_wdfs o ns w (omega (arith, lt))) ∙ sym (wdfs-split (f n ∷ []) (map f ns) o)
+    where
+      scores : List (List ℕ) → Option ℕ
+      scores ts = score_of (Trees.synonym ts) Scheme.Nnn 1 o
+
+      score : List ℕ → Option ℕ
+      score t = scores (t ∷ [])
+
+module _ (i : Indexed) (t : Top) (l : Leaf) (ss : Sides) (ns : List ℕ) (w d : ℕ) (lt : w < length ns) where
+  abbrev named : List ℕ → List (List ℕ)
+  named ms = map (term_at i.terms) ms
+
+  abbrev first : List (List ℕ)
+  first = term_at i.terms (get_or ns w d) ∷ []
+
+  pub sums_all : (s0 s1 s2 : ℕ) → OpensSums i (side t (leaf l) no_sides) first s0 s1 → OpensSums i ss (named (remove ns w)) s1 s2 → OpensSums i (side t (leaf l) ss) (named ns) s0 s2
+  sums_all s0 s1 s2 one others =
+      let both = sums_both i (side t (leaf l) ss) (side t (leaf l) no_sides) ss (first ++ named (remove ns w)) first (named (remove ns w)) refl refl s0 s1 s2 one others in
+      record {
+        sound = both.sound;
+        gives = λ id. both.gives id ∙ moved_wdfs (term_at i.terms) d (document_at id i.live.documents) ns w lt;
+        ceiling = omega (arith, both.ceiling, length-map ns (term_at i.terms), length-map (remove ns w) (term_at i.terms), length-remove ns w lt);
+        nests = both.nests;
+        account = λ point. let p = both.account point in omega (arith, p, moved_entered (term_at i.terms) d point i.live.documents ns w lt);
+      }
+
+  pub pays_all : (s0 s1 s2 m0 m1 m2 : ℕ) → Pays s0 s1 m0 m1 (unread_in i (side t (leaf l) no_sides)) (lengths_of first i.live.documents)
+      → Pays s1 s2 m1 m2 (unread_in i ss) (lengths_of (named (remove ns w)) i.live.documents) → Pays s0 s2 m0 m2 (unread_in i (side t (leaf l) ss)) (lengths_of (named ns) i.live.documents)
+  pays_all s0 s1 s2 m0 m1 m2 one others =
+      let both = pays_both i (side t (leaf l) ss) (side t (leaf l) no_sides) ss (first ++ named (remove ns w)) first (named (remove ns w)) refl refl s0 s1 s2 m0 m1 m2 one others in
+      record { paid = both.paid; within = omega (arith, both.within, moved_lengths (term_at i.terms) d i.live.documents ns w lt); room = both.room }
 
 -- ---- the node of all lists
 

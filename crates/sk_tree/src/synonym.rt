@@ -1,5 +1,6 @@
 //! How the node of terms that count as one is opened: those of a synonym, and those that begin with a prefix.
-ghost use Rattle.std.specs.Prelude.{◌≡◌, ◌≤◌, ◌<◌, ◌+◌, ◌-◌, ◌^◌, ℕ, true, [], ◌∷◌, map, ◌++◌, min, IfOk, length, Option};
+ghost use Rattle.std.specs.Prelude.{◌≡◌, ◌≤◌, ◌<◌, ◌+◌, ◌-◌, ◌^◌, ℕ, true, [], ◌∷◌, map, ◌++◌, min, All, IfOk, length, slice_index_or, Option};
+ghost use Rattle.std.specs.List.{remove};
 ghost use Rattle.sk_base.specs.declared.find.Scheme.{Scheme};
 ghost use Rattle.sk_base.specs.Numbers.{terms_with};
 ghost use Rattle.sk_dict.specs.Terms.{term_at};
@@ -12,7 +13,9 @@ ghost use Rattle.sk_model.specs.Bounds.{ceil, lengths_of};
 ghost use Rattle.sk_model.specs.Allowance.{leaf_readings};
 ghost use Rattle.sk_index.specs.Indexed.{Indexed};
 ghost use Rattle.sk_tree.specs.Readings.{Pays, CountsReadings};
-ghost use Rattle.sk_nodes.specs.Shapes.{shape_of, merged};
+ghost use Rattle.sk_nodes.specs.declared.leaf.ListOf.TheVariants as ListOf;
+ghost use Rattle.sk_nodes.specs.Leaves.{list_in};
+ghost use Rattle.sk_nodes.specs.Shapes.{leaf, no_sides, side, shape_of, merged};
 ghost use Rattle.sk_nodes.specs.Left.{unread_of, unread_in, greatest_sum};
 ghost use Rattle.sk_tree.specs.Nests.{OpensAsOne, OpensNest, OpensFlat};
 ghost use Rattle.sk_tree.specs.Sums.{OpensSums};
@@ -24,7 +27,9 @@ use crate::opening::{open_entries, open_numbered};
 use crate::words::numbers_of;
 use sk_base::{MOST_WDF, Scheme, Text, Weight};
 use sk_index::Index;
-use sk_nodes::{Leaf, ListOf, Mark, Node, Top, mark_of, merge_of, pair_of, synonym_over};
+use sk_nodes::{
+    Leaf, ListOf, Mark, Node, Top, list_length, mark_of, merge_of, pair_of, synonym_over,
+};
 use sk_query::{Form, Query};
 use sk_steps::Steps;
 use sk_weight::ceil;
@@ -171,7 +176,7 @@ fn open_sums<L: Ledger>(
     Ok((capped(top, Weight::from(MOST_WDF)), node))
 }
 
-/// The same of many terms: one node of all lists, each kept by the id at which it stands.
+/// The same of many terms: one node of all lists, the longest apart from the others.
 fn open_many<L: Ledger>(
     alloc: Global,
     index: &Index,
@@ -180,6 +185,7 @@ fn open_many<L: Ledger>(
     spent: &mut u128,
     steps: &mut Steps<L>,
 ) -> Result<(Top, Node), AllocError>
+    requires some { 0 < length numbers.now }
     requires there { AreThere index.now numbers.now }
     requires apart { are_different (map (term_at index.now.terms) numbers.now) ≡ true }
     requires can { CanOpen index.now 1 spent.old most.old }
@@ -188,32 +194,57 @@ fn open_many<L: Ledger>(
     ensures counts { CountsReadings spent.old spent.new steps.old steps.new most.new }
     ensures nest { IfOk result (λ p. OpensNest index.now Form.Or (shape_of p.1) (map (term_at index.now.terms) numbers.now) spent.old spent.new) }
 {
-    let (marks, leaves) = open_lists(alloc, index, numbers, most, spent, steps)?;
-    let (top, node) = merge_of(alloc, index, marks, leaves)?;
+    let which = longest(index, numbers);
+    let (longest_top, leaf) = open_list(index, numbers[which], most, spent, steps)?;
+    let (marks, leaves) = open_others(alloc, index, numbers, which, most, spent, steps)?;
+    let (top, node) = merge_of(alloc, index, longest_top, leaf, marks, leaves)?;
     Ok((capped(top, Weight::from(MOST_WDF)), node))
 }
 
-/// The lists of terms, by their numbers, each with where it stands.
-fn open_lists<L: Ledger>(
+/// The place of the term whose list is the longest.
+fn longest(index: &Index, numbers: &[usize]) -> usize
+    requires some { 0 < length numbers.now }
+    requires there { AreThere index.now numbers.now }
+    ensures within { result < length numbers.now }
+    ensures longest { All (λ n. length (list_in index.now (ListOf.Term n)) ≤ length (list_in index.now (ListOf.Term (slice_index_or numbers.now result 0)))) numbers.now }
+{
+    let mut longest = 0;
+    let mut most = 0;
+    'numbers: for which in 0..numbers.len() {
+        let length = list_length(index, ListOf::Term(numbers[which]));
+        if most < length {
+            most = length;
+            longest = which;
+        }
+    }
+    longest
+}
+
+/// The lists of all terms but the one at this place, by their numbers, each with where it stands.
+fn open_others<L: Ledger>(
     alloc: Global,
     index: &Index,
     numbers: &[usize],
+    apart: usize,
     most: &mut u128,
     spent: &mut u128,
     steps: &mut Steps<L>,
 ) -> Result<(Vec<Mark>, Vec<Leaf>), AllocError>
     requires there { AreThere index.now numbers.now }
     requires can { CanOpen index.now 1 spent.old most.old }
-    ensures opens { IfOk result (λ p. OpensSums index.now (merged p.0.items p.1.items) (map (term_at index.now.terms) numbers.now) spent.old spent.new) }
-    ensures fits { IfOk result (λ p. greatest_sum (merged p.0.items p.1.items) < 2 ^ 127) }
-    ensures pays { IfOk result (λ p. Pays spent.old spent.new most.old most.new (unread_in index.now (merged p.0.items p.1.items)) (lengths_of (map (term_at index.now.terms) numbers.now) index.now.live.documents)) }
+    ensures opens { IfOk result (λ p. OpensSums index.now (merged p.0.items p.1.items) (map (term_at index.now.terms) (remove numbers.now apart)) spent.old spent.new) }
+    ensures fits { IfOk result (λ p. greatest_sum (merged p.0.items p.1.items) < 2 ^ 126) }
+    ensures pays { IfOk result (λ p. Pays spent.old spent.new most.old most.new (unread_in index.now (merged p.0.items p.1.items)) (lengths_of (map (term_at index.now.terms) (remove numbers.now apart)) index.now.live.documents)) }
     ensures counts { CountsReadings spent.old spent.new steps.old steps.new most.new }
 {
     let mut marks = Vec::with_capacity(alloc, numbers.len())?;
     let mut leaves = Vec::with_capacity(alloc, numbers.len())?;
-    'numbers: for number in numbers {
-        let (mark, leaf) = open_list(index, *number, most, spent, steps)?;
-        marks.push(mark)?;
+    'numbers: for which in 0..numbers.len() {
+        if which == apart {
+            continue;
+        }
+        let (top, leaf) = open_list(index, numbers[which], most, spent, steps)?;
+        marks.push(mark_of(&top))?;
         leaves.push(leaf)?;
     }
     Ok((marks, leaves))
@@ -226,16 +257,16 @@ fn open_list<L: Ledger>(
     most: &mut u128,
     spent: &mut u128,
     steps: &mut Steps<L>,
-) -> Result<(Mark, Leaf), AllocError>
+) -> Result<(Top, Leaf), AllocError>
     requires there { number < length index.now.terms }
     requires can { CanOpen index.now 1 spent.old most.old }
-    ensures opens { IfOk result (λ p. OpensSums index.now (merged (p.0 ∷ []) (p.1 ∷ [])) (term_at index.now.terms number ∷ []) spent.old spent.new) }
-    ensures pays { IfOk result (λ p. Pays spent.old spent.new most.old most.new (unread_in index.now (merged (p.0 ∷ []) (p.1 ∷ []))) (lengths_of (term_at index.now.terms number ∷ []) index.now.live.documents)) }
+    ensures opens { IfOk result (λ p. OpensSums index.now (side p.0 (leaf p.1) no_sides) (term_at index.now.terms number ∷ []) spent.old spent.new) }
+    ensures pays { IfOk result (λ p. Pays spent.old spent.new most.old most.new (unread_in index.now (side p.0 (leaf p.1) no_sides)) (lengths_of (term_at index.now.terms number ∷ []) index.now.live.documents)) }
     ensures counts { CountsReadings spent.old spent.new steps.old steps.new most.new }
 {
     let list = ListOf::Term(number);
     let (top, leaf) = open_entries(index, list, Scheme::Nnn, 1, most, spent, steps)?;
-    Ok((mark_of(&top), leaf))
+    Ok((top, leaf))
 }
 
 /// The leaf of the one term.

@@ -3,14 +3,14 @@ use Rattle.std.proofs.Common.{◌≡◌, ◌+◌, ◌^◌, ◌++◌, refl, sym, 
 use Rattle.std.proofs.lemmas.List.{places}
 use Rattle.sk_model.specs.Covers.{Covers}
 use Rattle.sk_nodes.specs.declared.top.Top.{Top}
-use Rattle.sk_nodes.specs.declared.leaf.Leaf.{Leaf}
+use Rattle.sk_nodes.specs.declared.merge.Merge.{Merge}
 use Rattle.sk_nodes.specs.declared.node.Node.{Node}
-use Rattle.sk_nodes.specs.Shapes.{Shape, Sides, side, range, pair, xor_many, or_many, positional, synonym, shape_of, size_of, sides_on, sizes_in}
+use Rattle.sk_nodes.specs.Shapes.{Shape, Sides, side, range, pair, xor_many, or_many, positional, synonym, gathered, shape_of, size_of, sides_on, sizes_in}
 use Rattle.sk_nodes.specs.Left.{rest, from_on, greatest_sum, unread_of, unread_in}
 use Rattle.sk_nodes.specs.Sound.{IsTop, Sound, AreSound, IsPositional}
 use Rattle.sk_nodes.specs.Many.{AreFrom, AreSought, followed_by}
 use Rattle.sk_nodes.proofs.LeafLaws.{AtMost-covers}
-use Rattle.sk_nodes.proofs.NodeLaws.{sound_fits, greatest_within, covers_more, capped_top, shape_of-Nothing, shape_of-Leaf, shape_of-Pair, leaf_shape, shape_of-Positional, positional_shape, shape_of-Synonym, synonym_shape, parts_shape, sought_along, greatest_under-mono, weight_le, target_ended, head_reached, pair_top, pair_top_ended, sides_covers, sides_covers_ended, sides_begun, sides_more, pair_covers, xor_many_shape, xor_many_written, or_many_shape, or_many_written, merge_shape, merge_written}
+use Rattle.sk_nodes.proofs.NodeLaws.{sound_fits, greatest_within, covers_more, capped_top, shape_of-Nothing, shape_of-Leaf, shape_of-Pair, leaf_shape, shape_of-Positional, positional_shape, shape_of-Synonym, synonym_shape, parts_shape, sought_along, greatest_under-mono, weight_le, target_ended, head_reached, pair_top, pair_top_ended, sides_covers, sides_covers_ended, sides_begun, sides_more, pair_covers, xor_many_shape, xor_many_written, or_many_shape, or_many_written, merge_shape, shape_of-Merge}
 use Rattle.sk_nodes.proofs.ManyLaws.{weights_fit, xor_begun, sides_cons, xor_covers, xor_more, xor_top, sides_split, sides_append, both_sound, sound_behind, from_behind, sought_behind, greatest_behind, unread_behind, sizes_behind, some_sizes}
 use Rattle.sk_nodes.specs.Proximity.{entries_unread}
 use Rattle.sk_nodes.proofs.ProximityLaws.{test_begun, moved_all, moved_covers, moved_ended, ended_test, passed_top, passed_sound, passed_covers, none_top, failed_ended_covers, failed_ended_sound, failed_more}
@@ -100,9 +100,9 @@ seek-returns-in-OrMany-clause-sought g t c =
 
 pub seek-returns-in-Merge-clause-sought : goal.seek-returns-in-Merge-clause-sought
 seek-returns-in-Merge-clause-sought g t c =
-    sought_along c.args.index.now c.args.target c.args.need _ _ _ _ _ _ _ _ _
-    (merge_shape c.args.node.now c.in-Merge.queue c.in-Merge.leaves _ _ c.in-Merge.is c.in-Merge.queue-is (c.deref_mut-in-Merge.ensures.value ∙ ap (λ (v : Vec Leaf Global). v.items) c.in-Merge.leaves-is))
-    (merge_written _ _ c.seek_merge.new.leaves (search (rules, places))) c.seek_merge.ensures.sought
+    sought_along c.args.index.now c.args.target c.args.need _ _ _ _ _ _ _ (or_many (gathered c.seek_merge.new.merge)) _
+    (merge_shape c.args.node.now c.in-Merge.merge _ c.in-Merge.is (c.deref_mut-in-Merge.ensures.value ∙ ap (λ (x : Box Merge Global). x.value) c.in-Merge.merge-is))
+    (search (rules, shape_of-Merge)) c.seek_merge.ensures.sought
 
 pub seek-returns-in-Positional-clause-sought : goal.seek-returns-in-Positional-clause-sought
 seek-returns-in-Positional-clause-sought g t c =
@@ -136,9 +136,9 @@ seek-returns-in-OrMany-clause-accounts g t c =
 
 pub seek-returns-in-Merge-clause-accounts : goal.seek-returns-in-Merge-clause-accounts
 seek-returns-in-Merge-clause-accounts g t c =
-    seek_along c.args.index.now c.args.target c.args.need c.args.spent.now c.seek_merge.new.spent _ _ _ _ _
-    (merge_shape c.args.node.now c.in-Merge.queue c.in-Merge.leaves _ _ c.in-Merge.is c.in-Merge.queue-is (c.deref_mut-in-Merge.ensures.value ∙ ap (λ (v : Vec Leaf Global). v.items) c.in-Merge.leaves-is))
-    (merge_written _ _ c.seek_merge.new.leaves (search (rules, places))) (seek_some c.args.index.now c.args.target c.args.need c.args.spent.now c.seek_merge.new.spent (or_many _) (or_many _) _ (λ h. h) (λ h. h) (λ greatest first h. h) c.seek_merge.ensures.accounts)
+    seek_along c.args.index.now c.args.target c.args.need c.args.spent.now c.seek_merge.new.spent _ _ _ (or_many (gathered c.seek_merge.new.merge)) _
+    (merge_shape c.args.node.now c.in-Merge.merge _ c.in-Merge.is (c.deref_mut-in-Merge.ensures.value ∙ ap (λ (x : Box Merge Global). x.value) c.in-Merge.merge-is))
+    (search (rules, shape_of-Merge)) (seek_some c.args.index.now c.args.target c.args.need c.args.spent.now c.seek_merge.new.spent (or_many _) (or_many _) _ (λ h. h) (λ h. h) (λ greatest first h. h) c.seek_merge.ensures.accounts)
 
 pub seek-returns-in-Positional-clause-accounts : goal.seek-returns-in-Positional-clause-accounts
 seek-returns-in-Positional-clause-accounts g t c =

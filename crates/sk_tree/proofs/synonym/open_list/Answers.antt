@@ -7,7 +7,7 @@ use Rattle.sk_tree.proofs.synonym.open_list.Goals as goal
 
 pub returns-clause-opens : goal.returns-clause-opens
 returns-clause-opens g c =
-    list_sums c.args.index.now c.mark_of.result c.in_ok-top.leaf c.in_ok-top.top c.args.number _ _ c.mark_of.ensures c.requires.can.light c.requires.can.read.documents c.in_ok-top.ensures.yields c.in_ok-top.ensures.list
+    list_sums c.args.index.now c.in_ok-top.leaf c.in_ok-top.top c.args.number _ _ c.requires.can.light c.requires.can.read.documents c.in_ok-top.ensures.yields c.in_ok-top.ensures.list
 
 pub returns-clause-pays : goal.returns-clause-pays
 returns-clause-pays g c =
