@@ -22,3 +22,4 @@ pub mod SkipLaws
 pub mod AccountLaws
 pub mod MoveLaws
 pub mod BegunLaws
+pub mod SeekLaws

@@ -17,9 +17,9 @@ use sk_decay::{Change, rule};
 use sk_query::Form;
 use std::mem;
 
-/// A node: a leaf, a range of values, two sides under a form, an xor or an or of many sides, an or of many lists, a node whose documents are tested for the positions of terms, or one that gives
-/// sums of wdfs, which are weighed by a scheme and a factor. The tops of sides are kept beside them, so that their heads are
-/// read without following a box.
+/// A node: a leaf, a range of values, two sides under a form, an xor or an or of many sides, an or of many lists, a node
+/// whose documents are tested for the positions of terms, or one that gives sums of wdfs, which are weighed by a scheme and
+/// a factor. The tops of sides are kept beside them, so that their heads are read without following a box.
 #[derive(Drop)]
 pub enum Node {
     Nothing,
