@@ -17,6 +17,7 @@ use Rattle.sk_terms.specs.Named.{with_its_text, named_all}
 use Rattle.sk_terms.proofs.ListedLemmas.{Precedes-irrefl}
 use Rattle.sk_terms.proofs.NamedLemmas.{known_at, named_at}
 use Rattle.sk_terms.proofs.WalkLemmas.{less_is}
+use Rattle.sk_index.specs.declared.places.TermPlace.{TermPlace}
 use Rattle.sk_index.specs.Placed.{IsBetween}
 
 module _ (t : List ℕ) (terms : List DocTerm) (rising : AreTerms terms) where
@@ -144,7 +145,7 @@ positions_numbered dict packed n place different known rising there within none 
         none end k lt (number-same dict (numbered_at packed k).number n different (known_at (length dict) packed k known lt) there (ap (λ (one : DocTerm). one.term) (named_at dict packed k d lt) ∙ same))
 
 -- one number more was looked up
-pub looked_up : (f g : ℕ → List ℕ) (places numbers : List ℕ) (i place d : ℕ) → i < length places → i < length numbers → f place ≡ g (get_or numbers i d) → map f (take i places) ≡ map g (take i numbers)
+pub looked_up : (f : TermPlace → List ℕ) (g : ℕ → List ℕ) (places : List TermPlace) (numbers : List ℕ) (i : ℕ) (place : TermPlace) (d : ℕ) → i < length places → i < length numbers → f place ≡ g (get_or numbers i d) → map f (take i places) ≡ map g (take i numbers)
     → map f (take (i + 1) (set places i place)) ≡ map g (take (i + 1) numbers)
 looked_up f g places numbers i place d room there same before =
     ap (map f) (take_more_set places i place room) ∙ map-append f (take i places) (place ∷ []) ∙ (λ k. before k ++ same k ∷ []) ∙ sym (map-append g (take i numbers) (get_or numbers i d ∷ []))

@@ -8,7 +8,7 @@ ghost use Rattle.sk_packed.specs.Apart.{AreApart};
 ghost use Rattle.sk_packed.specs.Packed.{AreKnown, positions_at_place};
 ghost use Rattle.sk_terms.specs.Named.{named_all};
 
-use crate::places::place_in;
+use crate::places::{TermPlace, place_in};
 use sk_base::Operands;
 use sk_packed::{PackedTerms, are_apart};
 use sk_steps::Steps;
@@ -16,13 +16,12 @@ use sk_terms::TermLists;
 use std::marker::Model;
 use std::sync::ledger::Ledger;
 
-/// The places of several terms in a document, each looked up once. Contracts see the positions of each; only
-/// `Index::all_places` makes one.
+/// The places of several terms in a document. Contracts see the positions of each; only `Index::all_places` makes one.
 #[derive(Drop)]
 pub struct AllPlaces<'a> {
     packed: &'a PackedTerms,
     /// Where each term stands among those of the document; behind them all where it is none of them.
-    places: &'a [u32],
+    places: &'a [TermPlace],
 }
 
 impl<'a> Model for AllPlaces<'a> {
@@ -31,7 +30,7 @@ impl<'a> Model for AllPlaces<'a> {
 
     ghost Value = { List (List ℕ) };
 
-    ghost view = { λ p. map (positions_at_place p.packed.now) p.places.now };
+    ghost view = { λ p. map (λ place. positions_at_place p.packed.now place.at) p.places.now };
 }
 
 impl<'a> AllPlaces<'a> {
@@ -40,7 +39,7 @@ impl<'a> AllPlaces<'a> {
         lists: &TermLists,
         packed: &'a PackedTerms,
         numbers: &[usize],
-        places: &'a mut [u32],
+        places: &'a mut [TermPlace],
         steps: &mut Steps<L>,
     ) -> AllPlaces<'a>
         requires there { All (λ n. n < length lists.now.terms) numbers.now }
@@ -51,7 +50,7 @@ impl<'a> AllPlaces<'a> {
         ensures cost { steps.new ≡ steps.old + length numbers.now }
     {
         count_readings(numbers, steps);
-        look_up(lists, packed, numbers, numbers.len(), places);
+        look_up(lists, packed, numbers, places);
         AllPlaces {
             packed,
             places: &places[..numbers.len()],
@@ -66,7 +65,7 @@ impl<'a> AllPlaces<'a> {
         numbers: &[usize],
         at: usize,
         width: u32,
-        places: &'a mut [u32],
+        places: &'a mut [TermPlace],
         steps: &mut Steps<L>,
     ) -> Option<AllPlaces<'a>>
         requires two { at + 1 < length numbers.now }
@@ -79,16 +78,16 @@ impl<'a> AllPlaces<'a> {
         ensures cost { steps.new ≡ steps.old + length numbers.now }
     {
         count_readings(numbers, steps);
-        let first = place_in(packed, lists, numbers[at], places[at] as usize);
-        let second = place_in(packed, lists, numbers[at + 1], places[at + 1] as usize);
+        let first = place_in(packed, lists, numbers[at], places[at]);
+        let second = place_in(packed, lists, numbers[at + 1], places[at + 1]);
         places[at] = first;
         places[at + 1] = second;
-        let first = packed.positions_at(first as usize);
-        let second = packed.positions_at(second as usize);
+        let first = packed.positions_at(first.at as usize);
+        let second = packed.positions_at(second.at as usize);
         if are_apart(first, second, width) {
             return None;
         }
-        look_up(lists, packed, numbers, at, places);
+        look_up(lists, packed, numbers, places);
         Some(AllPlaces {
             packed,
             places: &places[..numbers.len()],
@@ -104,7 +103,7 @@ impl<'a> Operands for AllPlaces<'a> {
     }
 
     fn positions(&self, i: usize) -> &[u32] {
-        self.packed.positions_at(self.places[i] as usize)
+        self.packed.positions_at(self.places[i].at as usize)
     }
 }
 
@@ -117,47 +116,16 @@ fn count_readings<L: Ledger>(numbers: &[usize], steps: &mut Steps<L>)
     }
 }
 
-/// Writes the place of each term with these numbers, but for the two from the one at `known` on, if there are two, which
-/// stand there. Each is sought near the place that stands there, as that in the document before may.
-fn look_up(
-    lists: &TermLists,
-    packed: &PackedTerms,
-    numbers: &[usize],
-    known: usize,
-    places: &mut [u32],
-)
+/// Writes the place of each term with these numbers.
+fn look_up(lists: &TermLists, packed: &PackedTerms, numbers: &[usize], places: &mut [TermPlace])
     requires there { All (λ n. n < length lists.now.terms) numbers.now }
     requires known { AreKnown (length lists.now.terms) packed.now }
     requires rising { AreTerms (named_all lists.now.terms packed.now) }
     requires room { length numbers.now ≤ length places.old }
-    requires stand { (i : ℕ) → known ≤ i → i < known + 2 → i < length numbers.now → positions_at_place packed.now (slice_index places.old i)
-        ≡ positions_of (term_at lists.now.terms (slice_index numbers.now i)) (named_all lists.now.terms packed.now) }
-    ensures { map (positions_at_place packed.now) (take (length numbers.now) places.new)
+    ensures { map (λ place. positions_at_place packed.now place.at) (take (length numbers.now) places.new)
         ≡ map (λ n. positions_of (term_at lists.now.terms n) (named_all lists.now.terms packed.now)) numbers.now }
 {
     'terms: for i in 0..numbers.len() {
-        let stands = i >= known && i - known < 2;
-        places[i] = place_unless(packed, lists, numbers[i], places[i], stands);
-    }
-}
-
-/// The place of a term, which may stand there.
-fn place_unless(
-    packed: &PackedTerms,
-    lists: &TermLists,
-    number: usize,
-    place: u32,
-    stands: bool,
-) -> u32
-    requires there { number < length lists.now.terms }
-    requires known { AreKnown (length lists.now.terms) packed.now }
-    requires rising { AreTerms (named_all lists.now.terms packed.now) }
-    requires stands { stands ≡ true → positions_at_place packed.now place ≡ positions_of (term_at lists.now.terms number) (named_all lists.now.terms packed.now) }
-    ensures { positions_at_place packed.now result ≡ positions_of (term_at lists.now.terms number) (named_all lists.now.terms packed.now) }
-{
-    if stands {
-        place
-    } else {
-        place_in(packed, lists, number, place as usize)
+        places[i] = place_in(packed, lists, numbers[i], places[i]);
     }
 }

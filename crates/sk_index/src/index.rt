@@ -21,7 +21,7 @@ ghost use Rattle.sk_index.specs.Stands.{AreListsOf, AreSlotsOf};
 
 use crate::all_places::AllPlaces;
 use crate::lists::Lists;
-use crate::places::{Places, positions_in};
+use crate::places::{Places, TermPlace, positions_in};
 use sk_base::{Doc, DocId, Edit, Field, FieldKind, Reply, Schema};
 use sk_documents::{Documents, Keeper};
 use sk_lists::List;
@@ -186,13 +186,13 @@ impl Index {
         positions_in(self.terms_of(places.id), lists, lists.term(places.number))
     }
 
-    /// The places of the terms with these numbers in the document, in memory that the caller lends. It is one reading
-    /// for each.
+    /// The places of the terms with these numbers in the document, in memory that the caller lends: with what is there
+    /// of other documents they are found sooner. It is one reading for each.
     pub fn all_places<'a, L: Ledger>(
         &'a self,
         numbers: &[usize],
         id: DocId,
-        places: &'a mut [u32],
+        places: &'a mut [TermPlace],
         steps: &mut Steps<L>,
     ) -> AllPlaces<'a>
         requires there { All (λ n. n < length self.now.terms) numbers.now }
@@ -212,7 +212,7 @@ impl Index {
         at: usize,
         width: u32,
         id: DocId,
-        places: &'a mut [u32],
+        places: &'a mut [TermPlace],
         steps: &mut Steps<L>,
     ) -> Option<AllPlaces<'a>>
         requires two { at + 1 < length numbers.now }

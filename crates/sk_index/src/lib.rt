@@ -9,4 +9,4 @@ mod stats;
 
 pub use all_places::AllPlaces;
 pub use index::Index;
-pub use places::Places;
+pub use places::{Places, TermPlace};

@@ -18,6 +18,44 @@ use std::sync::ledger::Ledger;
 
 /// Among so many terms one is found sooner by its number than by halves.
 const FEW: usize = 128;
+/// A share of the terms of a document is told in so many parts of all.
+const WHOLE: usize = 65_536;
+/// So many parts a share moves for each place that the term stands off: among 64 terms an eighth of the way.
+const STEP: u32 = 128;
+
+/// Where a term stands among those of a document, and about what share of them stands before it in most documents.
+#[derive(Clone, Copy, Debug)]
+pub struct TermPlace {
+    pub at: u32,
+    share: u32,
+}
+
+impl TermPlace {
+    /// Of a term of which no document is known.
+    pub fn new() -> TermPlace {
+        TermPlace { at: 0, share: 0 }
+    }
+
+    /// About where the term stands among so many.
+    fn near(&self, count: usize) -> usize
+        ensures { result ≤ count }
+    {
+        let before = (self.share as usize).saturating_mul(count) / WHOLE;
+        before.min(count)
+    }
+
+    /// The term stands there, and was looked for from that place on.
+    fn found(&self, at: u32, near: u32) -> TermPlace
+        ensures { result.at ≡ at }
+    {
+        let share = if near < at {
+            self.share.saturating_add((at - near).saturating_mul(STEP))
+        } else {
+            self.share.saturating_sub((near - at).saturating_mul(STEP))
+        };
+        TermPlace { at, share }
+    }
+}
 
 /// The places of a term in a document. Contracts see the term's number and the document's id; only `Index::places`
 /// makes one.
@@ -59,19 +97,27 @@ pub(crate) fn positions_in<'a>(packed: &'a PackedTerms, lists: &TermLists, term:
 }
 
 /// Where the term with this number stands among the terms of a document; a place behind them all where it is none of
-/// them. Among few terms its number is compared with theirs one by one, from a place on to both sides, among many its text
-/// by halves. The place may be any number; near by, as that in another document may be, the term is found sooner.
-pub(crate) fn place_in(packed: &PackedTerms, lists: &TermLists, number: usize, near: usize) -> u32
+/// them. Among few terms its number is compared with theirs one by one, to both sides from about where it stands in other
+/// documents; among many its text by halves.
+pub(crate) fn place_in(
+    packed: &PackedTerms,
+    lists: &TermLists,
+    number: usize,
+    last: TermPlace,
+) -> TermPlace
     requires there { number < length lists.now.terms }
     requires known { AreKnown (length lists.now.terms) packed.now }
     requires rising { AreTerms (named_all lists.now.terms packed.now) }
-    ensures { positions_at_place packed.now result ≡ positions_of (term_at lists.now.terms number) (named_all lists.now.terms packed.now) }
+    ensures { positions_at_place packed.now result.at ≡ positions_of (term_at lists.now.terms number) (named_all lists.now.terms packed.now) }
 {
     let term = lists.term(number);
-    if packed.len() <= FEW {
-        packed.place_of(number, near) as u32
+    let count = packed.len();
+    if count <= FEW {
+        let near = last.near(count);
+        last.found(packed.place_of(number, near) as u32, near as u32)
     } else {
-        place_by_text(packed, lists, term) as u32
+        let at = place_by_text(packed, lists, term) as u32;
+        TermPlace { at, ..last }
     }
 }
 

@@ -59,10 +59,10 @@ same_rest : (i : Indexed) (p q : Proximity) (t : Top) (s : Shape) (id : ℕ) →
 same_rest i p q t s id same = ap (λ b. where_so b (rest i s id)) (same_holds i p q id same)
 
 pub same_again : (p q r : Proximity) → IsSameTest p q → IsSameTest q r → IsSameTest p r
-same_again p q r a b = record { kind = b.kind ∙ a.kind; window = b.window ∙ a.window; numbers = b.numbers ∙ a.numbers; once = b.once ∙ a.once; ends = b.ends ∙ a.ends; marks = b.marks ∙ a.marks; places = b.places ∙ a.places }
+same_again p q r a b = record { kind = b.kind ∙ a.kind; window = b.window ∙ a.window; numbers = b.numbers ∙ a.numbers; once = b.once ∙ a.once; ends = b.ends ∙ a.ends; pair = b.pair ∙ a.pair; marks = b.marks ∙ a.marks; places = b.places ∙ a.places }
 
 pub same_itself : (p : Proximity) → IsSameTest p p
-same_itself p = record { kind = refl; window = refl; numbers = refl; once = refl; ends = refl; marks = refl; places = refl }
+same_itself p = record { kind = refl; window = refl; numbers = refl; once = refl; ends = refl; pair = refl; marks = refl; places = refl }
 
 pub same_can : (i : Indexed) (p q : Proximity) → IsSameTest p q → CanTest i p → CanTest i q
 same_can i p q same can = record {
@@ -74,6 +74,7 @@ same_can i p q same can = record {
   sorted = subst (λ (ns : List ℕ). AreInOrder i ns) (sym same.numbers) can.sorted;
   once = subst₂ (λ (ns ms : List ℕ). HaveSame ns ms) (sym same.numbers) (sym same.once) can.once;
   ends = subst₂ (λ (es ns : List ℕ). AreRunEnds es ns) (sym same.ends) (sym same.numbers) can.ends;
+  pair = λ two. omega (arith, can.pair (omega (arith, two, ap length same.numbers)), ap length same.numbers, same.pair);
 }
 
 -- ---- heads

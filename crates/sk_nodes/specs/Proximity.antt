@@ -44,6 +44,10 @@ abbrev pub IsInAll : Indexed → ℕ → List ℕ → Type 0
 IsInAll i id [] = Unit {0}
 IsInAll i id (n ∷ ns) = (has id (list_in i (ListOf.Term n)) ≡ true) × IsInAll i id ns
 
+-- Of two terms or more this is one that has another behind it.
+abbrev pub IsFollowed : ℕ → List ℕ → Type 0
+IsFollowed at ns = 2 ≤ length ns → at + 1 < length ns
+
 -- Documents can be tested.
 pub record CanTest (i : Indexed) (p : Proximity) : Type 0 where
   pub some : 1 ≤ length p.numbers.items
@@ -54,6 +58,7 @@ pub record CanTest (i : Indexed) (p : Proximity) : Type 0 where
   pub sorted : AreInOrder i p.numbers.items
   pub once : HaveSame p.numbers.items p.once.items
   pub ends : AreRunEnds p.ends.items p.numbers.items
+  pub pair : IsFollowed p.pair p.numbers.items
 
 -- The test is the same.
 pub record IsSameTest (old new : Proximity) : Type 0 where
@@ -62,6 +67,7 @@ pub record IsSameTest (old new : Proximity) : Type 0 where
   pub numbers : new.numbers.items ≡ old.numbers.items
   pub once : new.once.items ≡ old.once.items
   pub ends : new.ends.items ≡ old.ends.items
+  pub pair : new.pair ≡ old.pair
   pub marks : length new.marks.items ≡ length old.marks.items
   pub places : length new.places.items ≡ length old.places.items
 
@@ -72,6 +78,7 @@ pub record IsTestOf (k : ProximityKind) (w : ℕ) (ns : List ℕ) (p : Proximity
   pub numbers : p.numbers.items ≡ ns
   pub once : HaveSame ns p.once.items
   pub ends : AreRunEnds p.ends.items ns
+  pub pair : IsFollowed p.pair ns
   pub marks : length ns ≤ length p.marks.items
   pub places : length ns ≤ length p.places.items
   pub next : p.next ≡ 0

@@ -4,14 +4,14 @@ ghost use Rattle.sk_model.specs.Combining.{where_so};
 ghost use Rattle.sk_model.specs.Positions.{is_near, is_phrase};
 ghost use Rattle.sk_nodes.specs.Accounts.{Spends};
 ghost use Rattle.sk_nodes.specs.Skips.{WeighsBelow};
-ghost use Rattle.sk_nodes.specs.Proximity.{positions_in, holds_in, entries_unread, AreThere, IsInAll, CanTest, IsSameTest, IsTestOf};
+ghost use Rattle.sk_nodes.specs.Proximity.{positions_in, holds_in, entries_unread, AreThere, IsInAll, IsFollowed, CanTest, IsSameTest, IsTestOf};
 ghost use Rattle.sk_nodes.specs.Repeats.{HaveSame, AreRunEnds};
 
 use crate::repeats::{PlacesInRuns, each_once, run_ends};
 use crate::top::Top;
 use sk_base::{DocId, Weight};
 use sk_decay::Head;
-use sk_index::{AllPlaces, Index};
+use sk_index::{AllPlaces, Index, TermPlace};
 use sk_near::{near, phrase};
 use sk_steps::Steps;
 use std::alloc::{AllocError, Global};
@@ -28,8 +28,9 @@ pub enum ProximityKind {
 }
 
 /// A test of documents that have all of some terms, by their numbers: whether these stand so. No document before `next`
-/// is read any more. Near wants each number once, a phrase where runs of equal ones end. The marks are memory for a place
-/// of each term among its positions, the places for one among the terms of a document.
+/// is read any more. Near wants each number once, a phrase where runs of equal ones end, and which two of the terms, one
+/// behind the other, it looks at first. The marks are memory for a place of each term among its positions, the places for
+/// one among the terms of a document.
 #[derive(Drop)]
 pub struct Proximity {
     pub kind: ProximityKind,
@@ -37,8 +38,9 @@ pub struct Proximity {
     pub numbers: Vec<usize>,
     once: Vec<usize>,
     ends: Vec<usize>,
+    pair: usize,
     marks: Vec<u32>,
-    places: Vec<u32>,
+    places: Vec<TermPlace>,
     pub next: Head,
 }
 
@@ -46,22 +48,26 @@ impl Proximity {
     /// A test before its first document.
     pub fn new(
         alloc: Global,
+        index: &Index,
         kind: ProximityKind,
         window: u32,
         numbers: Vec<usize>,
     ) -> Result<Proximity, AllocError>
+        requires there { AreThere index.now numbers.items }
         ensures { IfOk result (IsTestOf kind window numbers.items) }
     {
         let once = each_once(alloc, numbers.as_slice())?;
         let ends = run_ends(alloc, numbers.as_slice())?;
+        let pair = rarest_pair(index, numbers.as_slice());
         let marks = Vec::from_elem(alloc, 0, numbers.len())?;
-        let places = Vec::from_elem(alloc, 0, numbers.len())?;
+        let places = Vec::from_elem(alloc, TermPlace::new(), numbers.len())?;
         Ok(Proximity {
             kind,
             window,
             numbers,
             once,
             ends,
+            pair,
             marks,
             places,
             next: 0,
@@ -130,7 +136,17 @@ impl Proximity {
             }
             ProximityKind::Phrase => {
                 let ends = self.ends.as_slice();
-                stand_as_phrase(self.window, numbers, ends, marks, places, index, id, steps)
+                stand_as_phrase(
+                    self.window,
+                    numbers,
+                    self.pair,
+                    ends,
+                    marks,
+                    places,
+                    index,
+                    id,
+                    steps,
+                )
             }
         }
     }
@@ -143,7 +159,7 @@ fn stand_near<L: Ledger>(
     numbers: &[usize],
     once: &[usize],
     marks: &mut [u32],
-    places: &mut [u32],
+    places: &mut [TermPlace],
     index: &Index,
     id: DocId,
     steps: &mut Steps<L>,
@@ -164,14 +180,15 @@ fn stand_near<L: Ledger>(
     near(&places, window, marks)
 }
 
-/// Whether the terms stand as a phrase in the document, by their positions, which are read once. In most documents two of
-/// them are too far apart, and those of the others are not looked up.
+/// Whether the terms stand as a phrase in the document, by their positions, which are read once. In most documents the pair
+/// is too far apart, and the positions of the others are not looked up.
 fn stand_as_phrase<L: Ledger>(
     window: u32,
     numbers: &[usize],
+    pair: usize,
     ends: &[usize],
     marks: &mut [u32],
-    places: &mut [u32],
+    places: &mut [TermPlace],
     index: &Index,
     id: DocId,
     steps: &mut Steps<L>,
@@ -181,28 +198,30 @@ fn stand_as_phrase<L: Ledger>(
     requires marks { length numbers.now ≤ length marks.old }
     requires places { length numbers.now ≤ length places.old }
     requires there { AreThere index.now numbers.now }
+    requires pair { IsFollowed pair numbers.now }
     requires ends { AreRunEnds ends.now numbers.now }
     ensures value { result ≡ is_phrase window (positions_in index.now numbers.now id) }
     ensures cost { steps.new ≡ steps.old + length numbers.now }
 {
-    let Some(places) = phrase_places(window, numbers, places, index, id, steps) else {
+    let Some(places) = phrase_places(window, numbers, pair, places, index, id, steps) else {
         return false;
     };
     phrase(&PlacesInRuns::new(places, ends), window, marks)
 }
 
-/// The places of the terms in the document; or nothing, where two of them, one behind the other, are too far apart for a
-/// phrase.
+/// The places of the terms in the document; or nothing, where the pair is too far apart for a phrase.
 fn phrase_places<'a, L: Ledger>(
     window: u32,
     numbers: &[usize],
-    places: &'a mut [u32],
+    pair: usize,
+    places: &'a mut [TermPlace],
     index: &'a Index,
     id: DocId,
     steps: &mut Steps<L>,
 ) -> Option<AllPlaces<'a>>
     requires places { length numbers.now ≤ length places.old }
     requires there { AreThere index.now numbers.now }
+    requires pair { IsFollowed pair numbers.now }
     ensures value { IfSome result (λ all. all ≡ positions_in index.now numbers.now id) }
     ensures fails { result ≡ None → is_phrase window (positions_in index.now numbers.now id) ≡ false }
     ensures cost { steps.new ≡ steps.old + length numbers.now }
@@ -210,20 +229,18 @@ fn phrase_places<'a, L: Ledger>(
     if numbers.len() < 2 {
         return Some(index.all_places(numbers, id, places, steps));
     }
-    let at = rarest_pair(index, numbers);
     let width = pair_width(window, numbers.len());
-    index.all_places_unless_apart(numbers, at, width, id, places, steps)
+    index.all_places_unless_apart(numbers, pair, width, id, places, steps)
 }
 
 /// Of the first few terms, one that stands with the one behind it in few documents, going by how many have each.
 fn rarest_pair(index: &Index, numbers: &[usize]) -> usize
-    requires two { 2 ≤ length numbers.now }
-    requires there { AreThere index.now numbers.now }
-    ensures { result + 1 < length numbers.now }
+    requires { AreThere index.now numbers.now }
+    ensures { IsFollowed result numbers.now }
 {
     let mut rarest = 0;
     let mut least = u64::MAX;
-    'pairs: for i in 0..(numbers.len() - 1).min(FEW_PAIRS) {
+    'pairs: for i in 0..numbers.len().saturating_sub(1).min(FEW_PAIRS) {
         let first = index.list(numbers[i]).length();
         let second = index.list(numbers[i + 1]).length();
         let both = u64::from(first).saturating_mul(u64::from(second));

@@ -34,7 +34,7 @@ use Rattle.sk_nodes.specs.Sound.{Sound, IsPositional}
 use Rattle.sk_tree.specs.Opened.{part_count, score_of, joint_score_of, parts_size, term_trees, AreParts, Opens, proximity_query, numbered}
 use Rattle.sk_nodes.specs.Begun.{Yields}
 use Rattle.sk_nodes.specs.Repeats.{HaveSame, AreRunEnds}
-use Rattle.sk_nodes.specs.Proximity.{stand, holds_in, entries_unread, AreThere, AreInOrder, IsInAll, IsTestOf}
+use Rattle.sk_nodes.specs.Proximity.{stand, holds_in, entries_unread, AreThere, AreInOrder, IsInAll, IsFollowed, IsTestOf}
 use Rattle.sk_index.proofs.NumberLemmas.{length-postings}
 use Rattle.sk_nodes.proofs.ListLaws.{wdf_at, found-postings}
 use Rattle.sk_nodes.proofs.BegunLaws.{from_zero}
@@ -287,6 +287,7 @@ module _ (i : Indexed) (kind : ProximityKind) (window : ℕ) (ns : List ℕ) (p 
       sorted = subst (λ (ms : List ℕ). AreInOrder i ms) (sym is.numbers) sorted;
       once = subst (λ (ms : List ℕ). HaveSame ms p.once.items) (sym is.numbers) is.once;
       ends = subst (λ (ms : List ℕ). AreRunEnds p.ends.items ms) (sym is.numbers) is.ends;
+      pair = subst (λ (ms : List ℕ). IsFollowed p.pair ms) (sym is.numbers) is.pair;
     };
     top = opens.top;
     sound = opens.sound;

@@ -167,7 +167,7 @@ fn open_proximity<L: Ledger>(
         drop(node);
         return Err(AllocError);
     };
-    let Ok(test) = Proximity::new(alloc, kind, window, numbers) else {
+    let Ok(test) = Proximity::new(alloc, index, kind, window, numbers) else {
         drop(node);
         return Err(AllocError);
     };

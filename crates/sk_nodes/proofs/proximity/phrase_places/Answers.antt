@@ -1,5 +1,5 @@
 -- The numbers were given for terms. Where two terms are too far apart, no phrase is there.
-use Rattle.std.proofs.Common.{ℕ, ◌+◌, get_or, subst}
+use Rattle.std.proofs.Common.{ℕ, ◌+◌, get_or, subst, arith}
 use Rattle.sk_dict.specs.Terms.{term_at}
 use Rattle.sk_model.specs.Edits.{document_at}
 use Rattle.sk_packed.specs.Apart.{AreApart}
@@ -14,5 +14,5 @@ all_places_unless_apart-requires-clause-there g c = there_all c.args.index.now c
 pub returns-clause-fails : goal.returns-clause-fails
 returns-clause-fails g c none =
     let at = λ (n : ℕ). term_positions (term_at c.args.index.now.terms n) (document_at c.args.id c.args.index.now.live.documents) in
-    apart_fails c.args.window c.rarest_pair-at.result at c.args.numbers.now c.rarest_pair-at.ensures
-    (subst (λ w. AreApart w (at (get_or c.args.numbers.now c.rarest_pair-at.result 0)) (at (get_or c.args.numbers.now (c.rarest_pair-at.result + 1) 0))) c.pair_width-width.ensures (c.all_places_unless_apart.ensures.apart none))
+    apart_fails c.args.window c.args.pair at c.args.numbers.now (c.requires.pair (omega arith))
+    (subst (λ w. AreApart w (at (get_or c.args.numbers.now c.args.pair 0)) (at (get_or c.args.numbers.now (c.args.pair + 1) 0))) c.pair_width-width.ensures (c.all_places_unless_apart.ensures.apart none))
