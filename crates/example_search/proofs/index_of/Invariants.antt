@@ -1,0 +1,6 @@
+use Rattle.std.proofs.Common.{◌≡◌}
+use Rattle.example_search.specs.Example.{bodies}
+use Rattle.example_search.proofs.index_of.Given as goal
+
+abbrev pub invariant-texts : goal.invariant-texts
+invariant-texts l = l.index.schema ≡ bodies
