@@ -118,7 +118,7 @@ fn find<R: Env, L: Ledger>(
     search(alloc, index, &default_paging(), query, &mut steps)
 }
 
-/// The query of the first word, for any of the words in it.
+/// The query of the first argument: whatever has one of the words in it.
 fn asked(alloc: Global, args: &mut Skip<Args>) -> Result<Query>
     ensures { IfOk result (λ query. fits_tree (query_view query) ≡ true) }
 {
@@ -141,7 +141,7 @@ fn found(rt: &HostRuntime, alloc: Global, query: &Query, texts: Skip<Args>) -> R
     Ok(report?)
 }
 
-/// What the first word finds in the others.
+/// What the first argument finds in the others.
 fn ranked(rt: &HostRuntime, alloc: Global, args: Skip<Args>) -> Result<Report> {
     let mut args = args;
     let query = asked(alloc, &mut args)?;
