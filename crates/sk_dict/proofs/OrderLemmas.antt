@@ -6,15 +6,16 @@ use Rattle.std.specs.FinMap.{slice_cmp-IsAntisymmetric, nat_cmp-IsAntisymmetric}
 use Rattle.std.specs.declared.cmp.Ordering.{Ordering}
 use Rattle.std.specs.declared.cmp.Ordering.TheVariants.{Less, Equal, Greater}
 use Rattle.std.proofs.lemmas.Bool.{cases_lt}
-use Rattle.std.proofs.lemmas.Cmp.{nat_list_cmp_total}
-use Rattle.std.proofs.lemmas.List.{get_or_push, get_or_append_left, length_push, get_or_default}
+use Rattle.std.proofs.lemmas.Cmp.{nat_list_cmp_total, tied_itself}
+use Rattle.std.proofs.lemmas.List.{get_or_push, get_or_append_left, length_push, get_or_default, append_assoc, append_cancel_right}
 use Rattle.std.proofs.lemmas.List.Quantifiers.{all_pairs_push}
 use Rattle.sk_dict.specs.Terms.{term_at, term_cmp, Precedes}
 use Rattle.sk_dict.specs.Searches.{passed, passes, IsFirst, AllPassed}
 use Rattle.sk_dict.specs.Order.{Each, IsIn, IsKnown, IsRising, IsOrder, IsSplit, IsPutIn}
-use Rattle.sk_dict.specs.Blocks.{front_of, rest_from}
+use Rattle.sk_dict.specs.Blocks.{front_of, rest_from, IsStep}
 use Rattle.sk_dict.proofs.EachLemmas.{Each-append, Each-front, Each-rest, Each-map, Each-both, Each-in, IsIn-put, IsIn-keep}
-use Rattle.sk_dict.proofs.RisingLemmas.{IsRising-rest, IsRising-put}
+use Rattle.sk_dict.proofs.RisingLemmas.{IsRising-rest, IsRising-put, front_passes}
+use Rattle.sk_dict.proofs.BlockLemmas.{order_at}
 
 -- a term that stands behind another, from the other side
 pub turned : (a b : List ℕ) → term_cmp a b ≡ Less → term_cmp b a ≡ Greater
@@ -79,6 +80,26 @@ first_found now terms blocks seen again key behind b offset r is same_seen same_
     let found : r ≡ slice_get (rest_from seen b offset) 0 = e ∙ ap (λ w. slice_get (rest_from w b offset) 0) (same_again ∙ sym same_seen) in
     subst (λ w. MatchOption w (AllPassed now key behind) (λ n. IsFirst now key behind n)) (sym found)
     (first_left now (concat seen) (front_of seen b offset) key behind whole (rest_from seen b offset) split)
+
+-- behind a number stands what its term does not pass
+pub behind_splits : (terms blocks : List (List ℕ)) (b offset n a c : ℕ) → b < length blocks → IsRising terms (concat blocks) → IsStep blocks b offset n a c
+    → IsSplit (passes terms (term_at terms n) true) (concat blocks) (front_of blocks a c) (rest_from blocks a c)
+behind_splits terms blocks b offset n a c there rising s =
+    let front : List ℕ = front_of blocks b offset in
+    let rest : List ℕ = rest_from blocks a c in
+    let test : ℕ → Bool = passes terms (term_at terms n) true in
+    let whole : concat blocks ≡ front ++ n ∷ rest = order_at blocks b offset there ∙ ap (λ (ns : List ℕ). front ++ ns) s.rest in
+    let rises : IsRising terms (front ++ n ∷ rest) = subst (IsRising terms) whole rising in
+    let itself : test n ≡ true = ap (passed true) (tied_itself nat_list_cmp_total (term_at terms n)) in
+    let same : front_of blocks a c ≡ front ++ n ∷ [] =
+    append_cancel_right (front_of blocks a c) (front ++ n ∷ []) rest (sym (order_at blocks a c s.there) ∙ whole ∙ sym (append_assoc front (n ∷ []) rest)) in
+    record {
+      whole = order_at blocks a c s.there;
+      passed = subst (Each (λ m. test m ≡ true)) (sym same)
+          (Each-append (λ m. test m ≡ true) front (n ∷ []) (front_passes terms (term_at terms n) true front rest n rises itself) (itself, tt));
+      left = Each-map (λ m. Precedes (term_at terms n) (term_at terms m)) (λ m. test m ≡ false) rest
+          (λ m p. ap (passed true) (turned (term_at terms n) (term_at terms m) p)) (IsRising-rest terms front (n ∷ rest) rises).0;
+    }
 
 -- there are no blocks
 pub none_found : (now terms : List (List ℕ)) (blocks : List (List ℕ)) (key : List ℕ) (behind : Bool) → terms ≡ now → length blocks ≡ 0 → IsOrder terms (concat blocks)

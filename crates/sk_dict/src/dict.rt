@@ -1,12 +1,12 @@
 //! The dictionary.
-ghost use Rattle.std.specs.Prelude.{◌≡◌, ◌≢◌, ◌<◌, ◌++◌, ◌∷◌, true, Some, None, [], length, is_some, IfOk, OnOk, OnErr, IfSome, MatchOption};
+ghost use Rattle.std.specs.Prelude.{◌≡◌, ◌≢◌, ◌<◌, ◌++◌, ◌∷◌, true, false, Some, None, [], length, is_some, IfOk, OnOk, OnErr, IfSome, MatchOption};
 ghost use Rattle.std.specs.List.{AllPairs};
 ghost use Rattle.sk_dict.specs.Terms.{term_at, number_of, number_for, with_term, begins_with, IsNext, HasNoNext, IsWalk};
 ghost use Rattle.sk_dict.specs.Searches.{start_of, IsFirst, AllPassed};
 
 use crate::block::Block;
 use crate::guesses::Guesses;
-use crate::order::{find_place, number_at, numbers_with, put};
+use crate::order::{Place, find_place, number_at, numbers_with, place_behind, put};
 use crate::terms::Terms;
 use std::alloc::{AllocError, Global};
 use std::fmt::{Debug, Error, Formatter, Write};
@@ -125,7 +125,7 @@ impl Dict {
         ensures value { result ≡ number_of term.now self.now }
         ensures there { IfSome result (λ n. n < length self.now) }
     {
-        let number = self.first(term, false)?;
+        let number = self.first(term)?;
         if self.terms.get(number) == term {
             Some(number)
         } else {
@@ -134,13 +134,19 @@ impl Dict {
     }
 
     /// The number of the first term that begins with the prefix and stands behind the term with the number `after`, if
-    /// one is given. It takes no memory.
-    pub fn next_with_prefix(&self, prefix: &[u8], after: Option<usize>) -> Option<usize>
+    /// one is given. It takes no memory. `place` is left where that was found: with it the next call need not search. Any
+    /// place will do.
+    pub fn next_with_prefix(
+        &self,
+        prefix: &[u8],
+        after: Option<usize>,
+        place: &mut Place,
+    ) -> Option<usize>
         requires there { IfSome after (λ a. a < length self.now) }
         requires begins { IfSome after (λ a. begins_with (term_at self.now a) prefix.now ≡ true) }
         ensures { MatchOption result (HasNoNext self.now prefix.now after) (λ n. IsNext self.now prefix.now after n) }
     {
-        let number = self.first(self.start(prefix, after), after.is_some())?;
+        let number = self.first_behind(prefix, after, place)?;
         if self.term(number).starts_with(prefix) {
             Some(number)
         } else {
@@ -161,25 +167,31 @@ impl Dict {
     }
 
     /// The first term at the key, or behind it.
-    fn first(&self, key: &[u8], behind: bool) -> Option<usize>
-        ensures { MatchOption result (AllPassed self.now key.now behind) (λ n. IsFirst self.now key.now behind n) }
+    fn first(&self, key: &[u8]) -> Option<usize>
+        ensures { MatchOption result (AllPassed self.now key.now false) (λ n. IsFirst self.now key.now false n) }
     {
         if self.blocks.is_empty() {
             return None;
         }
-        let place = find_place(&self.terms, &self.blocks, key, behind);
+        let place = find_place(&self.terms, &self.blocks, key, false);
         number_at(&self.blocks, place)
     }
 
-    /// Where the search for the next term begins.
-    fn start<'a>(&'a self, prefix: &'a [u8], after: Option<usize>) -> &'a [u8]
+    /// The first term at the prefix or behind it, or behind the term with this number.
+    fn first_behind(&self, prefix: &[u8], after: Option<usize>, place: &mut Place) -> Option<usize>
         requires { IfSome after (λ a. a < length self.now) }
-        ensures { result.now ≡ start_of self.now prefix.now after }
+        ensures { MatchOption result (AllPassed self.now (start_of self.now prefix.now after) (is_some after))
+            (λ n. IsFirst self.now (start_of self.now prefix.now after) (is_some after) n) }
     {
-        match after {
-            None => prefix,
-            Some(number) => self.term(number),
+        if self.blocks.is_empty() {
+            return None;
         }
+        let Some(number) = after else {
+            *place = find_place(&self.terms, &self.blocks, prefix, false);
+            return number_at(&self.blocks, *place);
+        };
+        *place = place_behind(&self.terms, &self.blocks, number, *place);
+        number_at(&self.blocks, *place)
     }
 
     /// Gives the next number to a term that is not there.

@@ -9,4 +9,5 @@ mod room;
 mod terms;
 
 pub use dict::Dict;
+pub use order::Place;
 pub use room::make_room;

@@ -14,11 +14,19 @@ use std::alloc::{AllocError, Global};
 /// Where a full block is cut.
 const HALF: usize = 256;
 
-/// A place in the order: before the number in this offset of this block.
+/// A place in the order of the terms: before the number in this offset of this block.
 #[derive(Clone, Copy, Debug)]
-pub(crate) struct Place {
-    pub block: usize,
-    pub offset: usize,
+pub struct Place {
+    pub(crate) block: usize,
+    pub(crate) offset: usize,
+}
+
+impl Place {
+    /// Before the first term.
+    pub const FIRST: Place = Place {
+        block: 0,
+        offset: 0,
+    };
 }
 
 /// The last block whose first term is passed, or the first block.
@@ -83,6 +91,25 @@ pub(crate) fn find_place(terms: &Terms, blocks: &[Block], key: &[u8], behind: bo
     let block = find_block(terms, blocks, key, head, behind);
     let offset = find_slot(terms, blocks[block].numbers(), key, head, behind);
     Place { block, offset }
+}
+
+/// The place behind the number, which stands at the one that is guessed, or is searched.
+pub(crate) fn place_behind(terms: &Terms, blocks: &[Block], number: usize, guess: Place) -> Place
+    requires rising { IsRising terms.now (concat blocks.now) }
+    requires known { Each (IsKnown terms.now) (concat blocks.now) }
+    requires some { 0 < length blocks.now }
+    requires number { IsKnown terms.now number }
+    ensures there { result.block < length blocks.now }
+    ensures split { IsSplit (passes terms.now (term_at terms.now number) true) (concat blocks.now)
+        (front_of blocks.now result.block result.offset) (rest_from blocks.now result.block result.offset) }
+{
+    if guess.block < blocks.len()
+        && let Some((there, behind)) = step(blocks, guess)
+        && there == number
+    {
+        return behind;
+    }
+    find_place(terms, blocks, terms.get(number), true)
 }
 
 /// The number at the place, and the place behind it, or none at the end.

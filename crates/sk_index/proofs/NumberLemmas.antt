@@ -64,6 +64,15 @@ none_has t (one ∷ more) e = by (has_term t one.1.terms) refl e (none_has t mor
         cons_nil e = cc
     by false h e rest = ap (λ c. c || some_has t more) h ∙ rest e
 
+-- and where no document has it its list is empty
+pub none_listed : (t : List ℕ) (docs : Docs) → some_has t docs ≡ false → postings t docs ≡ []
+none_listed t [] h = refl
+none_listed t (one ∷ more) h = by (has_term t one.1.terms) refl (none_listed t more)
+  where
+    by : (b : Bool) → has_term t one.1.terms ≡ b → (some_has t more ≡ false → postings t more ≡ []) → cons_option (if b then Some (one.0, wdf_of t one.1.terms) else None) (postings t more) ≡ []
+    by true e rest = absurd (true≢false (sym (ap (λ c. c || some_has t more) e) ∙ h))
+    by false e rest = rest (sym (ap (λ c. c || some_has t more) e) ∙ h)
+
 -- a term without a list is in no document
 pub found_in : (t : List ℕ) (docs : Docs) (list : Postings) (P : ℕ → Type 0) (o : Option ℕ) → list ≡ postings t docs → Rattle.std.proofs.Common.MatchOption o (list ≡ []) P → Rattle.std.proofs.Common.MatchOption o (some_has t docs ≡ false) P
 found_in t docs list P None is e = none_has t docs (sym is ∙ e)

@@ -32,7 +32,9 @@ pub struct TermPlace {
 
 impl TermPlace {
     /// Of a term of which no document is known.
-    pub fn new() -> TermPlace {
+    pub fn new() -> TermPlace
+        ensures { result ≡ record { at = 0; share = 0 } }
+    {
         TermPlace { at: 0, share: 0 }
     }
 

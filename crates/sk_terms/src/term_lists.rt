@@ -10,7 +10,7 @@ ghost use Rattle.sk_terms.specs.Named.{named_all, Grows};
 ghost use Rattle.sk_terms.specs.Wild.{figure_of, sum_behind};
 
 use sk_base::{DocId, DocTerm};
-use sk_dict::{Dict, make_room};
+use sk_dict::{Dict, Place, make_room};
 use sk_lists::List;
 use sk_packed::{PackedTerms, Packing};
 use std::alloc::{AllocError, Global};
@@ -117,8 +117,9 @@ impl TermLists {
     {
         let mut total = 0;
         let mut after = None;
+        let mut place = Place::FIRST;
         'walk: loop {
-            let Some(number) = self.next(prefix, after) else {
+            let Some(number) = self.next(prefix, after, &mut place) else {
                 return total;
             };
             total = capped(total, figure_of(self.list(number), figure), most);
@@ -126,13 +127,13 @@ impl TermLists {
         }
     }
 
-    fn next(&self, prefix: &[u8], after: Option<usize>) -> Option<usize>
+    fn next(&self, prefix: &[u8], after: Option<usize>, place: &mut Place) -> Option<usize>
         requires there { IfSome after (λ a. a < length self.now.terms) }
         requires begins { IfSome after (λ a. begins_with (term_at self.now.terms a) prefix.now ≡ true) }
         ensures next { MatchOption result (HasNoNext self.now.terms prefix.now after) (λ n. IsNext self.now.terms prefix.now after n) }
         ensures sound { IsListed self.now }
     {
-        self.dict.next_with_prefix(prefix, after)
+        self.dict.next_with_prefix(prefix, after, place)
     }
 
     /// The ids in the list of the term.

@@ -1,12 +1,11 @@
 -- How nests over terms are opened.
-use Rattle.std.proofs.Common.{◌≡◌, ◌≤◌, ◌<◌, ◌+◌, ◌-◌, ◌⊎◌, ◌++◌, ◌||◌, ℕ, min, cond, if◌then◌else◌, Bool, true, false, not, List, [], ◌∷◌, length, map, sum_by, slice_index_or, bytes_eq, is_some, Option, None, Some, inl, inr, refl, sym, subst, ap, ◌∙◌, arith}
+use Rattle.std.proofs.Common.{◌≡◌, ◌≤◌, ◌<◌, ◌+◌, ◌-◌, ◌⊎◌, ◌++◌, ◌||◌, ℕ, min, cond, Bool, true, false, not, List, [], ◌∷◌, length, map, sum_by, slice_index_or, bytes_eq, is_some, Option, None, Some, inl, inr, refl, sym, subst, ap, ◌∙◌, arith}
 use Rattle.std.specs.Option.{option_map}
-use Rattle.std.specs.List.{list_any, cons_option, AllByRecursion}
+use Rattle.std.specs.List.{list_any, AllByRecursion}
 use Rattle.std.proofs.lemmas.Bool.{cases_lt, and_parts}
 use Rattle.std.proofs.lemmas.List.Elements.{recursion_from_All}
 use Rattle.std.proofs.lemmas.List.Sums.{sum_by-cons}
-use mathlib.Core.Bool.{true≢false}
-use Rattle.sk_base.specs.Documents.{has_term, wdf_of, begins_with}
+use Rattle.sk_base.specs.Documents.{begins_with}
 use Rattle.sk_base.specs.Numbers.{Docs, length_of, some_has, terms_with}
 use Rattle.sk_lists.specs.Seeks.{count_to}
 use Rattle.sk_query.specs.declared.form.Form.{Form}
@@ -16,7 +15,7 @@ use Rattle.sk_dict.specs.Terms.{term_at, number_of}
 use Rattle.sk_model.proofs.HeldLaws.{is_in, member, without, taken, still}
 use Rattle.sk_query.specs.Fits.{are_different}
 use Rattle.sk_index.specs.Indexed.{Indexed, postings, AreAllWith}
-use Rattle.sk_index.proofs.NumberLemmas.{length-postings, count_to-postings}
+use Rattle.sk_index.proofs.NumberLemmas.{length-postings, none_listed, count_to-postings}
 use Rattle.sk_tree.proofs.SynonymLaws.{wild_apart, only_one}
 use Rattle.sk_nodes.specs.declared.top.Top.{Top}
 use Rattle.sk_nodes.specs.declared.leaf.ListOf.{ListOf}
@@ -272,17 +271,9 @@ sum_among f (t ∷ ts) us apart among =
     ]
 
 -- a term that no document has
-none_counts : (t : List ℕ) (docs : Docs) → some_has t docs ≡ false → postings t docs ≡ []
-none_counts t [] h = refl
-none_counts t (one ∷ more) h = by (has_term t one.1.terms) refl (none_counts t more)
-  where
-    by : (b : Bool) → has_term t one.1.terms ≡ b → (some_has t more ≡ false → postings t more ≡ []) → cons_option (if b then Some (one.0, wdf_of t one.1.terms) else None) (postings t more) ≡ []
-    by true e rest = absurd (true≢false (sym (ap (λ c. c || some_has t more) e) ∙ h))
-    by false e rest = rest (sym (ap (λ c. c || some_has t more) e) ∙ h)
-
 none_entered : (t : List ℕ) (id : ℕ) (docs : Docs) → some_has t docs ≡ false → min 1 (length_of t docs) + up t id docs ≡ 0
 none_entered t id docs h =
-    let none = none_counts t docs h in
+    let none = none_listed t docs h in
     omega (arith, ap length none, ap (count_to id) none, length-postings t docs, count_to-postings t id docs)
 
 module _ (i : Indexed) (prefix : List ℕ) (ns : List ℕ) (are : AreAllWith prefix i.terms i.live.documents ns) (id : ℕ) where

@@ -1,5 +1,5 @@
 //! What no clause says: that each call succeeds with memory, and what `Debug` tells.
-use sk_dict::Dict;
+use sk_dict::{Dict, Place};
 use std::test::Fail;
 
 #[test]
@@ -11,7 +11,10 @@ fn each_call_succeeds_with_memory(rt: HostRuntime) -> Result<(), Fail> {
     }
     assert_eq!(rt; dict.find(b"foo"), Some(2));
     assert_eq!(rt; dict.term(2), b"foo".as_slice());
-    assert_eq!(rt; dict.next_with_prefix(b"f", None), Some(0));
+    assert_eq!(rt;
+        dict.next_with_prefix(b"f", None, &mut Place::FIRST),
+        Some(0)
+    );
     let text = format!(in rt.alloc(); "{dict:?}")?;
     assert_eq!(rt; text.as_str(), "Dict of 3");
     Ok(())
