@@ -20,6 +20,8 @@ use sk_parser::{AskError, ParseError, parse};
 use sk_steps::Steps;
 use std::alloc::{AllocError, Global};
 use std::env;
+use std::env::Args;
+use std::iter::Skip;
 use std::marker::Brand;
 use std::rt::Env;
 use std::sync::ledger::{Blank, Ledger};
@@ -116,27 +118,29 @@ fn tree_of(alloc: Global, schema: &Schema, text: &str) -> Result<String, ParseEr
     Ok(json)
 }
 
-fn main(rt: HostRuntime) -> Result<()> {
-    let alloc = rt.alloc();
-    let mut words = env::args(&rt)?.skip(1);
-    let mut word = words.next();
-    if word.as_ref().is_none_or(|word| word.as_str() == "find") {
-        let text = Text::new(alloc, "red fox")?;
-        let session = three_documents(alloc)?;
-        let report = find::<_, Brand>(&rt, Blank::new(1), &session, text)?;
-        drop(session);
-        let (lower, upper, steps) = (report.lower, report.upper, report.steps);
-        println!(rt; "{lower} to {upper} match, {steps} steps")?;
-        for hit in report.hits.as_slice() {
-            let (id, weight, payload) = (hit.id, hit.weight, hit.payload.as_str());
-            println!(rt; "{id} weighs {weight}: {payload}")?;
-        }
-        word = words.next();
+/// What the first text finds in the three documents.
+fn found(rt: &HostRuntime, alloc: Global) -> Result<Report> {
+    let text = Text::new(alloc, "red fox")?;
+    let session = three_documents(alloc)?;
+    let report = find::<_, Brand>(rt, Blank::new(1), &session, text);
+    drop(session);
+    Ok(report?)
+}
+
+fn print_report(rt: &HostRuntime, report: &Report) -> Result<()> {
+    let (lower, upper, steps) = (report.lower, report.upper, report.steps);
+    println!(rt; "{lower} to {upper} match, {steps} steps")?;
+    for hit in report.hits.as_slice() {
+        let (id, weight, payload) = (hit.id, hit.weight, hit.payload.as_str());
+        println!(rt; "{id} weighs {weight}: {payload}")?;
     }
-    let is_parse = word.is_none_or(|word| word.as_str() == "parse");
-    ensure!(is_parse, "usage: example_library [find] [parse TEXT ..]");
+    Ok(())
+}
+
+/// Prints the tree of each text, or its first fault.
+fn print_trees(rt: &HostRuntime, alloc: Global, texts: Skip<Args>) -> Result<()> {
     let schema = schema(alloc)?;
-    for text in words {
+    for text in texts {
         ensure!(text.len() <= MOST_TEXT, "a text is too long");
         match tree_of(alloc, &schema, text.as_str()) {
             Ok(json) => println!(rt; "{json}")?,
@@ -145,4 +149,18 @@ fn main(rt: HostRuntime) -> Result<()> {
         }
     }
     Ok(())
+}
+
+fn main(rt: HostRuntime) -> Result<()> {
+    let alloc = rt.alloc();
+    let mut words = env::args(&rt)?.skip(1);
+    let mut word = words.next();
+    if word.as_ref().is_none_or(|word| word.as_str() == "find") {
+        let report = found(&rt, alloc)?;
+        print_report(&rt, &report)?;
+        word = words.next();
+    }
+    let is_parse = word.is_none_or(|word| word.as_str() == "parse");
+    ensure!(is_parse, "usage: example_library [find] [parse TEXT ..]");
+    print_trees(&rt, alloc, words)
 }

@@ -37,13 +37,8 @@ fn main(rt: HostRuntime) -> io::Result<ExitCode> {
         };
         if line.is_none_or(section::is_title) {
             rows = rows.saturating_add(section.rows());
-            if let Some((turn, ran)) = differing_run(&rt, &section, alloc)? {
+            if differs(&rt, &section, alloc)? {
                 differing = differing.saturating_add(1);
-                let title = section.title();
-                let answered = ran.answered.as_str();
-                let said = ran.said.as_str();
-                let code = ran.code;
-                println!(rt; "differs: {title}\n{answered}{said}ended with {code} in turn {turn}")?;
             }
             section = Section::new(alloc)?;
         }
@@ -58,6 +53,19 @@ fn main(rt: HostRuntime) -> io::Result<ExitCode> {
     }
     println!(rt; "{differing} sections differ")?;
     Ok(ExitCode::FAILURE)
+}
+
+/// Whether a section is answered otherwise than it is written, which is printed.
+fn differs(rt: &HostRuntime, section: &Section, alloc: Global) -> io::Result<bool> {
+    let Some((turn, ran)) = differing_run(rt, section, alloc)? else {
+        return Ok(false);
+    };
+    let title = section.title();
+    let answered = ran.answered.as_str();
+    let said = ran.said.as_str();
+    let code = ran.code;
+    println!(rt; "differs: {title}\n{answered}{said}ended with {code} in turn {turn}")?;
+    Ok(true)
 }
 
 /// The first run of a section that is not as it should be, with its turn.
