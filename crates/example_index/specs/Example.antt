@@ -1,12 +1,12 @@
 -- The schema of the example, the edit that adds a text, and what is printed of a document.
 use Rattle.std.specs.Prelude.{ℕ, false, List, [], ◌∷◌, codes}
+use Rattle.std.specs.Ordering.{nat_cmp, ordering_then}
 use Rattle.std.specs.declared.cmp.Ordering.{Ordering}
 use Rattle.sk_base.specs.declared.record.Edit.{Edit}
 use Rattle.sk_base.specs.declared.record.FieldValue.{FieldValue}
 use Rattle.sk_base.specs.declared.schema.FieldKind.{FieldKind}
 use Rattle.sk_base.specs.declared.schema.Schema.{Schema}
 use Rattle.example_index.specs.declared.Hit.{Hit}
-use Rattle.example_index.specs.contracts.HitOrd.TheImpl as hit_ord
 
 -- One text, whose words are terms without a prefix, and count once; words are not stemmed.
 abbrev pub bodies : Schema
@@ -20,6 +20,6 @@ addition text = Edit.Add (record { values = record { field = 0; value = FieldVal
 abbrev pub hit_of : ℕ × ℕ → Hit
 hit_of p = record { weight = record { 0 = p.1 }; id = p.0 }
 
--- The order of an answer: by the weight, the greatest first, then by the id.
+-- The order of an answer: the greatest weight first, and of two that weigh the same the least id.
 abbrev pub by_weight : Hit → Hit → Ordering
-by_weight = (hit_ord.ghosts).cmp
+by_weight a b = ordering_then (nat_cmp b.weight.0 a.weight.0) (nat_cmp a.id b.id)
