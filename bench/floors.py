@@ -18,7 +18,7 @@ import time
 from finds import OURS, texts, word
 
 HERE = os.path.dirname(os.path.realpath(__file__))
-ROUNDS = 7
+ROUNDS = 15
 DOCUMENTS, LENGTH = 100_000, 100
 FEW, MANY = 20_000, 200_000
 SCHEMA = {

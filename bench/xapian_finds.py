@@ -1,8 +1,8 @@
 #!/usr/bin/env python3
 """Prints what finds cost in the built program and in Xapian's in-memory database, over the same documents and by the
-same lines: of each class the median of some finds, of processor time, in each of two runs. A term weighs its wdf in
-both, and Xapian's own query parser reads the texts. First pages are compared: ids, weights and order. Ends with 1 where
-one differs.
+same lines: of each class the median of some finds, of processor time, and of some runs of those the median of each
+program, and of our time in Xapian's the median, the least and the greatest. A term weighs its wdf in both, and Xapian's
+own query parser reads the texts. First pages are compared: ids, weights and order. Ends with 1 where one differs.
 
 Wants g++, Xapian's headers (Debian: libxapian-dev), and the built program: (cd crates/sk_tool && rt run). Run it at the
 top of the repository: python3 bench/xapian_finds.py [PROGRAM [DOCUMENTS [MANUAL]]]. The last rows are over the manual
@@ -23,7 +23,7 @@ from finds import HERE, LETTERS, OURS, word
 from floors import Server, hits
 from known_items import pages
 
-RUNS, FINDS = 2, 20
+RUNS, FINDS = 7, 20
 DOCUMENTS, WORDS = 100_000, 86_400  # 600 words with each two letters in front
 YEARS = 1_000_000
 PAGES = 2_000
@@ -113,11 +113,12 @@ def print_row(servers, name, finds):
     lines = [json.dumps(find) for find in finds]
     found, spent = zip(*(timed(servers, line) for line in lines))
     medians = [[1000 * statistics.median(each) for each in zip(*run)] for run in zip(*spent)]
-    costs = "  ".join(" ".join(f"{ms:9.4f}" for ms in each) for each in zip(*medians))
-    ratios = " ".join(f"{mine / other:7.2f}" for mine, other in medians)
+    costs = " ".join(f"{statistics.median(each):9.4f}" for each in zip(*medians))
+    shares = sorted(mine / other for mine, other in medians)
+    ratios = f"{statistics.median(shares):8.3f} {shares[0]:8.3f} {shares[-1]:8.3f}"
     differing = [line for line, (mine, other) in zip(lines, found) if mine != other]
     compared = sum(len(mine) for mine, _ in found)
-    print(f"{name:25}{len(lines):6}  {costs} {ratios} {compared:6}{len(differing):8}", flush=True)
+    print(f"{name:25}{len(lines):6} {costs} {ratios} {compared:6}{len(differing):8}", flush=True)
     for line in differing:
         print(f"  differs: {line[:100]}")
     return len(differing)
@@ -125,7 +126,8 @@ def print_row(servers, name, finds):
 
 def print_rows(servers, rows):
     """Gives how many of all finds differ."""
-    print(f"{'class':25}{'finds':>6}  {'sk_tool':^19}  {'Xapian':^19} {'ratio':^15} {'hits':>6}{'differ':>8}")
+    ratios = f"{'ratio':>8} {'least':>8} {'greatest':>8}"
+    print(f"{'class':25}{'finds':>6} {'sk_tool':>9} {'Xapian':>9} {ratios} {'hits':>6}{'differ':>8}")
     return sum(print_row(servers, name, finds) for name, finds in rows)
 
 
@@ -138,7 +140,7 @@ def main():
         source = os.path.join(HERE, "xapian_finds.cpp")
         subprocess.run(["g++", "-std=c++17", "-O2", "-o", peer, source, "-lxapian"], check=True)
         commands = [program, "run"], [peer]
-        print(f"ms of a processor, the median of the finds, in {RUNS} runs; pages of 10")
+        print(f"ms of a processor, the median of the finds, and of {RUNS} runs; pages of 10")
         print(f"{documents:,} documents of 50 to 150 words of {WORDS:,}")
         made = records(documents, random.Random(8), WORDS)
         servers = served(commands, ({"body": record["body"], "year": record["year"]} for record in made))

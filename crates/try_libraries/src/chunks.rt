@@ -22,17 +22,24 @@ fn filled(alloc: Global) -> Result<Chunk, AllocError> {
     Ok(chunk)
 }
 
+/// The heads of a full chunk, of its halves once it is cut, and of the second one without its last entry.
+fn heads(alloc: Global) -> Result<[ChunkHead; 4], AllocError> {
+    let mut chunk = filled(alloc)?;
+    let whole = chunk.head();
+    let mut rest = chunk.split_off(chunk.count() / 2)?;
+    let cut = (chunk.head(), rest.head());
+    rest.remove(128);
+    Ok([whole, cut.0, cut.1, rest.head()])
+}
+
 #[test]
 fn a_full_chunk_is_cut(rt: HostRuntime) -> Result<(), Fail> {
     assert_eq!(rt; entry_bytes(1, 3), [0, 0, 0, 1, 0, 0, 0, 3]);
-    let mut chunk = filled(rt.alloc())?;
-    assert_eq!(rt; chunk.head(), row(1, 128, 128, 128));
-    assert_eq!(rt; chunk.count(), 128);
-    let mut rest = chunk.split_off(64)?;
-    assert_eq!(rt; chunk.head(), row(1, 64, 64, 64));
-    assert_eq!(rt; rest.head(), row(65, 128, 64, 128));
-    assert!(rt; rest.remove(128));
-    assert_eq!(rt; rest.head(), row(65, 127, 63, 127));
+    let heads = heads(rt.alloc())?;
+    assert_eq!(rt; heads[0], row(1, 128, 128, 128));
+    assert_eq!(rt; heads[1], row(1, 64, 64, 64));
+    assert_eq!(rt; heads[2], row(65, 128, 64, 128));
+    assert_eq!(rt; heads[3], row(65, 127, 63, 127));
     Ok(())
 }
 
@@ -40,13 +47,35 @@ fn a_full_chunk_is_cut(rt: HostRuntime) -> Result<(), Fail> {
 fn each_call_succeeds_with_memory(rt: HostRuntime) -> Result<(), Fail> {
     let mut chunk = Chunk::one(rt.alloc(), 1, 3)?;
     chunk.insert(2, 4)?;
-    assert!(rt; chunk.remove(2));
-    let mut next = Chunk::one(rt.alloc(), 4294967295, 5)?;
-    assert!(rt; chunk.join(&mut next));
-    assert_eq!(rt; next.head(), Chunk::new(rt.alloc()).head());
-    let ids = chunk.put_ids(Vec::new(rt.alloc()))?;
-    assert_eq!(rt; ids.as_slice(), [1, 4294967295].as_slice());
+    let removed = chunk.remove(2);
     let text = format!(in rt.alloc(); "{chunk:?}")?;
-    assert_eq!(rt; text.as_str(), "Chunk of 2");
+    drop(chunk);
+    assert!(rt; removed);
+    assert_eq!(rt; text.as_str(), "Chunk of 1");
+    Ok(())
+}
+
+#[test]
+fn neighbours_are_joined(rt: HostRuntime) -> Result<(), Fail> {
+    let mut chunk = Chunk::one(rt.alloc(), 1, 3)?;
+    chunk.insert(2, 4)?;
+    chunk.remove(2);
+    let mut next = Chunk::one(rt.alloc(), 4294967295, 5)?;
+    let joined = chunk.join(&mut next);
+    let heads = (chunk.head(), next.head());
+    drop(next);
+    drop(chunk);
+    assert!(rt; joined);
+    assert_eq!(rt; heads.0, row(1, 4294967295, 2, 5));
+    assert_eq!(rt; heads.1, row(0, 0, 0, 0));
+    Ok(())
+}
+
+#[test]
+fn ids_are_put_behind(rt: HostRuntime) -> Result<(), Fail> {
+    let mut chunk = Chunk::one(rt.alloc(), 4294967295, 5)?;
+    let ids = chunk.put_ids(Vec::new(rt.alloc()))?;
+    drop(chunk);
+    assert_eq!(rt; ids.as_slice(), [4294967295].as_slice());
     Ok(())
 }

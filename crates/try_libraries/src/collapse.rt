@@ -32,16 +32,15 @@ fn each_call_succeeds_with_memory(rt: HostRuntime) -> Result<(), Fail> {
     let first = collapser.see(key, &middle)?;
     let second = collapser.see(key, &heavy)?;
     let third = collapser.see(key, &light)?;
+    let counts = (
+        collapser.kept(),
+        collapser.duplicates(),
+        collapser.dropped(key),
+    );
+    drop(collapser);
     assert_eq!(rt; first, Verdict::Keep);
     assert_eq!(rt; second, Verdict::KeepFor(1));
     assert_eq!(rt; third, Verdict::Drop);
-    assert_eq!(rt;
-        (
-            collapser.kept(),
-            collapser.duplicates(),
-            collapser.dropped(key)
-        ),
-        (1, 2, 2)
-    );
+    assert_eq!(rt; counts, (1, 2, 2));
     Ok(())
 }

@@ -29,16 +29,23 @@ fn hit(alloc: Global, weight: Weight, id: u32) -> Hit
 fn each_call_succeeds_with_memory(rt: HostRuntime) -> Result<(), Fail> {
     let mut heap = ResultHeap::new(rt.alloc(), 2, ORDER);
     heap.grow()?;
-    assert!(rt; heap.offer(hit(rt.alloc(), 5, 1)).is_none());
-    let hits = heap.drain_sorted();
-    assert_eq!(rt; hits.len(), 1);
+    let none = heap.offer(hit(rt.alloc(), 5, 1)).is_none();
+    let count = heap.drain_sorted().len();
+    assert_eq!(rt; (none, count), (true, 1));
+    Ok(())
+}
+
+#[test]
+fn the_better_hit_is_held(rt: HostRuntime) -> Result<(), Fail> {
     let mut heap = ResultHeap::reserve(rt.alloc(), 1, ORDER)?;
-    assert!(rt; heap.offer(hit(rt.alloc(), 5, 1)).is_none());
-    assert_eq!(rt; heap.len(), 1);
-    assert!(rt; heap.need() == Some(6));
-    assert!(rt; heap.offer(hit(rt.alloc(), 7, 2)).is_some());
-    assert!(rt; heap.need() == Some(8));
-    assert!(rt; heap.remove(2).is_some());
-    assert_eq!(rt; heap.len(), 0);
+    let none = heap.offer(hit(rt.alloc(), 5, 1)).is_none();
+    let need = heap.need();
+    let some = heap.offer(hit(rt.alloc(), 7, 2)).is_some();
+    let more = heap.need();
+    let removed = heap.remove(2).is_some();
+    let left = heap.len();
+    drop(heap);
+    assert_eq!(rt; (none, some, removed, left), (true, true, true, 0));
+    assert!(rt; need == Some(6) && more == Some(8));
     Ok(())
 }

@@ -39,21 +39,38 @@ fn answers<S: Source>(alloc: Global, source: &mut S, limit: u64) -> Result<Vec<u
     Ok(said)
 }
 
-/// The answers over a text that comes in pieces, from a source whose call of this number fails.
-fn told(
+/// Whether these are the answers over a text that comes in pieces, from a source whose call of this number fails.
+fn are_told(
     alloc: Global,
     text: &[u8],
     piece: usize,
     limit: u64,
     failing: u64,
-) -> Result<Vec<u8>, AllocError>
+    wanted: &str,
+) -> Result<bool, AllocError>
     requires piece { 1 ≤ piece }
     requires limit { 1 ≤ limit }
 {
     let text = text.to_vec(alloc)?;
     let failing = vec![in alloc; failing; 1]?;
     let mut source = MemorySource::new(text, piece, failing);
-    answers(alloc, &mut source, limit)
+    let said = answers(alloc, &mut source, limit)?;
+    Ok(said.as_slice() == wanted.as_bytes())
+}
+
+/// The same over so many bytes with a text behind them.
+fn are_told_behind(
+    alloc: Global,
+    length: usize,
+    behind: &str,
+    piece: usize,
+    wanted: &str,
+) -> Result<bool, AllocError>
+    requires { 1 ≤ piece }
+{
+    let mut text = vec![in alloc; b'x'; length]?;
+    text.extend_from_slice(behind.as_bytes())?;
+    are_told(alloc, text.as_slice(), piece, FAR, 0, wanted)
 }
 
 #[test]
@@ -67,8 +84,8 @@ fn texts_are_cut_into_lines(rt: HostRuntime) -> Result<(), Fail> {
         ("a\r\nb\0c\n", "a\r|b\0c|end|end|"),
     ] {
         for piece in [1, 3, 1000] {
-            let said = told(rt.alloc(), text.as_bytes(), piece, FAR, 0)?;
-            assert_eq!(rt; said.as_slice(), wanted.as_bytes(), "pieces of {piece}");
+            let are = are_told(rt.alloc(), text.as_bytes(), piece, FAR, 0, wanted)?;
+            assert!(rt; are, "{text} in pieces of {piece}");
         }
     }
     Ok(())
@@ -84,15 +101,9 @@ fn long_lines_are_passed_over(rt: HostRuntime) -> Result<(), Fail> {
         (4_194_304, "", "long|end|end|end|"),
         (4_194_304, "\nb", "long|b|end|end|"),
     ] {
-        let mut text = vec![in rt.alloc(); b'x'; length]?;
-        text.extend_from_slice(behind.as_bytes())?;
         for piece in [1, 3, 1000, 100_000] {
-            let said = told(rt.alloc(), text.as_slice(), piece, FAR, 0)?;
-            assert_eq!(rt;
-                said.as_slice(),
-                wanted.as_bytes(),
-                "{length} in pieces of {piece}"
-            );
+            let are = are_told_behind(rt.alloc(), length, behind, piece, wanted)?;
+            assert!(rt; are, "{length} in pieces of {piece}");
         }
     }
     Ok(())
@@ -110,59 +121,62 @@ fn readers_stop(rt: HostRuntime) -> Result<(), Fail> {
         ("0123456789a", 4, 10, 0, "full|full|full|full|"),
         ("012345678\n", 4, 10, 0, "012345678|full|full|full|"),
     ] {
-        let said = told(rt.alloc(), text.as_bytes(), piece, limit, failing)?;
-        assert_eq!(rt; said.as_slice(), wanted.as_bytes(), "of {text}");
+        let are = are_told(rt.alloc(), text.as_bytes(), piece, limit, failing, wanted)?;
+        assert!(rt; are, "{text} in pieces of {piece}");
     }
     Ok(())
 }
 
-/// What a sink holds that takes a byte a call, has so much room, and fails at the call of this number, with `!` behind it
-/// where the piece was not put whole.
-fn held(alloc: Global, room: usize, failing: u64) -> Result<Vec<u8>, AllocError> {
+/// Whether a sink that takes a byte a call, has so much room, and fails at the call of this number, holds these bytes, and
+/// whether the piece was put whole.
+fn holds(
+    alloc: Global,
+    room: usize,
+    failing: u64,
+    wanted: &str,
+) -> Result<(bool, bool), AllocError> {
     let failing = vec![in alloc; failing; 1]?;
     let mut sink = MemorySink::new(alloc, 1, room, failing)?;
     let put = put_all(&mut sink, b"abcd");
-    let mut held = sink.bytes().to_vec(alloc)?;
-    if put.is_err() {
-        held.push(b'!')?;
-    }
-    Ok(held)
+    Ok((sink.bytes() == wanted.as_bytes(), put.is_ok()))
 }
 
 #[test]
 fn a_piece_is_put_whole_or_in_part(rt: HostRuntime) -> Result<(), Fail> {
-    for (room, failing, wanted) in [
-        (10, 0, "abcd"),
-        (4, 0, "abcd"),
-        (3, 0, "abc!"),
-        (10, 3, "ab!"),
-        (10, 1, "!"),
+    for (room, failing, wanted, whole) in [
+        (10, 0, "abcd", true),
+        (4, 0, "abcd", true),
+        (3, 0, "abc", false),
+        (10, 3, "ab", false),
+        (10, 1, "", false),
     ] {
-        let held = held(rt.alloc(), room, failing)?;
-        assert_eq!(rt;
-            held.as_slice(),
-            wanted.as_bytes(),
-            "room {room}, call {failing}"
-        );
+        let held = holds(rt.alloc(), room, failing, wanted)?;
+        assert_eq!(rt; held, (true, whole), "room {room}, call {failing}");
     }
+    Ok(())
+}
+
+#[test]
+fn std_streams_are_read(rt: HostRuntime) -> Result<(), Fail> {
+    let mut source = StdSource::new(Cursor::new(b"a\nbc".as_slice()));
+    let said = answers(rt.alloc(), &mut source, FAR)?;
+    assert_eq!(rt; said.as_slice(), b"a|bc|end|end|".as_slice());
     Ok(())
 }
 
 /// A sink over std takes a piece, is settled, and fails where its writer is full.
 #[test]
-fn std_streams_are_read_and_written(rt: HostRuntime) -> Result<(), Fail> {
-    let mut source = StdSource::new(Cursor::new(b"a\nbc".as_slice()));
-    let said = answers(rt.alloc(), &mut source, FAR)?;
-    assert_eq!(rt; said.as_slice(), b"a|bc|end|end|".as_slice());
-
+fn std_streams_are_written(rt: HostRuntime) {
     let mut small = [0u8; 4];
     let mut sink = StdSink::new(Cursor::new(small.as_mut_slice()));
-    assert_eq!(rt; put_all(&mut sink, b"abc"), Ok(()));
-    assert_eq!(rt; sink.finish(), Ok(()));
-    assert_eq!(rt; put_all(&mut sink, b"de"), Err(Failed));
+    let told = (
+        put_all(&mut sink, b"abc"),
+        sink.finish(),
+        put_all(&mut sink, b"de"),
+    );
     drop(sink);
+    assert_eq!(rt; told, (Ok(()), Ok(()), Err(Failed)));
     assert_eq!(rt; small, *b"abcd");
-    Ok(())
 }
 
 /// A stream whose first calls are interrupted, and that then gives nothing and takes all.
@@ -201,14 +215,24 @@ impl Write for Interrupted {
     }
 }
 
+/// What a source over a stream answers that is interrupted so often.
+fn taken(times: u32) -> Result<usize, Failed> {
+    let mut source = StdSource::new(Interrupted { times });
+    let mut buf = [0u8; 4];
+    source.take(&mut buf)
+}
+
+/// What a sink over it answers.
+fn put(times: u32) -> Result<usize, Failed> {
+    let mut sink = StdSink::new(Interrupted { times });
+    sink.put(b"")
+}
+
 #[test]
 fn an_interrupted_call_is_tried_64_times(rt: HostRuntime) -> Result<(), Fail> {
     for (times, wanted) in [(0, Ok(0)), (63, Ok(0)), (64, Err(Failed))] {
-        let mut source = StdSource::new(Interrupted { times });
-        let mut buf = [0u8; 4];
-        assert_eq!(rt; source.take(&mut buf), wanted, "{times} times");
-        let mut sink = StdSink::new(Interrupted { times });
-        assert_eq!(rt; sink.put(b""), wanted, "{times} times");
+        assert_eq!(rt; taken(times), wanted, "{times} times");
+        assert_eq!(rt; put(times), wanted, "{times} times");
     }
     Ok(())
 }
@@ -237,6 +261,22 @@ impl<'a> Write for Holding<'a> {
     }
 }
 
+/// What the last of so many calls to finish answers, and whether these bytes have come out then, where three were put.
+fn finished(alloc: Global, refusals: u32, calls: u32, moved: &str) -> (Result<(), Failed>, bool) {
+    let mut place = Vec::new(alloc);
+    let mut sink = StdSink::new(Holding {
+        held: Vec::new(alloc),
+        moved: &mut place,
+        refusals,
+    });
+    let mut last = put_all(&mut sink, b"abc");
+    for _ in 0..calls {
+        last = sink.finish();
+    }
+    drop(sink);
+    (last, place.as_slice() == moved.as_bytes())
+}
+
 /// A sink that is to finish flushes its writer each time, and answers where that fails.
 #[test]
 fn to_finish_flushes(rt: HostRuntime) -> Result<(), Fail> {
@@ -246,26 +286,16 @@ fn to_finish_flushes(rt: HostRuntime) -> Result<(), Fail> {
         (1, 1, Err(Failed), ""),
         (1, 2, Ok(()), "abc"),
     ] {
-        let mut place = Vec::new(rt.alloc());
-        let mut sink = StdSink::new(Holding {
-            held: Vec::new(rt.alloc()),
-            moved: &mut place,
-            refusals,
-        });
-        assert_eq!(rt; put_all(&mut sink, b"abc"), Ok(()));
-        let mut last = Ok(());
-        for _ in 0..calls {
-            last = sink.finish();
-        }
-        drop(sink);
-        assert_eq!(rt; last, wanted, "{calls} calls, {refusals} refused");
-        assert_eq!(rt;
-            place.as_slice(),
-            moved.as_bytes(),
-            "{calls} calls, {refusals} refused"
-        );
+        let told = finished(rt.alloc(), refusals, calls, moved);
+        assert_eq!(rt; told, (wanted, true), "{calls} calls, {refusals} refused");
     }
     Ok(())
+}
+
+/// What a source answers, and four bytes that it was lent.
+fn read<S: Source>(source: &mut S) -> (Result<usize, Failed>, [u8; 4]) {
+    let mut buf = *b"....";
+    (source.take(&mut buf), buf)
 }
 
 /// A file that is written behind its source: it is read on, and then it ends.
@@ -274,12 +304,13 @@ fn a_file_is_read_on(rt: HostRuntime) -> Result<(), Fail> {
     let path = "written.txt";
     let mut source = LazyFile::new(&rt, String::from_str(rt.alloc(), path)?);
     fs::write(&rt, path, "abcdefg")?;
-    for (wanted, bytes) in [(Ok(4), b"abcd"), (Ok(3), b"efg."), (Ok(0), b"....")] {
-        let mut buf = *b"....";
-        assert_eq!(rt; source.take(&mut buf), wanted);
-        assert_eq!(rt; buf, *bytes);
-    }
+    let told = (read(&mut source), read(&mut source), read(&mut source));
+    drop(source);
     fs::remove_file(&rt, path)?;
+    assert_eq!(rt;
+        told,
+        ((Ok(4), *b"abcd"), (Ok(3), *b"efg."), (Ok(0), *b"...."))
+    );
     Ok(())
 }
 
@@ -292,9 +323,9 @@ fn a_file_is_opened_when_it_is_read(rt: HostRuntime) -> Result<(), Fail> {
         ("/", Err(Failed)),
     ] {
         let mut source = LazyFile::new(&rt, String::from_str(rt.alloc(), path)?);
-        let mut buf = [0u8; 4];
-        assert_eq!(rt; source.take(&mut buf), wanted, "{path}");
-        assert_eq!(rt; source.take(&mut buf), wanted, "{path}, again");
+        let told = (read(&mut source).0, read(&mut source).0);
+        drop(source);
+        assert_eq!(rt; told, (wanted, wanted), "{path}");
     }
     Ok(())
 }

@@ -31,14 +31,23 @@ fn each_call_succeeds_with_memory(rt: HostRuntime) -> Result<(), Fail> {
     list.insert(4294967295, 5)?;
     list.insert(1, 2)?;
     list.insert(1, 3)?;
-    assert_eq!(rt;
-        list.ids(rt.alloc())?.as_slice(),
-        [1, 4294967295].as_slice()
-    );
     let found = sought::<_, Brand>(&rt, Blank::new(1), &list, 2);
-    assert_eq!(rt; found, (1, Some(4294967295), 5));
-    assert!(rt; list.remove(4294967295));
+    let removed = list.remove(4294967295);
     let text = format!(in rt.alloc(); "{list:?}")?;
+    drop(list);
+    assert_eq!(rt; found, (1, Some(4294967295), 5));
+    assert!(rt; removed);
     assert_eq!(rt; text.as_str(), "List of 1");
+    Ok(())
+}
+
+#[test]
+fn ids_are_in_order(rt: HostRuntime) -> Result<(), Fail> {
+    let mut list = List::new(rt.alloc());
+    list.insert(4294967295, 5)?;
+    list.insert(1, 2)?;
+    let ids = list.ids(rt.alloc())?;
+    drop(list);
+    assert_eq!(rt; ids.as_slice(), [1, 4294967295].as_slice());
     Ok(())
 }

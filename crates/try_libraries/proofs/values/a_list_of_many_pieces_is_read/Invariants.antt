@@ -1,5 +1,5 @@
 -- The ledger is the blank's own.
-use Rattle.try_libraries.proofs.values.a_list_of_many_pieces.Given as goal
+use Rattle.try_libraries.proofs.values.a_list_of_many_pieces_is_read.Given as goal
 
 abbrev pub ghosts-read_one : goal.ghosts-read_one
 ghosts-read_one g a = record { name = a.blank.name; parts = a.blank.parts }
