@@ -1,9 +1,9 @@
 #!/usr/bin/env python3
 """Prints what finds cost in the built program and in Xapian's in-memory database, over the same documents and by the
-same lines: of each class the median of its finds, each with the least processor time that it took in some runs by turns.
-Where other work has the machine, times rise, ours and Xapian's not alike: so the ratios of the single runs are told too,
-the least, the median and the greatest. A term weighs its wdf in both, and Xapian's own query parser reads the texts.
-First pages are compared: ids, weights and order. Ends with 1 where one differs.
+same lines: of each class the median of its finds, of processor time, in some runs by turns. The median of these runs is
+told of each program, and of our time in Xapian's the median, the least and the greatest, since other work on the machine
+slows the two down unlike. A term weighs its wdf in both, and Xapian's own query parser reads the texts. First pages are
+compared: ids, weights and order. Ends with 1 where one differs.
 
 Wants g++, Xapian's headers (Debian: libxapian-dev), and the built program: (cd crates/sk_tool && rt run). Run it at the
 top of the repository: python3 bench/xapian_finds.py [PROGRAM [DOCUMENTS [MANUAL]]]. The last rows are over the manual
@@ -118,22 +118,17 @@ def medians(finds):
     return [1000 * statistics.median(each) for each in zip(*finds)]
 
 
-def least(runs):
-    """The median of each program, of the least seconds of each find in these runs."""
-    return medians([[min(each) for each in zip(*finds)] for finds in zip(*runs)])
-
-
 def print_row(servers, name, finds):
     """Times the finds of a class, and gives how many of them differ."""
     lines = [json.dumps(find) for find in finds]
     found, runs = timed(servers, lines)
-    mine, other = least(runs)
-    ratios = sorted(ours / theirs for ours, theirs in map(medians, runs))
-    spread = f"{ratios[0]:6.3f} {statistics.median(ratios):6.3f} {ratios[-1]:6.3f}"
+    spent = [medians(finds) for finds in runs]
+    costs = " ".join(f"{statistics.median(each):9.4f}" for each in zip(*spent))
+    shares = sorted(mine / other for mine, other in spent)
+    ratios = " ".join(f"{share:8.3f}" for share in (statistics.median(shares), shares[0], shares[-1]))
     differing = [line for line, both in zip(lines, found) if both[0] != both[1]]
     compared = sum(len(both[0]) for both in found)
-    costs = f"{mine:9.4f} {other:9.4f} {mine / other:6.3f}  {spread}"
-    print(f"{name:27}{len(lines):5} {costs} {compared:6}{len(differing):8}", flush=True)
+    print(f"{name:27}{len(lines):5} {costs} {ratios} {compared:6}{len(differing):8}", flush=True)
     for line in differing:
         print(f"  differs: {line[:100]}")
     return len(differing)
@@ -141,7 +136,8 @@ def print_row(servers, name, finds):
 
 def print_rows(servers, rows):
     """Gives how many of all finds differ."""
-    print(f"{'class':27}{'finds':>5} {'sk_tool':>9} {'Xapian':>9} {'ratio':>6}  {'of each run':^20} {'hits':>6}{'differ':>8}")
+    ratios = f"{'ratio':>8} {'least':>8} {'greatest':>8}"
+    print(f"{'class':27}{'finds':>5} {'sk_tool':>9} {'Xapian':>9} {ratios} {'hits':>6}{'differ':>8}")
     return sum(print_row(servers, name, finds) for name, finds in rows)
 
 
@@ -154,7 +150,7 @@ def main():
         source = os.path.join(HERE, "xapian_finds.cpp")
         subprocess.run(["g++", "-std=c++17", "-O2", "-o", peer, source, "-lxapian"], check=True)
         commands = [program, "run"], [peer]
-        print(f"ms of a processor, the median of the finds, each the least of {RUNS} runs; pages of 10")
+        print(f"ms of a processor, the median of the finds, and of {RUNS} runs; pages of 10")
         print(f"{documents:,} documents of 50 to 150 words of {WORDS:,}")
         made = records(documents, random.Random(8), WORDS)
         servers = served(commands, ({"body": record["body"], "year": record["year"]} for record in made))
