@@ -1,3 +1,4 @@
 mod WeightLemmas
 mod TogetherLemmas
 mod BoundLemmas
+mod WildLemmas

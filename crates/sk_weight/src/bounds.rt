@@ -8,7 +8,7 @@ ghost use Rattle.sk_weight.specs.Together.{IsTogether};
 
 use crate::range::is_crossed;
 use crate::together::Together;
-use crate::words::{joint_ceil, word_ceil, word_ceils, word_greatests, word_lengths};
+use crate::words::{joint_ceil, wild_ceil, word_ceil, word_ceils, word_greatests, word_lengths};
 use sk_base::{Scheme, Stats, Weight};
 use sk_query::Query;
 
@@ -24,16 +24,7 @@ pub fn ceil<S: Stats>(stats: &S, query: &Query, scheme: Scheme, factor: u64) -> 
     match query {
         Query::Nothing | Query::All | Query::Range(_, _, _) => 0,
         Query::Term(word) => word_ceil(stats, scheme, factor, word),
-        Query::Wildcard(prefix) => {
-            let prefix = prefix.as_str().as_bytes();
-            let long = u128::from(stats.wild_length(prefix));
-            joint_ceil(
-                scheme,
-                factor,
-                long,
-                u128::from(stats.wild_greatest(prefix)),
-            )
-        }
+        Query::Wildcard(prefix) => wild_ceil(stats, scheme, factor, prefix),
         Query::And(parts) | Query::Or(parts) | Query::Xor(parts) | Query::AndMaybe(parts) => {
             ceils(stats, parts, scheme, factor).sum
         }

@@ -1,7 +1,7 @@
 //! The bounds of words.
 ghost use Rattle.std.specs.Prelude.{◌≡◌, ◌≤◌, ◌<◌, ◌^◌, map, min, All};
 ghost use Rattle.sk_base.specs.Loads.{IsLight};
-ghost use Rattle.sk_base.specs.Numbers.{length_of, greatest_of};
+ghost use Rattle.sk_base.specs.Numbers.{length_of, greatest_of, wild_length_of, wild_greatest_of};
 ghost use Rattle.sk_model.specs.Bounds.{term_ceil, joint_ceil};
 ghost use Rattle.sk_weight.specs.Together.{IsTogether};
 
@@ -20,6 +20,19 @@ pub fn word_ceil<S: Stats>(stats: &S, scheme: Scheme, factor: u64, word: &Text) 
     } else {
         0
     }
+}
+
+/// That of all words that begin with a prefix as one. Where one has a wdf above 0, a list is not empty.
+pub fn wild_ceil<S: Stats>(stats: &S, scheme: Scheme, factor: u64, prefix: &Text) -> Weight
+    requires { factor ≤ 65536 }
+    ensures { result ≡ joint_ceil scheme factor (wild_length_of prefix.now (S.documents stats.now)) (wild_greatest_of prefix.now (S.documents stats.now)) }
+{
+    let prefix = prefix.as_str().as_bytes();
+    let greatest = stats.wild_greatest(prefix);
+    if greatest > 0 {
+        return weigh_by(factor, scheme, u64::from(greatest));
+    }
+    joint_ceil(scheme, factor, u128::from(stats.wild_length(prefix)), 0)
 }
 
 /// That of several words as one, by how long their lists are together and what their greatest wdfs make together.

@@ -10,7 +10,7 @@ use Rattle.sk_weight.proofs.bounds.+ceil.Goals as goal
 pub ceil-returns-in-Synonym : goal.ceil-returns-in-Synonym
 ceil-returns-in-Synonym g t c =
     let docs = g.S.Stats.documents c.args.stats.now in
-    c.joint_ceil-in-Synonym.ensures
+    c.joint_ceil.ensures
     ∙ joint_same c.args.scheme c.args.factor c.word_lengths-long.result.sum c.word_greatests.result.sum
     (lengths_of c.as_slice-words.result.now docs) (greatests_of c.as_slice-words.result.now docs) c.word_lengths-long.ensures.sum c.word_greatests.ensures.sum
     ∙ ap (λ ts. ceil (synonym ts) c.args.scheme c.args.factor docs) c.as_slice-words.ensures
