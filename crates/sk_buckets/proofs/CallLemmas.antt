@@ -34,11 +34,11 @@ module _ (ms : List Mark) (i : ℕ) (m : Mark) (l : i < length ms) (is : IsMark 
   pub are_moved : AreMarks ms → AreMarks (set ms i m)
   are_moved are = are_set ms i m l is falls_there are
 
-  pub buckets_moved : (old : Mark) (greatest base at : ℕ) (bs new : List Bucket) (next after : List ℕ) → old ≡ get_or ms i old → length new ≡ length bs → length after ≡ length next
-      → AreDealt (set ms i m) base new after → AreBuckets ms greatest base at bs next → AreBuckets (set ms i m) (greatest - (old.greatest - m.greatest)) base at new after
-  buckets_moved old greatest base at bs new next after e len long dealt h =
+  pub buckets_moved : (old : Mark) (less greatest base at : ℕ) (bs new : List Bucket) (next after : List ℕ) → less ≡ old.greatest - m.greatest → old ≡ get_or ms i old → length new ≡ length bs → length after ≡ length next
+      → AreDealt (set ms i m) base new after → AreBuckets ms greatest base at bs next → AreBuckets (set ms i m) (greatest - less) base at new after
+  buckets_moved old less greatest base at bs new next after is_less e len long dealt h =
       let was : old.greatest ≡ (mark_at ms i).greatest = ap (λ (n : Mark). n.greatest) (get_or_read ms i old l e _) in
-      let sum : greatest - (old.greatest - m.greatest) ≡ greatest_of (set ms i m) = omega (arith, was, h.sum, falls_there, greatest-set ms i m l, greatest_least ms i l) in
+      let sum : greatest - less ≡ greatest_of (set ms i m) = omega (arith, is_less, was, h.sum, falls_there, greatest-set ms i m l, greatest_least ms i l) in
       record {
         are = are_moved h.are;
         sum = sum;

@@ -166,7 +166,7 @@ module _ (ms : List Mark) (base : ℕ) (bs : List Bucket) (next : List ℕ) (h :
 pub bucket_few : (ms : List Mark) (next : List ℕ) (id : ℕ) (b : Bucket) → IsBucket ms next id b → b.count ≤ length ms
 bucket_few ms next id b h = omega (arith, h.count, count_few id ms)
 
-pub bucket_light : (ms : List Mark) (next : List ℕ) (id : ℕ) (b : Bucket) → AreMarks ms → IsBucket ms next id b → b.weight < 2 ^ 127
+pub bucket_light : (ms : List Mark) (next : List ℕ) (id : ℕ) (b : Bucket) → AreMarks ms → IsBucket ms next id b → b.weight < 2 ^ 63
 bucket_light ms next id b are h = omega (arith, h.weight, weight_light id ms are.each, are.fits)
 
 -- the lists in front of one, dealt one by one
@@ -192,7 +192,7 @@ module _ (ms : List Mark) (base : ℕ) (bs : List Bucket) (next : List ℕ) (k :
   pub deal_few : (place : ℕ) → place < length bs → (bucket_at bs place).count ≤ k
   deal_few place in' = omega (arith, so_many, bucket_few (take k ms) next (base + place) (bucket_at bs place) (h.each place in'))
 
-  pub deal_light : (place : ℕ) → place < length bs → AreMarks ms → (bucket_at bs place).weight + (mark_at ms k).weight < 2 ^ 128
+  pub deal_light : (place : ℕ) → place < length bs → AreMarks ms → (bucket_at bs place).weight + (mark_at ms k).weight < 2 ^ 64
   deal_light place in' are = omega (arith, bucket_light (take k ms) next (base + place) (bucket_at bs place) (are_take k ms are) (h.each place in'), mark_light ms k l are)
 
 -- one list, in no bucket, comes to its mark
@@ -221,7 +221,7 @@ module _ (ms : List Mark) (base : ℕ) (bs : List Bucket) (next : List ℕ) (i :
       let m : MoreAt (base + place) (set ms i far) ms i (mark_at ms i).weight = more_there place in' e in
       omega (arith, b.count, m.count, count_few (base + place) ms)
 
-  pub enter_light : (place : ℕ) → place < length bs → (mark_at ms i).head ≡ base + place → AreMarks ms → (bucket_at bs place).weight + (mark_at ms i).weight < 2 ^ 128
+  pub enter_light : (place : ℕ) → place < length bs → (mark_at ms i).head ≡ base + place → AreMarks ms → (bucket_at bs place).weight + (mark_at ms i).weight < 2 ^ 64
   enter_light place in' e are =
       let b : IsBucket (set ms i far) next (base + place) (bucket_at bs place) = far_dealt.each place in' in
       let m : MoreAt (base + place) (set ms i far) ms i (mark_at ms i).weight = more_there place in' e in

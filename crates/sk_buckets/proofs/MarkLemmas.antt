@@ -1,7 +1,7 @@
 -- Sums over marks, where one is set or comes behind.
 use Rattle.std.proofs.Common.{◌≡◌, ◌≢◌, ◌⊎◌, inl, inr, ⊎_elim, ℕ, zero, suc, ◌<◌, ◌≤◌, ◌+◌, ◌^◌, ◌==◌, cond, List, [], ◌∷◌, ◌++◌, length, set, take, refl, sym, ap, subst, ◌∙◌, arith, All}
 use Rattle.std.proofs.lemmas.Bool.{cases_eq, cases_lt, cond-true, cond-false, eq-eqb, ne_eqb}
-use Rattle.std.proofs.lemmas.List.{get_or-set_same, get_or-set_other, length-set, set-set, set-get_or, get_or_append_left, get_or_push, length_push}
+use Rattle.std.proofs.lemmas.List.{length-take, get_or-set_same, get_or-set_other, length-set, set-set, set-get_or, get_or_append_left, get_or_push, length_push}
 use Rattle.std.proofs.lemmas.List.Elements.{All-head, All-tail, All-set, All-take}
 use Rattle.sk_buckets.specs.declared.mark.Mark.{Mark}
 use Rattle.sk_buckets.specs.Marks.{first_head, weight_at, greatest_of, IsMark, AreMarks}
@@ -213,6 +213,7 @@ module _ (ms : List Mark) (m : Mark) where
 pub are_set : (ms : List Mark) (i : ℕ) (m : Mark) → i < length ms → IsMark m → m.greatest ≤ (mark_at ms i).greatest → AreMarks ms → AreMarks (set ms i m)
 are_set ms i m l is le are = record {
   each = All-set IsMark ms i m is are.each;
+  few = omega (arith, length-set ms i m, are.few);
   fits = omega (arith, greatest-set ms i m l, le, are.fits);
 }
 
@@ -237,7 +238,7 @@ greatest_least [] i l = absurd (omega arith)
 greatest_least (m ∷ ms) zero l = omega arith
 greatest_least (m ∷ ms) (suc i) l = omega (arith, greatest_least ms i (omega arith))
 
-pub mark_light : (ms : List Mark) (i : ℕ) → i < length ms → AreMarks ms → (mark_at ms i).weight < 2 ^ 127
+pub mark_light : (ms : List Mark) (i : ℕ) → i < length ms → AreMarks ms → (mark_at ms i).weight < 2 ^ 63
 mark_light ms i l are =
     let is : IsMark (mark_at ms i) = are.each i _ l in
     omega (arith, greatest_least ms i l, is.light, are.fits)
@@ -249,7 +250,7 @@ greatest-take (suc k) (m ∷ ms) = omega (arith, greatest-take k ms)
 
 -- the first of them
 pub are_take : (k : ℕ) (ms : List Mark) → AreMarks ms → AreMarks (take k ms)
-are_take k ms are = record { each = All-take IsMark k ms are.each; fits = omega (arith, greatest-take k ms, are.fits) }
+are_take k ms are = record { each = All-take IsMark k ms are.each; few = omega (arith, length-take k ms, are.few); fits = omega (arith, greatest-take k ms, are.fits) }
 
 -- where all stand behind an id, none stands there
 count_none : (id : ℕ) (ms : List Mark) → ((i : ℕ) → i < length ms → id < (mark_at ms i).head) → count_at id ms ≡ 0

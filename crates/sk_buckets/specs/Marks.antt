@@ -1,6 +1,6 @@
 -- Where lists stand, and what that gives together.
 -- Source: The first id and the sum at it are those of a merge of lists; that a list never weighs more than its greatest is own.
-use Rattle.std.specs.Prelude.{ℕ, ◌≤◌, ◌<◌, ◌+◌, ◌^◌, ◌==◌, min, List, [], ◌∷◌, All, if◌then◌else◌}
+use Rattle.std.specs.Prelude.{ℕ, ◌≤◌, ◌<◌, ◌+◌, ◌^◌, ◌==◌, min, List, [], ◌∷◌, length, All, if◌then◌else◌}
 use Rattle.sk_buckets.specs.declared.mark.Mark.{Mark}
 
 -- The least id at which one stands; 2 ^ 32 where none does.
@@ -26,4 +26,5 @@ pub record IsMark (m : Mark) : Type 0 where
 -- Marks that can be kept together.
 pub record AreMarks (ms : List Mark) : Type 0 where
   pub each : All IsMark ms
-  pub fits : greatest_of ms < 2 ^ 127
+  pub few : length ms < 2 ^ 32
+  pub fits : greatest_of ms < 2 ^ 63

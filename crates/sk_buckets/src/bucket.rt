@@ -6,9 +6,9 @@ ghost use Rattle.sk_buckets.specs.Dealt.{bucket_at, chain, lists_in, Among, Diff
 /// The lists that stand at one id: how many, the first of their chain, and what they weigh there together.
 #[derive(Clone, Copy)]
 pub(crate) struct Bucket {
-    pub(crate) count: usize,
-    pub(crate) first: usize,
-    pub(crate) weight: u128,
+    pub(crate) count: u32,
+    pub(crate) first: u32,
+    pub(crate) weight: u64,
 }
 
 impl Bucket {
@@ -38,15 +38,16 @@ pub(crate) fn first_filled(buckets: &[Bucket], from: usize) -> usize
 /// Puts a list into the bucket at a place, before the others.
 pub(crate) fn put_in(
     buckets: &mut [Bucket],
-    next: &mut [usize],
+    next: &mut [u32],
     place: usize,
     which: usize,
-    weight: u128,
+    weight: u32,
 )
     requires place { place < length buckets.old }
     requires which { which < length next.old }
-    requires few { (bucket_at buckets.old place).count + 1 < 2 ^ 64 }
-    requires light { (bucket_at buckets.old place).weight + weight < 2 ^ 128 }
+    requires few { which < 2 ^ 32 }
+    requires room { (bucket_at buckets.old place).count + 1 < 2 ^ 32 }
+    requires light { (bucket_at buckets.old place).weight + weight < 2 ^ 64 }
     ensures next { next.new ≡ set next.old which (bucket_at buckets.old place).first }
     ensures bucket { buckets.new ≡ set buckets.old place (record {
       count = (bucket_at buckets.old place).count + 1;
@@ -57,17 +58,17 @@ pub(crate) fn put_in(
     let bucket = &mut buckets[place];
     next[which] = bucket.first;
     bucket.count += 1;
-    bucket.first = which;
-    bucket.weight += weight;
+    bucket.first = which as u32;
+    bucket.weight += u64::from(weight);
 }
 
 /// Takes a list out of the bucket at a place. It takes constant time where the list is the first in there.
 pub(crate) fn take_out(
     buckets: &mut [Bucket],
-    next: &mut [usize],
+    next: &mut [u32],
     place: usize,
     which: usize,
-    weight: u128,
+    weight: u32,
 )
     requires place { place < length buckets.old }
     requires there { Among which (lists_in next.old (bucket_at buckets.old place)) }
@@ -86,11 +87,11 @@ pub(crate) fn take_out(
     let bucket = &mut buckets[place];
     bucket.first = unlink(next, bucket.first, bucket.count, which);
     bucket.count -= 1;
-    bucket.weight -= weight;
+    bucket.weight -= u64::from(weight);
 }
 
 /// Takes a list out of a chain of so many, and says which is the first then.
-fn unlink(next: &mut [usize], first: usize, count: usize, which: usize) -> usize
+fn unlink(next: &mut [u32], first: u32, count: u32, which: usize) -> u32
     requires there { Among which (chain count next.old first) }
     requires within { (i : ℕ) → Among i (chain count next.old first) → i < length next.old }
     requires differ { Differ (chain count next.old first) }
@@ -99,7 +100,7 @@ fn unlink(next: &mut [usize], first: usize, count: usize, which: usize) -> usize
     ensures apart { (n i : ℕ) → Apart (chain n next.old i) (chain count next.old first)
         → chain n next.new i ≡ chain n next.old i }
 {
-    if first == which {
+    if first as usize == which {
         return next[which];
     }
     let before = before(next, first, count, which);
@@ -108,16 +109,16 @@ fn unlink(next: &mut [usize], first: usize, count: usize, which: usize) -> usize
 }
 
 /// The list before one that is not the first of a chain of so many.
-fn before(next: &[usize], first: usize, count: usize, which: usize) -> usize
+fn before(next: &[u32], first: u32, count: u32, which: usize) -> usize
     requires there { Among which (chain count next.now first) }
     requires within { (i : ℕ) → Among i (chain count next.now first) → i < length next.now }
     requires later { first ≢ which }
     ensures there { Among result (chain (count - 1) next.now first) }
     ensures next { slice_index next.now result ≡ which }
 {
-    let mut at = first;
+    let mut at = first as usize;
     'walk: for _ in 1..count {
-        let behind = next[at];
+        let behind = next[at] as usize;
         if behind == which {
             return at;
         }

@@ -22,14 +22,14 @@ const FOR_EACH_LIST: usize = 4;
 #[derive(Drop)]
 pub struct Buckets {
     marks: Vec<Mark>,
-    greatest: u128,
+    greatest: u64,
     // A window of ids, the first of which is `base`, has a bucket for each. The buckets before `at` are empty. A list
     // that stands behind the window is in no bucket.
     base: u64,
     at: usize,
     buckets: Vec<Bucket>,
     // By a list's number, the list that follows it in its bucket.
-    next: Vec<usize>,
+    next: Vec<u32>,
 }
 
 impl Model for Buckets {
@@ -53,7 +53,7 @@ impl Buckets {
     {
         let count = marks.len();
         let mut buckets = vec![in alloc; Bucket::EMPTY; room_for(count)]?;
-        let mut next = vec![in alloc; 0usize; count]?;
+        let mut next = vec![in alloc; 0u32; count]?;
         let greatest = greatest(&marks);
         let base = least_head(&marks);
         deal(&marks, base, &mut buckets, &mut next);
@@ -102,7 +102,7 @@ impl Buckets {
         First {
             head: self.base + self.at as u64,
             weight: bucket.weight,
-            which: bucket.first,
+            which: bucket.first as usize,
         }
     }
 
@@ -121,7 +121,7 @@ impl Buckets {
             &mut self.next,
             which,
         );
-        self.greatest -= self.marks[which].greatest - mark.greatest;
+        self.greatest -= u64::from(self.marks[which].greatest - mark.greatest);
         self.marks[which] = mark;
         enter(
             &self.marks,
@@ -133,7 +133,7 @@ impl Buckets {
     }
 
     /// What all can weigh together. It is kept, and not counted.
-    pub fn greatest(&self) -> u128
+    pub fn greatest(&self) -> u64
         ensures { result ≡ greatest_of self.now }
     {
         self.greatest

@@ -19,13 +19,13 @@ pub(crate) fn least_head(marks: &[Mark]) -> u64
 }
 
 /// What all can weigh together.
-pub(crate) fn greatest(marks: &[Mark]) -> u128
-    requires { greatest_of marks.now < 2 ^ 127 }
+pub(crate) fn greatest(marks: &[Mark]) -> u64
+    requires { greatest_of marks.now < 2 ^ 63 }
     ensures { result ≡ greatest_of marks.now }
 {
     let mut greatest = 0;
     for mark in marks {
-        greatest += mark.greatest;
+        greatest += u64::from(mark.greatest);
     }
     greatest
 }
@@ -41,7 +41,7 @@ fn place_of(buckets: &[Bucket], base: u64, id: u64) -> Option<usize>
 }
 
 /// Deals all lists out into empty buckets, the first one for the id `base`.
-pub(crate) fn deal(marks: &[Mark], base: u64, buckets: &mut [Bucket], next: &mut [usize])
+pub(crate) fn deal(marks: &[Mark], base: u64, buckets: &mut [Bucket], next: &mut [u32])
     requires are { AreMarks marks.now }
     requires from { AllFrom base marks.now }
     requires long { length next.old ≡ length marks.now }
@@ -64,7 +64,7 @@ pub(crate) fn advance(
     base: u64,
     at: usize,
     buckets: &mut [Bucket],
-    next: &mut [usize],
+    next: &mut [u32],
 ) -> (u64, usize)
     requires are { AreMarks marks.now }
     requires some { 0 < length marks.now }
@@ -94,7 +94,7 @@ pub(crate) fn leave(
     marks: &[Mark],
     base: u64,
     buckets: &mut [Bucket],
-    next: &mut [usize],
+    next: &mut [u32],
     which: usize,
 )
     requires are { AreMarks marks.now }
@@ -117,7 +117,7 @@ pub(crate) fn enter(
     marks: &[Mark],
     base: u64,
     buckets: &mut [Bucket],
-    next: &mut [usize],
+    next: &mut [u32],
     which: usize,
 )
     requires are { AreMarks marks.now }

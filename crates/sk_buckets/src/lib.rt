@@ -7,4 +7,4 @@ mod deal;
 mod mark;
 
 pub use buckets::Buckets;
-pub use mark::{END, First, Mark};
+pub use mark::{END, First, MOST_LISTS, Mark};

@@ -12,8 +12,9 @@ use Rattle.sk_buckets.specs.declared.mark.Mark.{Mark}
 use Rattle.sk_buckets.specs.Marks.{first_head, weight_at, greatest_of, IsMark, AreMarks}
 use Rattle.sk_nodes.specs.declared.top.Top.{Top}
 use Rattle.sk_nodes.specs.declared.leaf.Leaf.{Leaf}
+use Rattle.sk_nodes.specs.declared.wdfs.Wdfs.{Wdfs}
 use Rattle.sk_nodes.specs.Leaves.{leaf_rest, leaf_unread, IsLeafOn}
-use Rattle.sk_nodes.specs.Shapes.{Shape, ended, leaf, or_many, Sides, side, sizes_in, top_at, merged}
+use Rattle.sk_nodes.specs.Shapes.{Shape, ended, leaf, or_many, Sides, side, sizes_in, top_at, leaf_at, merged}
 use Rattle.sk_nodes.specs.Left.{rest, rests, from_on, unread_in, greatest_sum}
 use Rattle.sk_nodes.specs.Sound.{IsTop, IsMany, Sound, AreSound, Lands}
 use Rattle.sk_nodes.specs.Skips.{WeighsBelow}
@@ -32,7 +33,7 @@ use Rattle.sk_nodes.proofs.OrManyLaws.{or_top, head_first, head_second, head_bot
 
 -- ---- marks
 
-pub merged_greatest : (ms : List Mark) (ls : List Leaf) → greatest_sum (merged ms ls) ≡ greatest_of ms
+pub merged_greatest : (ms : List Mark) (ls : List Wdfs) → greatest_sum (merged ms ls) ≡ greatest_of ms
 merged_greatest [] ls = refl
 merged_greatest (m ∷ ms) [] = let more = merged_greatest ms [] in omega (arith, more)
 merged_greatest (m ∷ ms) (l ∷ ls) = let more = merged_greatest ms ls in omega (arith, more)
@@ -40,15 +41,15 @@ merged_greatest (m ∷ ms) (l ∷ ls) = let more = merged_greatest ms ls in omeg
 is_mark : (i : Indexed) (m : Mark) (s : Shape) → IsTop i (top_at m) s → IsMark m
 is_mark i m s top = record { within = top.head.within; light = weight_le i (top_at m) s top }
 
-pub mark_at : (i : Indexed) (ms : List Mark) (ls : List Leaf) → AreSound i (merged ms ls) → (k : ℕ) (d : Mark) → k < length ms → IsMark (slice_index_or ms k d)
+pub mark_at : (i : Indexed) (ms : List Mark) (ls : List Wdfs) → AreSound i (merged ms ls) → (k : ℕ) (d : Mark) → k < length ms → IsMark (slice_index_or ms k d)
 mark_at i [] ls sound k d lt = absurd (omega (arith, lt))
 mark_at i (m ∷ ms) [] sound zero d lt = is_mark i m ended sound.top
 mark_at i (m ∷ ms) [] sound (suc k) d lt = mark_at i ms [] sound.others k d (omega (arith, lt))
-mark_at i (m ∷ ms) (l ∷ ls) sound zero d lt = is_mark i m (leaf l) sound.top
+mark_at i (m ∷ ms) (l ∷ ls) sound zero d lt = is_mark i m (leaf (leaf_at m l)) sound.top
 mark_at i (m ∷ ms) (l ∷ ls) sound (suc k) d lt = mark_at i ms ls sound.others k d (omega (arith, lt))
 
-pub are_marks : (i : Indexed) (ms : List Mark) (ls : List Leaf) → AreSound i (merged ms ls) → greatest_sum (merged ms ls) < 2 ^ 127 → AreMarks ms
-are_marks i ms ls sound fits = record { each = mark_at i ms ls sound; fits = omega (arith, fits, merged_greatest ms ls) }
+pub are_marks : (i : Indexed) (ms : List Mark) (ls : List Wdfs) → AreSound i (merged ms ls) → length ms < 2 ^ 32 → greatest_sum (merged ms ls) < 2 ^ 63 → AreMarks ms
+are_marks i ms ls sound few fits = record { each = mark_at i ms ls sound; few = few; fits = omega (arith, fits, merged_greatest ms ls) }
 
 -- nothing stands at an id
 none_there : (head weight : ℕ) → head < 2 ^ 32 → IsHead head weight (λ id. None) → ⊥
@@ -58,7 +59,7 @@ none_there head weight lt h = cc_none (h.at lt)
     cc_none e = cc
 
 -- a list that stands at an id has a leaf
-pub has_leaf : (i : Indexed) (ms : List Mark) (ls : List Leaf) (k : ℕ) → AreSound i (merged ms ls) → k < length ms → ((d : Mark) → (slice_index_or ms k d).head < 2 ^ 32) → k < length ls
+pub has_leaf : (i : Indexed) (ms : List Mark) (ls : List Wdfs) (k : ℕ) → AreSound i (merged ms ls) → k < length ms → ((d : Mark) → (slice_index_or ms k d).head < 2 ^ 32) → k < length ls
 has_leaf i [] ls k sound lt there = absurd (omega (arith, lt))
 has_leaf i (m ∷ ms) [] zero sound lt there = absurd (none_there m.head m.weight (there m) sound.top.head)
 has_leaf i (m ∷ ms) [] (suc k) sound lt there = let more = has_leaf i ms [] k sound.others (omega (arith, lt)) there in absurd (omega (arith, more))
@@ -108,42 +109,42 @@ first_more m ms f g one others =
           ]
     ]
 
-pub first_is : (i : Indexed) (ms : List Mark) (ls : List Leaf) → AreSound i (merged ms ls) → IsHead (first_head ms) (weight_at (first_head ms) ms) (rest i (or_many (merged ms ls)))
+pub first_is : (i : Indexed) (ms : List Mark) (ls : List Wdfs) → AreSound i (merged ms ls) → IsHead (first_head ms) (weight_at (first_head ms) ms) (rest i (or_many (merged ms ls)))
 first_is i [] ls sound = none_head
 first_is i (m ∷ ms) [] sound = first_more m ms (rest i ended) (rest i (or_many (merged ms []))) sound.top.head (first_is i ms [] sound.others)
-first_is i (m ∷ ms) (l ∷ ls) sound = first_more m ms (rest i (leaf l)) (rest i (or_many (merged ms ls))) sound.top.head (first_is i ms ls sound.others)
+first_is i (m ∷ ms) (l ∷ ls) sound = first_more m ms (rest i (leaf (leaf_at m l))) (rest i (or_many (merged ms ls))) sound.top.head (first_is i ms ls sound.others)
 
 -- as the queue answers it
-pub first_there : (i : Indexed) (ms : List Mark) (ls : List Leaf) (head weight : ℕ) → AreSound i (merged ms ls) → head ≡ first_head ms → weight ≡ weight_at head ms → IsHead head weight (rest i (or_many (merged ms ls)))
+pub first_there : (i : Indexed) (ms : List Mark) (ls : List Wdfs) (head weight : ℕ) → AreSound i (merged ms ls) → head ≡ first_head ms → weight ≡ weight_at head ms → IsHead head weight (rest i (or_many (merged ms ls)))
 first_there i ms ls head weight sound at weighs =
     head_is head (first_head ms) weight (weight_at (first_head ms) ms) (rest i (or_many (merged ms ls))) at (weighs ∙ ap (λ h. weight_at h ms) at) (first_is i ms ls sound)
 
-pub first_ended : (i : Indexed) (ms : List Mark) (ls : List Leaf) (head : ℕ) → AreSound i (merged ms ls) → head ≡ first_head ms → 2 ^ 32 ≤ head → IsHead (2 ^ 32) 0 (rest i (or_many (merged ms ls)))
+pub first_ended : (i : Indexed) (ms : List Mark) (ls : List Wdfs) (head : ℕ) → AreSound i (merged ms ls) → head ≡ first_head ms → 2 ^ 32 ≤ head → IsHead (2 ^ 32) 0 (rest i (or_many (merged ms ls)))
 first_ended i ms ls head sound at end =
     let h = first_is i ms ls sound in
     let over : first_head ms ≡ 2 ^ 32 = omega (arith, at, end, h.within) in
     head_is (2 ^ 32) (first_head ms) 0 (weight_at (first_head ms) ms) (rest i (or_many (merged ms ls))) (sym over) (sym (h.ended over)) h
 
 -- the top of all
-pub first_top : (i : Indexed) (ms : List Mark) (ls : List Leaf) (head weight greatest : ℕ) → AreSound i (merged ms ls) → head ≡ first_head ms → weight ≡ weight_at head ms → greatest ≡ greatest_of ms → head < 2 ^ 32
+pub first_top : (i : Indexed) (ms : List Mark) (ls : List Wdfs) (head weight greatest : ℕ) → AreSound i (merged ms ls) → head ≡ first_head ms → weight ≡ weight_at head ms → greatest ≡ greatest_of ms → head < 2 ^ 32
     → IsTop i (record { head = head; weight = weight; greatest = greatest }) (or_many (merged ms ls))
 first_top i ms ls head weight greatest sound at weighs much small =
     or_top i (merged ms ls) (record { head = head; weight = weight; greatest = greatest }) sound (first_there i ms ls head weight sound at weighs) (λ lt. omega (arith, much, merged_greatest ms ls)) (λ end. absurd (omega (arith, end, small)))
 
-pub first_gone : (i : Indexed) (ms : List Mark) (ls : List Leaf) (head : ℕ) → AreSound i (merged ms ls) → head ≡ first_head ms → 2 ^ 32 ≤ head → IsTop i (record { head = 2 ^ 32; weight = 0; greatest = 0 }) (or_many (merged ms ls))
+pub first_gone : (i : Indexed) (ms : List Mark) (ls : List Wdfs) (head : ℕ) → AreSound i (merged ms ls) → head ≡ first_head ms → 2 ^ 32 ≤ head → IsTop i (record { head = 2 ^ 32; weight = 0; greatest = 0 }) (or_many (merged ms ls))
 first_gone i ms ls head sound at end =
     or_top i (merged ms ls) (record { head = 2 ^ 32; weight = 0; greatest = 0 }) sound (first_ended i ms ls head sound at end) (λ lt. absurd (omega (arith, lt))) (λ same. refl)
 
 -- ---- one list moved on
 
-pub leaf_sought : (i : Indexed) (target most before after steps more : ℕ) (old new : Leaf) (t u : Top) → u ≡ t → Lands i target 0 (leaf old) (leaf new) t → t.greatest ≤ most → Spends (leaf_unread i old) (leaf_unread i new) before after steps more
-    → WasSought i target 0 most before after steps more (leaf old) (leaf new) u
-leaf_sought i target most before after steps more old new t u same lands falls spends = record {
-  lands = subst (λ (v : Top). Lands i target 0 (leaf old) (leaf new) v) (sym same) lands;
-  falls = omega (arith, falls, ap (λ (v : Top). v.greatest) same);
-  smaller = omega arith;
-  spends = spends;
-}
+pub one_accounts : (i : Indexed) (target before after : ℕ) (m n : Mark) (old : Wdfs) (new : Leaf) → m ≡ n → Accounts i target 0 before after (leaf (leaf_at m old)) (leaf new) → Accounts i target 0 before after (leaf (leaf_at n old)) (leaf new)
+one_accounts i target before after m n old new same accounts = subst (λ (k : Mark). Accounts i target 0 before after (leaf (leaf_at k old)) (leaf new)) same accounts
+
+pub one_sought : (i : Indexed) (target before after steps more : ℕ) (m n o : Mark) (old new : Wdfs) → m ≡ n → o.greatest ≤ m.greatest → Lands i target 0 (leaf (leaf_at m old)) (leaf (leaf_at o new)) (top_at o)
+    → Spends (leaf_unread i (leaf_at m old)) (leaf_unread i (leaf_at o new)) before after steps more → WasSought i target 0 n.greatest before after steps more (leaf (leaf_at n old)) (leaf (leaf_at o new)) (top_at o)
+one_sought i target before after steps more m n o old new same falls lands spends =
+    subst (λ (k : Mark). WasSought i target 0 k.greatest before after steps more (leaf (leaf_at k old)) (leaf (leaf_at o new)) (top_at o)) same
+    (record { lands = lands; falls = falls; smaller = omega arith; spends = spends })
 
 module _ (i : Indexed) where
   -- the first side was not moved
@@ -155,52 +156,54 @@ module _ (i : Indexed) where
     kept = kept_first i target before before after t s ss t s rs (accounts_same i target 0 before s) moved.kept;
   }
 
-  pub top_of_one : (ms : List Mark) (ls : List Leaf) (k : ℕ) (m : Mark) (d : Leaf) → AreSound i (merged ms ls) → k < length ms → k < length ls → IsTop i (top_at (slice_index_or ms k m)) (leaf (slice_index_or ls k d)) × IsLeafOn i (slice_index_or ls k d)
+  pub top_of_one : (ms : List Mark) (ls : List Wdfs) (k : ℕ) (m : Mark) (d : Wdfs) → AreSound i (merged ms ls) → k < length ms → k < length ls → IsTop i (top_at (slice_index_or ms k m)) (leaf (leaf_at (slice_index_or ms k m) (slice_index_or ls k d))) × IsLeafOn i (leaf_at (slice_index_or ms k m) (slice_index_or ls k d))
   top_of_one [] ls k m d sound lt less = absurd (omega (arith, lt))
   top_of_one (n ∷ ms) [] k m d sound lt less = absurd (omega (arith, less))
   top_of_one (n ∷ ms) (o ∷ ls) zero m d sound lt less = (sound.top, sound.sound)
   top_of_one (n ∷ ms) (o ∷ ls) (suc k) m d sound lt less = top_of_one ms ls k m d sound.others (omega (arith, lt)) (omega (arith, less))
 
-  pub moved_one : (target before after steps more : ℕ) (ms : List Mark) (ls : List Leaf) (k : ℕ) (m : Mark) (l d : Leaf) → AreSound i (merged ms ls) → k < length ms → k < length ls
-      → WasSought i target 0 (slice_index_or ms k m).greatest before after steps more (leaf (slice_index_or ls k d)) (leaf l) (top_at m) → Accounts i target 0 before after (leaf (slice_index_or ls k d)) (leaf l)
+  pub moved_one : (target before after steps more : ℕ) (ms : List Mark) (ls : List Wdfs) (k : ℕ) (m : Mark) (l d : Wdfs) → AreSound i (merged ms ls) → k < length ms → k < length ls
+      → WasSought i target 0 (slice_index_or ms k m).greatest before after steps more (leaf (leaf_at (slice_index_or ms k m) (slice_index_or ls k d))) (leaf (leaf_at m l)) (top_at m) → Accounts i target 0 before after (leaf (leaf_at (slice_index_or ms k m) (slice_index_or ls k d))) (leaf (leaf_at m l))
       → AreMoved i target before after (merged ms ls) (merged (set ms k m) (set ls k l))
   moved_one target before after steps more [] ls k m l d sound lt less sought accounts = absurd (omega (arith, lt))
   moved_one target before after steps more (n ∷ ms) [] k m l d sound lt less sought accounts = absurd (omega (arith, less))
   moved_one target before after steps more (n ∷ ms) (o ∷ ls) zero m l d sound lt less sought accounts =
-      moved_first i target before after after steps more (top_at n) (leaf o) (merged ms ls) (top_at m) (leaf l) (merged ms ls) sought accounts
+      moved_first i target before after after steps more (top_at n) (leaf (leaf_at n o)) (merged ms ls) (top_at m) (leaf (leaf_at m l)) (merged ms ls) sought accounts
       (record { sound = sound.others; falls = le_refl (greatest_sum (merged ms ls)); smaller = le_refl (sizes_in (merged ms ls)); kept = kept_same i target after (merged ms ls) })
   moved_one target before after steps more (n ∷ ms) (o ∷ ls) (suc k) m l d sound lt less sought accounts =
-      moved_other target before after (top_at n) (leaf o) (merged ms ls) (merged (set ms k m) (set ls k l)) sound.top sound.sound
+      moved_other target before after (top_at n) (leaf (leaf_at n o)) (merged ms ls) (merged (set ms k m) (set ls k l)) sound.top sound.sound
       (moved_one target before after steps more ms ls k m l d sound.others (omega (arith, lt)) (omega (arith, less)) sought accounts)
 
-  pub same_one : (target id : ℕ) (ms : List Mark) (ls : List Leaf) (k : ℕ) (m : Mark) (l d : Leaf) → k < length ms → k < length ls
-      → Covers (from_on target (rest i (leaf (slice_index_or ls k d)))) (rest i (leaf l)) 0 → target ≤ id → rests i (merged (set ms k m) (set ls k l)) id ≡ rests i (merged ms ls) id
+  pub same_one : (target id : ℕ) (ms : List Mark) (ls : List Wdfs) (k : ℕ) (m : Mark) (l d : Wdfs) → k < length ms → k < length ls
+      → Covers (from_on target (rest i (leaf (leaf_at (slice_index_or ms k m) (slice_index_or ls k d))))) (rest i (leaf (leaf_at m l))) 0 → target ≤ id → rests i (merged (set ms k m) (set ls k l)) id ≡ rests i (merged ms ls) id
   same_one target id [] ls k m l d lt less covers le = absurd (omega (arith, lt))
   same_one target id (n ∷ ms) [] k m l d lt less covers le = absurd (omega (arith, less))
-  same_one target id (n ∷ ms) (o ∷ ls) zero m l d lt less covers le = same_side i target id (top_at n) (leaf o) (merged ms ls) (top_at m) (leaf l) (merged ms ls) covers refl le
-  same_one target id (n ∷ ms) (o ∷ ls) (suc k) m l d lt less covers le = ap (λ (xs : List (Option ℕ)). rest i (leaf o) id ∷ xs) (same_one target id ms ls k m l d (omega (arith, lt)) (omega (arith, less)) covers le)
+  same_one target id (n ∷ ms) (o ∷ ls) zero m l d lt less covers le = same_side i target id (top_at n) (leaf (leaf_at n o)) (merged ms ls) (top_at m) (leaf (leaf_at m l)) (merged ms ls) covers refl le
+  same_one target id (n ∷ ms) (o ∷ ls) (suc k) m l d lt less covers le = ap (λ (xs : List (Option ℕ)). rest i (leaf (leaf_at n o)) id ∷ xs) (same_one target id ms ls k m l d (omega (arith, lt)) (omega (arith, less)) covers le)
 
-  unread_one : (ms : List Mark) (ls : List Leaf) (k : ℕ) (m : Mark) (l d : Leaf) → k < length ms → k < length ls
-      → unread_in i (merged (set ms k m) (set ls k l)) + leaf_unread i (slice_index_or ls k d) ≡ unread_in i (merged ms ls) + leaf_unread i l
+  unread_one : (ms : List Mark) (ls : List Wdfs) (k : ℕ) (m : Mark) (l d : Wdfs) → k < length ms → k < length ls
+      → unread_in i (merged (set ms k m) (set ls k l)) + leaf_unread i (leaf_at (slice_index_or ms k m) (slice_index_or ls k d)) ≡ unread_in i (merged ms ls) + leaf_unread i (leaf_at m l)
   unread_one [] ls k m l d lt less = absurd (omega (arith, lt))
   unread_one (n ∷ ms) [] k m l d lt less = absurd (omega (arith, less))
   unread_one (n ∷ ms) (o ∷ ls) zero m l d lt less = omega arith
   unread_one (n ∷ ms) (o ∷ ls) (suc k) m l d lt less = let more = unread_one ms ls k m l d (omega (arith, lt)) (omega (arith, less)) in omega (arith, more)
 
-  unread_within : (ms : List Mark) (ls : List Leaf) (k : ℕ) (d : Leaf) → k < length ms → k < length ls → leaf_unread i (slice_index_or ls k d) ≤ unread_in i (merged ms ls)
-  unread_within [] ls k d lt less = absurd (omega (arith, lt))
-  unread_within (n ∷ ms) [] k d lt less = absurd (omega (arith, less))
-  unread_within (n ∷ ms) (o ∷ ls) zero d lt less = omega arith
-  unread_within (n ∷ ms) (o ∷ ls) (suc k) d lt less = let more = unread_within ms ls k d (omega (arith, lt)) (omega (arith, less)) in omega (arith, more)
+  unread_within : (ms : List Mark) (ls : List Wdfs) (k : ℕ) (m : Mark) (d : Wdfs) → k < length ms → k < length ls → leaf_unread i (leaf_at (slice_index_or ms k m) (slice_index_or ls k d)) ≤ unread_in i (merged ms ls)
+  unread_within [] ls k m d lt less = absurd (omega (arith, lt))
+  unread_within (n ∷ ms) [] k m d lt less = absurd (omega (arith, less))
+  unread_within (n ∷ ms) (o ∷ ls) zero m d lt less = omega arith
+  unread_within (n ∷ ms) (o ∷ ls) (suc k) m d lt less = let more = unread_within ms ls k m d (omega (arith, lt)) (omega (arith, less)) in omega (arith, more)
 
   -- as a move takes them, and gives them
-  pub top_one : (ms : List Mark) (ls : List Leaf) (k : ℕ) (m : Mark) (t : Top) (d : Leaf) → t ≡ top_at (slice_index_or ms k m) → AreSound i (merged ms ls) → k < length ms → k < length ls → IsTop i t (leaf (slice_index_or ls k d))
-  top_one ms ls k m t d is sound lt less = subst (λ (u : Top). IsTop i u (leaf (slice_index_or ls k d))) (sym is) (top_of_one ms ls k m d sound lt less).0
+  pub top_one : (ms : List Mark) (ls : List Wdfs) (k : ℕ) (m o : Mark) (d : Wdfs) → m ≡ slice_index_or ms k o → AreSound i (merged ms ls) → k < length ms → k < length ls
+      → IsTop i (top_at m) (leaf (leaf_at m (slice_index_or ls k d))) × IsLeafOn i (leaf_at m (slice_index_or ls k d))
+  top_one ms ls k m o d is sound lt less =
+      subst (λ (n : Mark). IsTop i (top_at n) (leaf (leaf_at n (slice_index_or ls k d))) × IsLeafOn i (leaf_at n (slice_index_or ls k d))) (sym is) (top_of_one ms ls k o d sound lt less)
 
-  pub room_one : (ms : List Mark) (ls : List Leaf) (k spent room : ℕ) (d : Leaf) → k < length ms → k < length ls → spent + unread_in i (merged ms ls) < room → spent + leaf_unread i (slice_index_or ls k d) < room
-  room_one ms ls k spent room d lt less fits = omega (arith, unread_within ms ls k d lt less, fits)
+  pub room_one : (ms : List Mark) (ls : List Wdfs) (k spent room : ℕ) (m : Mark) (d : Wdfs) → k < length ms → k < length ls → spent + unread_in i (merged ms ls) < room → spent + leaf_unread i (leaf_at (slice_index_or ms k m) (slice_index_or ls k d)) < room
+  room_one ms ls k spent room m d lt less fits = omega (arith, unread_within ms ls k m d lt less, fits)
 
-  pub spends_one : (ms : List Mark) (ls : List Leaf) (k : ℕ) (m : Mark) (l d : Leaf) (before after steps more : ℕ) → k < length ms → k < length ls → Spends (leaf_unread i (slice_index_or ls k d)) (leaf_unread i l) before after steps more
+  pub spends_one : (ms : List Mark) (ls : List Wdfs) (k : ℕ) (m : Mark) (l d : Wdfs) (before after steps more : ℕ) → k < length ms → k < length ls → Spends (leaf_unread i (leaf_at (slice_index_or ms k m) (slice_index_or ls k d))) (leaf_unread i (leaf_at m l)) before after steps more
       → Spends (unread_in i (merged ms ls)) (unread_in i (merged (set ms k m) (set ls k l))) before after steps more
   spends_one ms ls k m l d before after steps more lt less spends = record { paid = omega (arith, unread_one ms ls k m l d lt less, spends.paid); counted = spends.counted; later = spends.later }
 
@@ -298,7 +301,7 @@ module _ (i : Indexed) (target need before : ℕ) (ss0 : Sides) where
   }
 
   -- one of those in the queue moved on, as a move takes them and gives them
-  pub merge_moved_one : (from between after : ℕ) (t : Top) (l : Leaf) (ms qs ns : List Mark) (ls ks ps rs : List Leaf) → qs ≡ ms → ks ≡ ls → rs ≡ ps → MergeSoFar i target need from before between ss0 (side t (leaf l) (merged ms ls))
+  pub merge_moved_one : (from between after : ℕ) (t : Top) (l : Leaf) (ms qs ns : List Mark) (ls ks ps rs : List Wdfs) → qs ≡ ms → ks ≡ ls → rs ≡ ps → MergeSoFar i target need from before between ss0 (side t (leaf l) (merged ms ls))
       → AreMoved i from between after (merged qs ks) (merged ns ps) → ((id : ℕ) → from ≤ id → rests i (merged ns ps) id ≡ rests i (merged qs ks) id) → MergeSoFar i target need from before after ss0 (side t (leaf l) (merged ns rs))
   merge_moved_one from between after t l ms qs ns ls ks ps rs eq ek er far moved same =
       let was : merged qs ks ≡ merged ms ls = λ j. merged (eq j) (ek j) in

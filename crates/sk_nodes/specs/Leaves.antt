@@ -62,6 +62,14 @@ WeighBelow factor scheme need_wdf need = (w : ℕ) → w < need_wdf → weigh_by
 abbrev pub AtMost : ℕ → (ℕ → Option ℕ) → Type 0
 AtMost greatest f = (id : ℕ) → unwrap_or (f id) 0 ≤ greatest
 
+-- A leaf was opened over a list, and sought under no need.
+pub record IsFresh (list : ListOf) (by : Scheme) (times : ℕ) (l : Leaf) : Type 0 where
+  pub source : l.source ≡ list
+  pub scheme : l.scheme ≡ by
+  pub factor : l.factor ≡ times
+  pub need_wdf : l.need_wdf ≡ 0
+  pub need : l.need ≡ 0
+
 -- A leaf stands on its list.
 pub record IsLeafOn (i : Indexed) (l : Leaf) : Type 0 where
   pub there : IsThere l.source i.terms

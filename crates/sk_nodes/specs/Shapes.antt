@@ -5,6 +5,8 @@ use Rattle.sk_query.specs.declared.form.Form.{Form}
 use Rattle.sk_buckets.specs.declared.mark.Mark.{Mark}
 use Rattle.sk_nodes.specs.declared.top.Top.{Top}
 use Rattle.sk_nodes.specs.declared.leaf.Leaf.{Leaf}
+use Rattle.sk_nodes.specs.declared.leaf.ListOf.{ListOf}
+use Rattle.sk_nodes.specs.declared.wdfs.Wdfs.{Wdfs}
 use Rattle.sk_nodes.specs.declared.range_node.RangeNode.{RangeNode}
 use Rattle.sk_nodes.specs.declared.proximity.Proximity.{Proximity}
 use Rattle.sk_nodes.specs.declared.merge.Merge.{Merge}
@@ -38,11 +40,15 @@ sides_of (t ∷ ts) (s ∷ ss) = side t s (sides_of ts ss)
 abbrev pub top_at : Mark → Top
 top_at m = record { head = m.head; weight = m.weight; greatest = m.greatest }
 
+-- A list of wdfs with its mark, as a leaf.
+abbrev pub leaf_at : Mark → Wdfs → Leaf
+leaf_at m w = record { source = ListOf.Term w.number; scheme = Scheme.Nnn; factor = 1; cursor = w.cursor; need_wdf = 0; need = 0; greatest = m.greatest }
+
 -- Lists with their marks as sides. A mark without a list is a side that gives nothing.
-abbrev pub merged : List Mark → List Leaf → Sides
-merged [] ls = no_sides
+abbrev pub merged : List Mark → List Wdfs → Sides
+merged [] ws = no_sides
 merged (m ∷ ms) [] = side (top_at m) ended (merged ms [])
-merged (m ∷ ms) (l ∷ ls) = side (top_at m) (leaf l) (merged ms ls)
+merged (m ∷ ms) (w ∷ ws) = side (top_at m) (leaf (leaf_at m w)) (merged ms ws)
 
 -- All lists of a merge, the longest before the others.
 abbrev pub gathered : Merge → Sides

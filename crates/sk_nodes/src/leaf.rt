@@ -5,7 +5,7 @@ ghost use Rattle.sk_sorted.specs.Runs.{flat};
 ghost use Rattle.sk_lists.specs.Seeks.{count_to};
 ghost use Rattle.sk_index.specs.Indexed.{Indexed};
 ghost use Rattle.sk_nodes.specs.Accounts.{Spends};
-ghost use Rattle.sk_nodes.specs.Leaves.{list_in, runs_of, weighed, leaf_rest, leaf_unread, leaf_greatest, IsThere, entries_of, head_of, AtMost, IsLeafOn, WeighBelow};
+ghost use Rattle.sk_nodes.specs.Leaves.{list_in, runs_of, weighed, leaf_rest, leaf_unread, leaf_greatest, IsThere, IsFresh, entries_of, head_of, AtMost, IsLeafOn, WeighBelow};
 ghost use Rattle.sk_nodes.specs.Sound.{IsTop, Lands};
 ghost use Rattle.sk_nodes.specs.Begun.{Yields, OpensLone, Begins};
 ghost use Rattle.sk_nodes.specs.Shapes.{leaf};
@@ -62,6 +62,7 @@ impl Leaf {
         requires factor { factor ≤ 65536 }
         requires documents { AreSorted index.now.live.documents }
         requires room { spent.old + length (list_in index.now source) < 2 ^ 128 }
+        ensures fresh { IsFresh source scheme factor result }
         ensures yields { Yields index.now top.new (leaf result) (weighed factor scheme (list_in index.now source)) (leaf_greatest factor scheme (list_in index.now source)) }
         ensures lone { OpensLone index.now top.new (leaf result) (length (list_in index.now source)) spent.old spent.new }
         ensures begun { Begins index.now top.new (leaf result) (list_in index.now source) (leaf_greatest factor scheme (list_in index.now source)) }
@@ -82,6 +83,13 @@ impl Leaf {
         *spent += u128::from(length.min(1));
         leaf.show(top);
         leaf
+    }
+
+    /// Its place in the list.
+    pub(crate) fn into_cursor(self) -> Cursor
+        ensures { result ≡ self.cursor }
+    {
+        self.cursor
     }
 
     /// Moves on to the first entry from the target on; it may pass over what weighs less than the need.

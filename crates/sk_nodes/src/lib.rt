@@ -14,6 +14,7 @@ mod range_node;
 mod repeats;
 mod skip;
 mod top;
+mod wdfs;
 mod xor_many;
 
 pub use begun::{
@@ -25,5 +26,6 @@ pub use moves::reach;
 pub use node::Node;
 pub use proximity::{Proximity, ProximityKind};
 pub use range_node::{RangeNode, skip_behind};
-pub use sk_buckets::Mark;
+pub use sk_buckets::{MOST_LISTS, Mark};
 pub use top::{END, Top};
+pub use wdfs::Wdfs;

@@ -7,6 +7,7 @@ ghost use Rattle.sk_decay.specs.Heads.{IsHead};
 ghost use Rattle.sk_buckets.specs.declared.mark.Mark.{Mark};
 ghost use Rattle.sk_buckets.specs.Marks.{greatest_of};
 ghost use Rattle.sk_nodes.specs.declared.leaf.Leaf.{Leaf};
+ghost use Rattle.sk_nodes.specs.declared.wdfs.Wdfs.{Wdfs};
 ghost use Rattle.sk_nodes.specs.Accounts.{Spends};
 ghost use Rattle.sk_nodes.specs.Leaves.{IsLeafOn, leaf_rest, leaf_unread};
 ghost use Rattle.sk_nodes.specs.Shapes.{Sides, leaf, side, or_many, shape_of, top_at, merged, gathered};
@@ -20,6 +21,7 @@ ghost use Rattle.sk_nodes.specs.Merge.{ids_left, IsWithin};
 use crate::leaf::{Block, Leaf};
 use crate::node::Node;
 use crate::top::{END, Top};
+use crate::wdfs::Wdfs;
 use sk_base::Weight;
 use sk_buckets::{Buckets, Mark};
 use sk_decay::Head;
@@ -34,39 +36,35 @@ pub struct Merge {
     longest_top: Top,
     longest: Leaf,
     queue: Buckets,
-    leaves: Vec<Leaf>,
+    leaves: Vec<Wdfs>,
 }
 
 /// A top as a mark.
-#[inline(always)]
 pub fn mark_of(top: &Top) -> Mark
+    requires light { top.now.weight ≤ top.now.greatest }
+    requires small { top.now.greatest < 2 ^ 32 }
     ensures { top_at result ≡ top.now }
 {
     Mark {
         head: top.head,
-        weight: top.weight,
-        greatest: top.greatest,
+        weight: top.weight as u32,
+        greatest: top.greatest as u32,
     }
 }
 
-/// Where one of the lists stands, as a top.
+/// Where one of the lists stands.
 #[inline(always)]
-fn top_of(queue: &Buckets, which: usize) -> Top
+fn mark_at(queue: &Buckets, which: usize) -> Mark
     requires { which < length queue.now }
-    ensures { (d : Mark) → result ≡ top_at (slice_index_or queue.now which d) }
+    ensures { (d : Mark) → result ≡ slice_index_or queue.now which d }
 {
-    let mark = &queue.marks()[which];
-    Top {
-        head: mark.head,
-        weight: mark.weight,
-        greatest: mark.greatest,
-    }
+    queue.marks()[which]
 }
 
 /// Where the first of the lists in the queue stand, as a top, and one of them.
 fn first_top(queue: &mut Buckets) -> (Top, usize)
     ensures same { queue.new ≡ queue.old }
-    ensures top { (i : Indexed) (ls : List Leaf) → AreSound i (merged queue.old ls) → IsTop i result.0 (or_many (merged queue.old ls)) }
+    ensures top { (i : Indexed) (ls : List Wdfs) → AreSound i (merged queue.old ls) → IsTop i result.0 (or_many (merged queue.old ls)) }
     ensures bound { result.0.greatest ≤ greatest_of queue.old }
     ensures there { result.0.head < 2 ^ 32 → result.1 < length queue.old }
     ensures which { result.0.head < 2 ^ 32 → (d : Mark) → (slice_index_or queue.old result.1 d).head ≡ result.0.head }
@@ -77,8 +75,8 @@ fn first_top(queue: &mut Buckets) -> (Top, usize)
     }
     let top = Top {
         head: first.head,
-        weight: first.weight,
-        greatest: queue.greatest(),
+        weight: Weight::from(first.weight),
+        greatest: Weight::from(queue.greatest()),
     };
     (top, first.which)
 }
@@ -188,10 +186,11 @@ pub fn merge_of(
     longest_top: Top,
     longest: Leaf,
     marks: Vec<Mark>,
-    leaves: Vec<Leaf>,
+    leaves: Vec<Wdfs>,
 ) -> Result<(Top, Node), AllocError>
     requires sound { AreSound index.now (side longest_top (leaf longest) (merged marks.items leaves.items)) }
-    requires fits { greatest_sum (side longest_top (leaf longest) (merged marks.items leaves.items)) < 2 ^ 127 }
+    requires few { length marks.items < 2 ^ 32 }
+    requires fits { greatest_sum (side longest_top (leaf longest) (merged marks.items leaves.items)) < 2 ^ 63 }
     ensures shape { IfOk result (λ p. shape_of p.1 ≡ or_many (side longest_top (leaf longest) (merged marks.items leaves.items))) }
     ensures top { IfOk result (λ p. IsTop index.now p.0 (or_many (side longest_top (leaf longest) (merged marks.items leaves.items)))) }
     ensures bound { IfOk result (λ p. p.0.greatest ≤ greatest_sum (side longest_top (leaf longest) (merged marks.items leaves.items))) }
@@ -272,7 +271,7 @@ pub(crate) fn seek_merge<L: Ledger>(
 #[inline(always)]
 fn move_on<L: Ledger>(
     queue: &mut Buckets,
-    leaves: &mut [Leaf],
+    leaves: &mut [Wdfs],
     which: usize,
     index: &Index,
     target: Head,
@@ -290,7 +289,7 @@ fn move_on<L: Ledger>(
     ensures spends { Spends (unread_in index.now (merged queue.old leaves.old)) (unread_in index.now (merged queue.new leaves.new)) spent.old spent.new steps.old steps.new }
     ensures later { ids_left queue.new < ids_left queue.old }
 {
-    let mut top = top_of(queue, which);
-    leaves[which].step(&mut top, index, target, spent, steps);
-    queue.set(which, mark_of(&top));
+    let mut mark = mark_at(queue, which);
+    leaves[which].step(&mut mark, index, target, spent, steps);
+    queue.set(which, mark);
 }

@@ -21,9 +21,10 @@ use Rattle.sk_model.proofs.CombiningLaws.{either-end, either-apart, either-turne
 use Rattle.sk_index.specs.Indexed.{Indexed}
 use Rattle.sk_nodes.specs.declared.top.Top.{Top}
 use Rattle.sk_nodes.specs.declared.leaf.Leaf.{Leaf}
+use Rattle.sk_nodes.specs.declared.wdfs.Wdfs.{Wdfs}
 use Rattle.sk_nodes.specs.declared.leaf.ListOf.{ListOf}
-use Rattle.sk_nodes.specs.Leaves.{list_in, weighed, leaf_greatest, leaf_rest}
-use Rattle.sk_nodes.specs.Shapes.{Shape, leaf, or_many, Sides, no_sides, side, top_at, merged}
+use Rattle.sk_nodes.specs.Leaves.{AtMost, IsFresh, list_in, weighed, leaf_greatest, leaf_rest}
+use Rattle.sk_nodes.specs.Shapes.{Shape, leaf, or_many, Sides, no_sides, side, top_at, leaf_at, merged}
 use Rattle.sk_nodes.specs.Left.{rests, unread_in, greatest_sum}
 use Rattle.sk_nodes.specs.Sound.{IsTop}
 use Rattle.sk_nodes.specs.Many.{followed_by}
@@ -84,19 +85,69 @@ others_all ns k w le = ap (λ ms. remove ms w) (take_all k ns le)
 
 -- ---- one list
 
--- a mark and a leaf behind others
-pub merged_next : (ms ns : List Mark) (ls ks : List Leaf) (m : Mark) (t : Top) (l : Leaf) → length ms ≡ length ls → top_at m ≡ t → ns ≡ ms ++ m ∷ [] → ks ≡ ls ++ l ∷ []
-    → merged ns ks ≡ followed_by (merged ms ls) (side t (leaf l) no_sides)
-merged_next ms ns ls ks m t l even at e f = (λ j. merged (e j) (f j)) ∙ behind ms ls even ∙ ap (λ (u : Top). followed_by (merged ms ls) (side u (leaf l) no_sides)) at
+-- a mark and a list behind others
+pub merged_next : (ms ns : List Mark) (ls ks : List Wdfs) (m : Mark) (l : Wdfs) → length ms ≡ length ls → ns ≡ ms ++ m ∷ [] → ks ≡ ls ++ l ∷ []
+    → merged ns ks ≡ followed_by (merged ms ls) (merged (m ∷ []) (l ∷ []))
+merged_next ms ns ls ks m l even e f = (λ j. merged (e j) (f j)) ∙ behind ms ls even
   where
-    behind : (ms : List Mark) (ls : List Leaf) → length ms ≡ length ls → merged (ms ++ m ∷ []) (ls ++ l ∷ []) ≡ followed_by (merged ms ls) (side (top_at m) (leaf l) no_sides)
+    behind : (ms : List Mark) (ls : List Wdfs) → length ms ≡ length ls → merged (ms ++ m ∷ []) (ls ++ l ∷ []) ≡ followed_by (merged ms ls) (merged (m ∷ []) (l ∷ []))
     behind [] [] e = refl
     behind [] (k ∷ ls) e = absurd (omega (arith, e))
     behind (n ∷ ms) [] e = absurd (omega (arith, e))
-    behind (n ∷ ms) (k ∷ ls) e = ap (side (top_at n) (leaf k)) (behind ms ls (omega (arith, e)))
+    behind (n ∷ ms) (k ∷ ls) e = ap (side (top_at n) (leaf (leaf_at n k))) (behind ms ls (omega (arith, e)))
 
-pub even_next : (ms ns : List Mark) (ls ks : List Leaf) (m : Mark) (l : Leaf) → length ms ≡ length ls → ns ≡ ms ++ m ∷ [] → ks ≡ ls ++ l ∷ [] → length ns ≡ length ks
+pub even_next : (ms ns : List Mark) (ls ks : List Wdfs) (m : Mark) (l : Wdfs) → length ms ≡ length ls → ns ≡ ms ++ m ∷ [] → ks ≡ ls ++ l ∷ [] → length ns ≡ length ks
 even_next ms ns ls ks m l even e f = ap length e ∙ length-append ms (m ∷ []) ∙ ap (λ n. n + 1) even ∙ sym (length-append ls (l ∷ [])) ∙ ap length (sym f)
+
+pub few_next : (ms ns : List Mark) (m : Mark) (k : ℕ) → length ms ≤ k → ns ≡ ms ++ m ∷ [] → length ns ≤ k + 1
+few_next ms ns m k few e = omega (arith, few, ap length e, length-append ms (m ∷ []))
+
+-- a leaf that was opened for the wdfs of a term, as one of many lists: its mark says what it can weigh
+module _ (i : Indexed) (t : Top) (l : Leaf) (m : Mark) (w : Wdfs) (n : ℕ) (at : top_at m ≡ t) (is : w ≡ record { number = n; cursor = l.cursor }) (fresh : IsFresh (ListOf.Term n) Scheme.Nnn 1 l) where
+  abbrev bounded : Leaf
+  bounded = record l { greatest = m.greatest }
+
+  same_leaf : bounded ≡ leaf_at m w
+  same_leaf =
+      (λ j. record { source = fresh.source j; scheme = fresh.scheme j; factor = fresh.factor j; cursor = l.cursor; need_wdf = fresh.need_wdf j; need = fresh.need j; greatest = m.greatest })
+      ∙ ap (leaf_at m) (sym is)
+
+  same_side : side t (leaf bounded) no_sides ≡ side (top_at m) (leaf (leaf_at m w)) no_sides
+  same_side = λ j. side (sym at j) (leaf (same_leaf j)) no_sides
+
+  bounded_sums : (terms : List (List ℕ)) (before after : ℕ) → OpensSums i (side t (leaf l) no_sides) terms before after → OpensSums i (side t (leaf bounded) no_sides) terms before after
+  bounded_sums terms before after opens =
+      let top = opens.sound.top in
+      let on = opens.sound.sound in
+      let much : m.greatest ≡ t.greatest = ap (λ (u : Top). u.greatest) at in
+      record {
+        sound = record {
+          top = record { head = top.head; bound = top.bound; summed = λ lt. omega (arith, much); closed = top.closed };
+          sound = record {
+            there = on.there;
+            factor = on.factor;
+            on = on.on;
+            runs = on.runs;
+            light = on.light;
+            bound = subst (λ g. AtMost g (leaf_rest i l)) (sym much) top.bound;
+            live = on.live;
+          };
+          others = tt;
+        };
+        gives = opens.gives;
+        ceiling = opens.ceiling;
+        nests = opens.nests;
+        account = opens.account;
+      }
+
+  pub wdfs_sums : (terms : List (List ℕ)) (before after : ℕ) → OpensSums i (side t (leaf l) no_sides) terms before after → OpensSums i (merged (m ∷ []) (w ∷ [])) terms before after
+  wdfs_sums terms before after opens = subst (λ (ss : Sides). OpensSums i ss terms before after) same_side (bounded_sums terms before after opens)
+
+  pub wdfs_unread : unread_in i (merged (m ∷ []) (w ∷ [])) ≡ unread_in i (side t (leaf l) no_sides)
+  wdfs_unread = sym (ap (unread_in i) same_side)
+
+pub mark_small : (i : Indexed) (t : Top) (l : Leaf) (term : List ℕ) (before after : ℕ) → OpensSums i (side t (leaf l) no_sides) (term ∷ []) before after → t.greatest < 2 ^ 32
+mark_small i t l term before after opens = omega (arith, opens.ceiling)
 
 -- the list of one term
 pub list_sums : (i : Indexed) (l : Leaf) (t : Top) (n before after : ℕ) → All IsLight i.live.documents → AreSorted i.live.documents

@@ -10,7 +10,7 @@ ghost use Rattle.sk_model.specs.Bounds.{sum_in, ceil, ceils, ceil_of, term_ceil,
 ghost use Rattle.sk_model.specs.Allowance.{leaf_readings, leaves_readings};
 ghost use Rattle.sk_model.specs.Sharp.{terms_in};
 ghost use Rattle.sk_tree.specs.Readings.{Pays, CountsReadings};
-ghost use Rattle.sk_nodes.specs.Leaves.{IsThere, list_in, weighed, leaf_greatest, leaf_unread};
+ghost use Rattle.sk_nodes.specs.Leaves.{IsThere, IsFresh, list_in, weighed, leaf_greatest, leaf_unread};
 ghost use Rattle.sk_nodes.specs.Shapes.{leaf, shape_of, sides_on};
 ghost use Rattle.sk_nodes.specs.Left.{unread_of, unread_in};
 ghost use Rattle.sk_tree.specs.Nests.{OpensTerms};
@@ -375,6 +375,7 @@ pub(crate) fn open_entries<L: Ledger>(
     requires there { IsThere source index.now.terms }
     requires factor { factor ≤ 65536 }
     requires can { CanRead index.now spent.old most.old }
+    ensures fresh { IfOk result (λ p. IsFresh source scheme factor p.1) }
     ensures yields { IfOk result (λ p. Yields index.now p.0 (leaf p.1) (weighed factor scheme (list_in index.now source)) (leaf_greatest factor scheme (list_in index.now source))) }
     ensures pays { IfOk result (λ p. Pays spent.old spent.new most.old most.new (leaf_unread index.now p.1) (length (list_in index.now source))) }
     ensures exact { IfOk result (λ p. most.new ≡ most.old + length (list_in index.now source)) }

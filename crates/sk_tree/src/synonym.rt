@@ -14,7 +14,7 @@ ghost use Rattle.sk_model.specs.Allowance.{leaf_readings};
 ghost use Rattle.sk_index.specs.Indexed.{Indexed};
 ghost use Rattle.sk_tree.specs.Readings.{Pays, CountsReadings};
 ghost use Rattle.sk_nodes.specs.declared.leaf.ListOf.TheVariants as ListOf;
-ghost use Rattle.sk_nodes.specs.Leaves.{list_in};
+ghost use Rattle.sk_nodes.specs.Leaves.{IsFresh, list_in};
 ghost use Rattle.sk_nodes.specs.Shapes.{leaf, no_sides, side, shape_of, merged};
 ghost use Rattle.sk_nodes.specs.Left.{unread_of, unread_in, greatest_sum};
 ghost use Rattle.sk_tree.specs.Nests.{OpensAsOne, OpensNest, OpensFlat};
@@ -28,7 +28,8 @@ use crate::words::numbers_of;
 use sk_base::{MOST_WDF, Scheme, Text, Weight};
 use sk_index::Index;
 use sk_nodes::{
-    Leaf, ListOf, Mark, Node, Top, list_length, mark_of, merge_of, pair_of, synonym_over,
+    Leaf, ListOf, MOST_LISTS, Mark, Node, Top, Wdfs, list_length, mark_of, merge_of, pair_of,
+    synonym_over,
 };
 use sk_query::{Form, Query};
 use sk_steps::Steps;
@@ -176,7 +177,8 @@ fn open_sums<L: Ledger>(
     Ok((capped(top, Weight::from(MOST_WDF)), node))
 }
 
-/// The same of many terms: one node of all lists, the longest apart from the others.
+/// The same of many terms: one node of all lists, the longest apart from the others. Of more than can be kept together it
+/// says that memory ran out.
 fn open_many<L: Ledger>(
     alloc: Global,
     index: &Index,
@@ -194,6 +196,9 @@ fn open_many<L: Ledger>(
     ensures counts { CountsReadings spent.old spent.new steps.old steps.new most.new }
     ensures nest { IfOk result (λ p. OpensNest index.now Form.Or (shape_of p.1) (map (term_at index.now.terms) numbers.now) spent.old spent.new) }
 {
+    if MOST_LISTS < numbers.len() {
+        return Err(AllocError);
+    }
     let which = longest(index, numbers);
     let (longest_top, leaf) = open_list(index, numbers[which], most, spent, steps)?;
     let (marks, leaves) = open_others(alloc, index, numbers, which, most, spent, steps)?;
@@ -229,11 +234,13 @@ fn open_others<L: Ledger>(
     most: &mut u128,
     spent: &mut u128,
     steps: &mut Steps<L>,
-) -> Result<(Vec<Mark>, Vec<Leaf>), AllocError>
+) -> Result<(Vec<Mark>, Vec<Wdfs>), AllocError>
+    requires few { length numbers.now < 2 ^ 32 }
     requires there { AreThere index.now numbers.now }
     requires can { CanOpen index.now 1 spent.old most.old }
     ensures opens { IfOk result (λ p. OpensSums index.now (merged p.0.items p.1.items) (map (term_at index.now.terms) (remove numbers.now apart)) spent.old spent.new) }
-    ensures fits { IfOk result (λ p. greatest_sum (merged p.0.items p.1.items) < 2 ^ 126) }
+    ensures few { IfOk result (λ p. length p.0.items ≤ length numbers.now) }
+    ensures fits { IfOk result (λ p. greatest_sum (merged p.0.items p.1.items) < 2 ^ 62) }
     ensures pays { IfOk result (λ p. Pays spent.old spent.new most.old most.new (unread_in index.now (merged p.0.items p.1.items)) (lengths_of (map (term_at index.now.terms) (remove numbers.now apart)) index.now.live.documents)) }
     ensures counts { CountsReadings spent.old spent.new steps.old steps.new most.new }
 {
@@ -243,11 +250,29 @@ fn open_others<L: Ledger>(
         if which == apart {
             continue;
         }
-        let (top, leaf) = open_list(index, numbers[which], most, spent, steps)?;
-        marks.push(mark_of(&top))?;
-        leaves.push(leaf)?;
+        let (mark, wdfs) = open_wdfs(index, numbers[which], most, spent, steps)?;
+        marks.push(mark)?;
+        leaves.push(wdfs)?;
     }
     Ok((marks, leaves))
+}
+
+/// The list of one of many terms, with where it stands.
+fn open_wdfs<L: Ledger>(
+    index: &Index,
+    number: usize,
+    most: &mut u128,
+    spent: &mut u128,
+    steps: &mut Steps<L>,
+) -> Result<(Mark, Wdfs), AllocError>
+    requires there { number < length index.now.terms }
+    requires can { CanOpen index.now 1 spent.old most.old }
+    ensures opens { IfOk result (λ p. OpensSums index.now (merged (p.0 ∷ []) (p.1 ∷ [])) (term_at index.now.terms number ∷ []) spent.old spent.new) }
+    ensures pays { IfOk result (λ p. Pays spent.old spent.new most.old most.new (unread_in index.now (merged (p.0 ∷ []) (p.1 ∷ []))) (lengths_of (term_at index.now.terms number ∷ []) index.now.live.documents)) }
+    ensures counts { CountsReadings spent.old spent.new steps.old steps.new most.new }
+{
+    let (top, leaf) = open_list(index, number, most, spent, steps)?;
+    Ok((mark_of(&top), Wdfs::of(leaf, number)))
 }
 
 /// The list of one term, with where it stands.
@@ -260,6 +285,7 @@ fn open_list<L: Ledger>(
 ) -> Result<(Top, Leaf), AllocError>
     requires there { number < length index.now.terms }
     requires can { CanOpen index.now 1 spent.old most.old }
+    ensures fresh { IfOk result (λ p. IsFresh (ListOf.Term number) Scheme.Nnn 1 p.1) }
     ensures opens { IfOk result (λ p. OpensSums index.now (side p.0 (leaf p.1) no_sides) (term_at index.now.terms number ∷ []) spent.old spent.new) }
     ensures pays { IfOk result (λ p. Pays spent.old spent.new most.old most.new (unread_in index.now (side p.0 (leaf p.1) no_sides)) (lengths_of (term_at index.now.terms number ∷ []) index.now.live.documents)) }
     ensures counts { CountsReadings spent.old spent.new steps.old steps.new most.new }

@@ -3,10 +3,10 @@ use Rattle.sk_buckets.proofs.DealtLemmas.{deal_more, deal_behind, deal_few, deal
 use Rattle.sk_buckets.proofs.deal.deal.Goals as goal
 use Rattle.sk_buckets.proofs.deal.deal.Goals.{in-Some, in_default}
 
-pub put_in-requires-clause-few : goal.put_in-requires-clause-few
-put_in-requires-clause-few c =
+pub put_in-requires-clause-room : goal.put_in-requires-clause-room
+put_in-requires-clause-room c =
     let few = deal_few c.args.marks.now c.args.base c.loop-which.buckets c.loop-which.next c.loop-which.which (omega arith) c.loop-which.invariant.dealt c.in-Some.place c.in-Some.ensures.there.0 in
-    omega (arith, few)
+    omega (arith, few, c.requires.are.few)
 
 pub put_in-requires-clause-light : goal.put_in-requires-clause-light
 put_in-requires-clause-light c =

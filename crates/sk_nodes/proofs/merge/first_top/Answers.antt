@@ -13,4 +13,4 @@ returns-then-first-ge-END-clause-top c i ls sound =
 
 pub returns-clause-top : goal.returns-clause-top
 returns-clause-top c i ls sound =
-    first_top i c.args.queue.now ls c.first-first.result.head c.first-first.result.weight c.greatest.result sound c.first-first.ensures.head (c.first-first.ensures.weight (omega (arith, c.if-first-ge-END.false))) (c.greatest.ensures ∙ ap greatest_of c.first-first.ensures.same) (omega (arith, c.if-first-ge-END.false))
+    first_top i c.args.queue.now ls c.first-first.result.head c.from.result c.from-2.result sound c.first-first.ensures.head (c.from.ensures ∙ c.first-first.ensures.weight (omega (arith, c.if-first-ge-END.false))) (c.from-2.ensures ∙ c.greatest.ensures ∙ ap greatest_of c.first-first.ensures.same) (omega (arith, c.if-first-ge-END.false))

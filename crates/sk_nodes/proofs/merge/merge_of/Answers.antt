@@ -7,7 +7,7 @@ use Rattle.sk_nodes.proofs.MergeLaws.{are_marks}
 use Rattle.sk_nodes.proofs.merge.merge_of.Goals as goal
 
 pub new-requires : goal.new-requires
-new-requires c = are_marks c.args.index.now c.args.marks.items c.args.leaves.items c.requires.sound.others (omega (arith, c.requires.fits))
+new-requires c = are_marks c.args.index.now c.args.marks.items c.args.leaves.items c.requires.sound.others c.requires.few (omega (arith, c.requires.fits))
 
 pub returns-clause-top : goal.returns-clause-top
 returns-clause-top c =

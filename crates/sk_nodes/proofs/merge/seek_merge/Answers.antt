@@ -2,7 +2,7 @@
 use Rattle.std.proofs.Common.{◌≤◌, ◌<◌, ◌+◌, ◌^◌, ◌∙◌, ℕ, List, Option, length, unwrap_or, sym, subst, ap, rules, arith}
 use Rattle.std.proofs.lemmas.List.{places, with_items_is}
 use Rattle.sk_buckets.specs.declared.mark.Mark.{Mark}
-use Rattle.sk_nodes.specs.declared.leaf.Leaf.{Leaf}
+use Rattle.sk_nodes.specs.declared.wdfs.Wdfs.{Wdfs}
 use Rattle.sk_nodes.specs.Shapes.{or_many, side, leaf, merged, gathered}
 use Rattle.sk_nodes.specs.Left.{rest, unread_in, greatest_sum}
 use Rattle.sk_nodes.specs.Merge.{ids_left}
@@ -27,15 +27,15 @@ move_on-requires-clause-leaf g c =
     let there =
     has_leaf c.args.index.now c.lists.merge.queue c.lists.merge.leaves.items c.first_top-which.result.1 c.lists.invariant.far.sides.sides.others (c.first_top-which.ensures.there small)
     (λ d. let at = c.first_top-which.ensures.which small d in omega (arith, at, small)) in
-    omega (arith, there, ap (λ (ls : List Leaf). length ls) c.deref_mut.ensures.value)
+    omega (arith, there, ap (λ (ls : List Wdfs). length ls) c.deref_mut.ensures.value)
 
 pub lists-preserved-then-first-from : goal.lists-preserved-then-first-from
 lists-preserved-then-first-from g c =
     let i = c.args.index.now in
     let at = c.lists.merge in
     let is = with_items_is at.leaves c.move_on.new.leaves (search (rules, places)) in
-    let was = ap (λ (ms : List Mark). unread_in i (merged ms c.deref_mut.result.now)) c.first_top-which.ensures.same ∙ ap (λ (ls : List Leaf). unread_in i (merged at.queue ls)) c.deref_mut.ensures.value in
-    let left = ap (λ (ls : List Leaf). unread_in i (merged c.move_on.new.queue ls)) is in
+    let was = ap (λ (ms : List Mark). unread_in i (merged ms c.deref_mut.result.now)) c.first_top-which.ensures.same ∙ ap (λ (ls : List Wdfs). unread_in i (merged at.queue ls)) c.deref_mut.ensures.value in
+    let left = ap (λ (ls : List Wdfs). unread_in i (merged c.move_on.new.queue ls)) is in
     record {
       far =
           merge_moved_one i c.args.target c.args.need c.args.spent.now (gathered c.args.merge.now) c.lists.from c.lists.spent c.move_on.new.spent at.longest_top at.longest at.queue c.first_top-which.new.queue c.move_on.new.queue

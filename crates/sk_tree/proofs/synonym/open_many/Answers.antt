@@ -28,6 +28,9 @@ merge_of-requires-clause-sound g c =
     let others = c.in_ok-marks in
     (sums_all c.args.index.now one.longest_top one.leaf (merged others.marks.items others.leaves.items) c.args.numbers.now c.longest-which.result 0 c.longest-which.ensures.within _ _ _ one.ensures.opens others.ensures.opens).sound
 
+pub merge_of-requires-clause-few : goal.merge_of-requires-clause-few
+merge_of-requires-clause-few g c = omega (arith, c.in_ok-marks.ensures.few, c.if-numbers-gt-MOST_LISTS.false)
+
 pub merge_of-requires-clause-fits : goal.merge_of-requires-clause-fits
 merge_of-requires-clause-fits g c = omega (arith, c.in_ok-longest_top.ensures.opens.ceiling, c.in_ok-marks.ensures.fits)
 

@@ -7,8 +7,8 @@ use Rattle.sk_buckets.proofs.MarkLemmas.{greatest_least}
 use Rattle.sk_buckets.proofs.CallLemmas.{are_moved, buckets_moved}
 use Rattle.sk_buckets.proofs.buckets.Buckets.set.Goals as goal
 
-pub overflow_sub-self-2 : goal.overflow_sub-self-2
-overflow_sub-self-2 c =
+pub overflow_sub-self : goal.overflow_sub-self
+overflow_sub-self c =
     let ms = c.self.inside.marks.items in
     let l : c.args.which < length ms = omega (arith, ap length c.self.view_is, c.requires.there) in
     let was : c.index.result.now ≡ mark_at ms c.args.which = get_or_read ms c.args.which c.index.result.now l c.index.ensures _ in
@@ -49,5 +49,5 @@ invariant_of-self c =
     (buckets_moved ms c.args.which c.args.mark l c.requires.is
     (subst (λ (ns : List Mark). (get_or ns c.args.which c.args.mark).head ≤ c.args.mark.head) (sym c.self.view_is) c.requires.later)
     (subst (λ (ns : List Mark). c.args.mark.greatest ≤ (get_or ns c.args.which c.args.mark).greatest) (sym c.self.view_is) c.requires.falls)
-    c.index.result.now c.self.inside.greatest c.self.inside.base c.self.inside.at c.self.inside.buckets.items bs c.self.inside.next.items next c.index.ensures len long
+    c.index.result.now c.from.result c.self.inside.greatest c.self.inside.base c.self.inside.at c.self.inside.buckets.items bs c.self.inside.next.items next c.from.ensures c.index.ensures len long
     (subst (λ (ns : List Mark). AreDealt ns c.self.inside.base bs next) c.deref-2.ensures.value c.enter.ensures.dealt) c.self.invariant)
