@@ -51,7 +51,7 @@ impl RangeNode {
             slot,
             cursor: RangeCursor::open(list, lo, hi, steps),
         };
-        *spent += u128::from(range.cursor.passed());
+        *spent += u128::from(range.cursor.readings());
         range.show(top);
         range
     }
@@ -99,9 +99,9 @@ impl RangeNode {
             return None;
         }
         let list = index.values(self.slot);
-        let before = self.cursor.passed();
+        let before = self.cursor.readings();
         let count = self.cursor.skip_behind(list, last, key.reverse, steps)?;
-        *spent += u128::from(self.cursor.passed() - before);
+        *spent += u128::from(self.cursor.readings() - before);
         self.show(top);
         Some(count)
     }

@@ -137,6 +137,23 @@ module _ (lo hi : Option (List ℕ)) (runs : SlotRuns) (i read passed : ℕ) (lt
 
 -- ---- passing over pieces
 
+module _ (runs : SlotRuns) (i read passed : ℕ) (lt : i < length runs) (at : IsPlace runs i read passed) (count : ℕ) (counted : count ≡ length (get_or runs i [])) where
+  -- the front of the next piece
+  pub next_front : IsPlace runs (i + 1) 0 (passed + (count - read))
+  next_front = subst (λ n. IsPlace runs (i + 1) 0 (passed + (n - read))) (sym counted) (place_next runs i read passed lt at)
+
+  end : IsPlace runs i count (passed + (count - read))
+  end = place_on runs i read passed count at (omega (arith, counted, at.within)) (omega (arith, counted))
+
+  pub next_counts : passed + (count - read) ≤ length (flat runs)
+  next_counts = place_within runs i count (passed + (count - read)) end
+
+  -- what lies in the range behind it, where the rest of the piece has nothing there
+  pub next_left : (lo hi : Option (List ℕ)) → in_range lo hi (drop read (get_or runs i [])) ≡ [] → in_range lo hi (drop (passed + (count - read)) (flat runs)) ≡ in_range lo hi (drop passed (flat runs))
+  next_left lo hi none =
+      range_behind lo hi runs i read passed lt at count (passed + (count - read)) end
+      (ap (in_range lo hi) (drop_all count (get_or runs i []) (omega (arith, counted))) ∙ sym none)
+
 -- where the next entry of the piece is not below the target, nothing is passed over
 pub next_reaches : (runs : SlotRuns) (i read passed target : ℕ) → i < length runs → IsPlace runs i read passed → read < length (get_or runs i []) → target ≤ id_at (get_or runs i []) read
     → drop passed (flat runs) ≡ from target (drop passed (flat runs))

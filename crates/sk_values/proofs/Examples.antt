@@ -1,12 +1,14 @@
 -- The words on the values of a slot, computed.
-use Rattle.std.proofs.Common.{◌≡◌, ℕ, List, [], ◌∷◌, None, Some, refl}
+use Rattle.std.proofs.Common.{◌≡◌, ℕ, List, [], ◌∷◌, drop, true, false, None, Some, refl}
 use Rattle.sk_sorted.specs.Entries.{put, without}
 use Rattle.sk_sorted.specs.Places.{id_at}
 use Rattle.sk_values.specs.declared.range_cursor.RangeCursor.{RangeCursor}
 use Rattle.sk_values.specs.declared.value.Held.TheVariants.{Short}
 use Rattle.sk_values.specs.Held.{held_bytes}
 use Rattle.sk_values.specs.SlotValues.{SlotValues, found_value, value_at_place}
-use Rattle.sk_values.specs.RangeCursor.{in_range, unread, left}
+use Rattle.sk_values.specs.RangeCursor.{in_range, unread, left, IsEndOf}
+use Rattle.sk_values.specs.declared.zones.Zone.{Zone}
+use Rattle.sk_values.specs.Zones.{zone_of, meets}
 
 abbrev two : SlotValues
 two = (1, 0 ∷ []) ∷ (4294967295, 97 ∷ 98 ∷ []) ∷ []
@@ -75,7 +77,7 @@ open_ends = refl
 
 -- on the second entry, in a range from its value on
 abbrev second : RangeCursor
-second = record { place = record { piece = 0; read = 2; passed = 2 }; head = Some 4; bounds = record { lo = Some (98 ∷ []); hi = None } }
+second = record { place = record { piece = 0; read = 2; passed = 2; readings = 2 }; head = Some 4; bounds = record { lo = Some (98 ∷ []); hi = None } }
 
 left_to_second : left second three ≡ (4, 98 ∷ 0 ∷ []) ∷ (7, 99 ∷ []) ∷ []
 left_to_second = refl
@@ -84,5 +86,23 @@ unread_to_second : unread second three ≡ (7, 99 ∷ []) ∷ []
 unread_to_second = refl
 
 -- ended
-nothing_left : left (record { place = record { piece = 1; read = 0; passed = 3 }; head = None; bounds = record { lo = None; hi = Some [] } }) three ≡ []
+nothing_left : left (record { place = record { piece = 1; read = 0; passed = 3; readings = 3 }; head = None; bounds = record { lo = None; hi = Some [] } }) three ≡ []
 nothing_left = refl
+
+-- 128 ids lie in a zone, the first of all from 1 on
+zones : zone_of 1 ∷ zone_of 128 ∷ zone_of 129 ∷ [] ≡ 0 ∷ 0 ∷ 1 ∷ []
+zones = refl
+
+-- a zone of the numbers from 5 to 9 meets a range that begins at its greatest or ends at its least, and none behind or before it
+abbrev few : Zone
+few = record { least = 5; greatest = 9 }
+
+at_its_ends : meets few 9 12 ∷ meets few 0 5 ∷ [] ≡ true ∷ true ∷ []
+at_its_ends = refl
+
+beside_it : meets few 10 12 ∷ meets few 0 4 ∷ [] ≡ false ∷ false ∷ []
+beside_it = refl
+
+-- the last two of three entries are the end of them, and the first two are not
+end_of_three : IsEndOf (drop 1 three) three
+end_of_three = refl

@@ -4,4 +4,5 @@ mod ByteLaws
 mod NumberLaws
 mod CursorLemmas
 mod SkipLaws
+mod ZoneLaws
 mod Examples

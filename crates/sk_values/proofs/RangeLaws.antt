@@ -9,7 +9,7 @@ use Rattle.sk_sorted.specs.Runs.{flat}
 use Rattle.sk_model.specs.Ranges.{is_within}
 use Rattle.sk_values.specs.declared.range_cursor.RangeCursor.{RangeCursor}
 use Rattle.sk_values.specs.SlotValues.{SlotValues, SlotRuns, value_at_place}
-use Rattle.sk_values.specs.RangeCursor.{in_range, unread, ahead, left, IsStop, IsHeadAt, IsOn, is_head_below}
+use Rattle.sk_values.specs.RangeCursor.{in_range, unread, ahead, left, IsStop, IsEndOf, IsHeadAt, IsOn, is_head_below}
 use Rattle.sk_values.proofs.ValueLaws.{drop-entry}
 
 module _ (lo hi : Option (List ℕ)) where
@@ -105,6 +105,14 @@ module _ (lo hi : Option (List ℕ)) where
       let le : target ≤ id = subst (λ (o : Option ℕ). IfSome o (λ id. target ≤ id)) (sym (head_is (Some id) read list on)) above in
       let lt : id < target = ltb-true id target below in
       omega arith
+
+-- ---- the last ones of some entries
+
+-- all of them are
+pub end-all : (rest all : SlotValues) → rest ≡ all → IsEndOf rest all
+end-all rest all e =
+    let none : 0 ≡ length all - length rest = omega (arith, ap length e) in
+    e ∙ ap (λ n. drop n all) none
 
 -- ---- for those who walk through it
 

@@ -3,3 +3,4 @@ pub mod Held
 pub mod Numbers
 pub mod RangeCursor
 pub mod Behind
+pub mod Zones

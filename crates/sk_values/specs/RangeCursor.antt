@@ -15,6 +15,14 @@ in_range lo hi list = filter (λ e. is_within lo hi e.1) list
 abbrev pub unread : RangeCursor → SlotValues → SlotValues
 unread c list = drop c.place.passed list
 
+-- How many entries a cursor has read.
+abbrev pub readings : RangeCursor → ℕ
+readings c = c.place.readings
+
+-- The last ones of some entries, from one of them on.
+abbrev pub IsEndOf : SlotValues → SlotValues → Type 0
+IsEndOf rest all = rest ≡ drop (length all - length rest) all
+
 -- The entries from the head on; none where there is no head.
 abbrev pub ahead : Option ℕ → ℕ → SlotValues → SlotValues
 ahead None read list = []
@@ -44,6 +52,7 @@ IsPlaceIn p runs = IsPlace runs p.piece p.read p.passed
 pub record IsOn (c : RangeCursor) (runs : SlotRuns) : Type 0 where
   pub place : IsPlaceIn c.place runs
   pub head : IsHeadAt c.bounds.lo c.bounds.hi c.head c.place.passed (flat runs)
+  pub counted : readings c ≤ c.place.passed
 
 -- Whether there is a head below the target.
 abbrev pub is_head_below : ℕ → Option ℕ → Bool

@@ -8,6 +8,7 @@ mod range_cursor;
 mod slot_list;
 mod span;
 mod value;
+mod zones;
 
 pub use range_cursor::RangeCursor;
 pub use slot_list::SlotList;

@@ -6,7 +6,7 @@ ghost use Rattle.sk_sorted.specs.Runs.{flat};
 ghost use Rattle.sk_values.specs.SlotValues.{SlotRuns, value_at_place};
 ghost use Rattle.sk_values.specs.Numbers.{IsNumber};
 ghost use Rattle.sk_values.specs.Behind.{Skips, SkipsOn};
-ghost use Rattle.sk_values.specs.RangeCursor.{in_range, unread, ahead, left, IsHeadAt, IsPlaceIn, IsOn, is_head_below};
+ghost use Rattle.sk_values.specs.RangeCursor.{in_range, unread, readings, ahead, left, IsEndOf, IsHeadAt, IsPlaceIn, IsOn, is_head_below};
 
 use crate::SlotList;
 use crate::bounds::Bounds;
@@ -26,16 +26,19 @@ pub struct RangeCursor {
     bounds: Bounds,
 }
 
-/// A place in a list, behind so many entries of a piece. It keeps how many of all entries it is behind.
+/// A place in a list, behind so many entries of a piece. It keeps how many of all entries it is behind, and how many of these
+/// were read.
 #[derive(Clone, Copy, Debug)]
 struct Place {
     piece: usize,
     read: u32,
     passed: u32,
+    readings: u32,
 }
 
 impl RangeCursor {
-    /// A cursor on the first entry whose value lies between the ends. All entries up to it are read.
+    /// A cursor on the first entry whose value lies between the ends. It passes over pieces of which their zones tell that
+    /// they have no such value, and reads the others up to that entry.
     pub fn open<L: Ledger>(
         list: &SlotList,
         lo: Option<Bytes>,
@@ -45,17 +48,18 @@ impl RangeCursor {
         ensures on { IsOn result list.now }
         ensures left { left result (flat list.now) ≡ in_range lo hi (flat list.now) }
 
-        // What is not read is unread.
-        ensures cost { steps.new + length (unread result (flat list.now)) ≡ steps.old + length (flat list.now) }
-        ensures later { steps.old ≤ steps.new }
+        // What it read is none of the unread.
+        ensures cost { steps.new ≡ steps.old + readings result }
+        ensures once { readings result + length (unread result (flat list.now)) ≤ length (flat list.now) }
     {
         let front = Place {
             piece: 0,
             read: 0,
             passed: 0,
+            readings: 0,
         };
         let bounds = Bounds::new(lo, hi);
-        let (place, head) = stop_from(list, front, &bounds, steps);
+        let (place, head) = stop_from(list, front, None, &bounds, steps);
         RangeCursor {
             place,
             head,
@@ -72,9 +76,9 @@ impl RangeCursor {
         // It passes over what is below the target at the front, and over nothing else in the range.
         ensures left { left self.new (flat list.now) ≡ from target (left self.old (flat list.now)) }
 
-        // What it reads is the next entries from the target on, each once: none below that, and it never goes back.
-        ensures unread { unread self.new (flat list.now) ≡ drop result (from target (unread self.old (flat list.now))) }
-        ensures within { result ≤ length (from target (unread self.old (flat list.now))) }
+        // What it reads is some of the next entries from the target on, each once: none below that, and it never goes back.
+        ensures unread { IsEndOf (unread self.new (flat list.now)) (from target (unread self.old (flat list.now))) }
+        ensures within { result + length (unread self.new (flat list.now)) ≤ length (from target (unread self.old (flat list.now))) }
         ensures read { result + length (unread self.new (flat list.now)) ≤ length (unread self.old (flat list.now)) }
         ensures cost { steps.new ≡ steps.old + result }
 
@@ -86,11 +90,12 @@ impl RangeCursor {
         if !self.is_below(target) {
             return 0;
         }
+        let met = Some(self.place.piece);
         let place = place_from(list, self.place, target);
-        let (stop, head) = stop_from(list, place, &self.bounds, steps);
+        let (stop, head) = stop_from(list, place, met, &self.bounds, steps);
         self.place = stop;
         self.head = head;
-        stop.passed - place.passed
+        stop.readings - place.readings
     }
 
     /// Moves past the head, and past the values in the range behind it as long as they are numbers that come behind another
@@ -109,13 +114,15 @@ impl RangeCursor {
         ensures when { IfNone result ((left self.old (flat list.now) ≡ []) ⊎ (length last.now ≢ 8)) }
         ensures some { IfSome result (λ count. SkipsOn reverse last.now count (left self.old (flat list.now)) (left self.new (flat list.now))) }
 
-        // What it came past it has read once.
-        ensures cost { steps.new + length (unread self.new (flat list.now)) ≡ steps.old + length (unread self.old (flat list.now)) }
-        ensures later { steps.old ≤ steps.new }
+        // What it read is some of what was unread, each once.
+        ensures cost { steps.new + readings self.old ≡ steps.old + readings self.new }
+        ensures once { readings self.new + length (unread self.new (flat list.now)) ≤ readings self.old + length (unread self.old (flat list.now)) }
+        ensures later { readings self.old ≤ readings self.new }
     {
         let _head = self.head?;
         let edge = Edge::new(last, reverse)?;
-        let (place, head, count) = skip_from(list, self.place, &self.bounds, &edge, steps);
+        let met = Some(self.place.piece);
+        let (place, head, count) = skip_from(list, self.place, met, &self.bounds, &edge, steps);
         self.place = place;
         self.head = head;
         Some(count)
@@ -128,11 +135,11 @@ impl RangeCursor {
         self.head
     }
 
-    /// How many entries it has come past, be it by reading them or by passing over them.
-    pub fn passed(&self) -> u32
-        ensures { (list : SlotRuns) → IsOn self.now list → result + length (unread self.now (flat list)) ≡ length (flat list) }
+    /// How many entries it has read.
+    pub fn readings(&self) -> u32
+        ensures { result ≡ readings self.now }
     {
-        self.place.passed
+        self.place.readings
     }
 
     fn is_below(&self, target: DocId) -> bool
@@ -152,6 +159,7 @@ fn place_from(list: &SlotList, start: Place, target: DocId) -> Place
     ensures at { IsPlaceIn result list.now }
     ensures left { drop result.passed (flat list.now) ≡ from target (drop start.passed (flat list.now)) }
     ensures behind { start.passed ≤ result.passed }
+    ensures unread { result.readings ≡ start.readings }
 {
     let _sound = list.length();
     let pieces = list.pieces();
@@ -186,27 +194,60 @@ fn stands_at(pieces: &[Piece<Value>], place: Place, target: DocId) -> bool
     next < entries.len() && target <= entries[next].0
 }
 
-/// Reads on from a place to the first value between the ends, and gives the place behind it with its id, or the end.
+/// Where the zones tell that the rest of a place's piece has no value between the ends, the front of the next piece. A piece
+/// of which it is known that it has one is not asked.
+fn pass_outside(list: &SlotList, place: Place, met: Option<usize>, bounds: &Bounds) -> Option<Place>
+    requires at { IsPlaceIn place list.now }
+    requires there { place.piece < length list.now }
+    ensures at { IfSome result (λ next. IsPlaceIn next list.now) }
+    ensures next { IfSome result (λ next. next.piece ≡ place.piece + 1) }
+    ensures left { IfSome result (λ next. in_range bounds.now.lo bounds.now.hi (drop next.passed (flat list.now)) ≡ in_range bounds.now.lo bounds.now.hi (drop place.passed (flat list.now))) }
+    ensures behind { IfSome result (λ next. place.passed ≤ next.passed) }
+    ensures unread { IfSome result (λ next. next.readings ≡ place.readings) }
+{
+    if met == Some(place.piece) || !list.lies_outside(place.piece, place.read, bounds) {
+        return None;
+    }
+    let count = list.pieces()[place.piece].count();
+    Some(Place {
+        piece: place.piece + 1,
+        read: 0,
+        passed: place.passed + (count - place.read),
+        readings: place.readings,
+    })
+}
+
+/// Goes on from a place to the first value between the ends, and gives the place behind it with its id, or the end. Pieces in
+/// which it cannot stand are passed over, and the others read.
 fn stop_from<L: Ledger>(
     list: &SlotList,
     start: Place,
+    met: Option<usize>,
     bounds: &Bounds,
     steps: &mut Steps<L>,
 ) -> (Place, Option<DocId>)
-    requires { IsPlaceIn start list.now }
+    requires at { IsPlaceIn start list.now }
+    requires counted { start.readings ≤ start.passed }
     ensures at { IsPlaceIn result.0 list.now }
     ensures head { IsHeadAt bounds.now.lo bounds.now.hi result.1 result.0.passed (flat list.now) }
     ensures left { in_range bounds.now.lo bounds.now.hi (ahead result.1 result.0.passed (flat list.now))
         ≡ in_range bounds.now.lo bounds.now.hi (drop start.passed (flat list.now)) }
     ensures behind { start.passed ≤ result.0.passed }
-    ensures cost { steps.new + start.passed ≡ steps.old + result.0.passed }
+    ensures cost { steps.new + start.readings ≡ steps.old + result.0.readings }
+    ensures once { result.0.readings + start.passed ≤ start.readings + result.0.passed }
+    ensures later { start.readings ≤ result.0.readings }
 {
     let _sound = list.length();
     let pieces = list.pieces();
     let mut place = start;
     'pieces: while place.piece < pieces.len() {
+        if let Some(next) = pass_outside(list, place, met, bounds) {
+            place = next;
+            continue;
+        }
         let (read, head) = stop_in(&pieces[place.piece], place.read, bounds, steps);
         place.passed += read - place.read;
+        place.readings += read - place.read;
         place.read = read;
         if head.is_some() {
             return (place, head);
@@ -248,26 +289,35 @@ fn stop_in<L: Ledger>(
 fn skip_from<L: Ledger>(
     list: &SlotList,
     start: Place,
+    met: Option<usize>,
     bounds: &Bounds,
     edge: &Edge,
     steps: &mut Steps<L>,
 ) -> (Place, Option<DocId>, u32)
-    requires { IsPlaceIn start list.now }
+    requires at { IsPlaceIn start list.now }
+    requires counted { start.readings ≤ start.passed }
     ensures at { IsPlaceIn result.0 list.now }
     ensures head { IsHeadAt bounds.now.lo bounds.now.hi result.1 result.0.passed (flat list.now) }
     ensures skips { (last : List ℕ) → IsNumber edge.now.number last → Skips edge.now.reverse last result.2
         (in_range bounds.now.lo bounds.now.hi (drop start.passed (flat list.now)))
         (in_range bounds.now.lo bounds.now.hi (ahead result.1 result.0.passed (flat list.now))) }
     ensures behind { start.passed ≤ result.0.passed }
-    ensures cost { steps.new + start.passed ≡ steps.old + result.0.passed }
+    ensures cost { steps.new + start.readings ≡ steps.old + result.0.readings }
+    ensures once { result.0.readings + start.passed ≤ start.readings + result.0.passed }
+    ensures later { start.readings ≤ result.0.readings }
 {
     let _sound = list.length();
     let pieces = list.pieces();
     let mut place = start;
     let mut count = 0u32;
     'pieces: while place.piece < pieces.len() {
+        if let Some(next) = pass_outside(list, place, met, bounds) {
+            place = next;
+            continue;
+        }
         let (read, head, few) = skip_in(&pieces[place.piece], place.read, bounds, edge, steps);
         place.passed += read - place.read;
+        place.readings += read - place.read;
         place.read = read;
         count += few;
         if head.is_some() {

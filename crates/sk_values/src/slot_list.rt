@@ -1,13 +1,16 @@
 //! The values of one slot, in order of the documents' ids, in pieces.
-ghost use Rattle.std.specs.Prelude.{◌≡◌, ◌+◌, ◌≤◌, ◌<◌, [], length, get_or, true, IfOk, IsOk, OnOk, OnErr};
+ghost use Rattle.std.specs.Prelude.{◌≡◌, ◌+◌, ◌≤◌, ◌<◌, [], length, drop, get_or, true, IfOk, IsOk, OnOk, OnErr};
 ghost use Rattle.std.specs.Option.{option_map};
 ghost use Rattle.sk_sorted.specs.Entries.{put, without, found, has};
 ghost use Rattle.sk_sorted.specs.Places.{id_at};
 ghost use Rattle.sk_sorted.specs.Runs.{flat, AreRuns, IsPlace};
 ghost use Rattle.sk_values.specs.SlotValues.{AreSlotValues, found_value, value_at_place};
+ghost use Rattle.sk_values.specs.RangeCursor.{in_range};
 
+use crate::bounds::Bounds;
 use crate::range_cursor::entry;
 use crate::value::Value;
+use crate::zones::{Zone, lie_outside, widen};
 use sk_base::DocId;
 use sk_pieces::{Copier, Piece, Pieces};
 use sk_steps::Steps;
@@ -21,17 +24,19 @@ use std::sync::ledger::Ledger;
 #[derive(Drop)]
 pub struct SlotList {
     entries: Pieces<Value>,
+    zones: Vec<Zone>,
 }
 
 impl Model for SlotList {
     ghost use Rattle.sk_sorted.specs.Runs.{flat};
     ghost use Rattle.sk_values.specs.SlotValues.{SlotRuns, HaveValues};
+    ghost use Rattle.sk_values.specs.Zones.{AreZoned};
 
     ghost Value = { SlotRuns };
 
     ghost view = { λ l. l.entries };
 
-    ghost invariant = { λ l. HaveValues (flat l.entries) };
+    ghost invariant = { λ l. HaveValues (flat l.entries) × AreZoned l.zones.items (flat l.entries) };
 }
 
 impl SlotList {
@@ -41,6 +46,7 @@ impl SlotList {
     {
         SlotList {
             entries: Pieces::new(alloc),
+            zones: Vec::new(alloc),
         }
     }
 
@@ -49,7 +55,8 @@ impl SlotList {
         ensures { IfOk result (λ copy. copy ≡ self.now) }
     {
         let entries = self.entries.copy(&ValueCopier { alloc })?;
-        Ok(SlotList { entries })
+        let zones = self.zones.as_slice().to_vec(alloc)?;
+        Ok(SlotList { entries, zones })
     }
 
     /// Gives the document this value. Only a new entry takes memory, and only entries of a few pieces move.
@@ -60,6 +67,7 @@ impl SlotList {
         ensures err { OnErr result (self.new ≡ self.old) }
         ensures succeeds { has id (flat self.old) ≡ true → IsOk result }
     {
+        widen(&mut self.zones, id, &value)?;
         self.entries.put(id, value)
     }
 
@@ -112,6 +120,15 @@ impl SlotList {
         ensures sound { AreRuns self.now }
     {
         self.entries.pieces()
+    }
+
+    /// Whether the zones tell that of the piece at the place no value from an entry on lies between the ends. It reads none.
+    pub(crate) fn lies_outside(&self, at: usize, place: u32, bounds: &Bounds) -> bool
+        requires there { at < length self.now }
+        requires within { place ≤ length (get_or self.now at []) }
+        ensures { result ≡ true → in_range bounds.now.lo bounds.now.hi (drop place (get_or self.now at [])) ≡ [] }
+    {
+        lie_outside(&self.zones, &self.entries.pieces()[at], place, bounds)
     }
 }
 

@@ -47,6 +47,7 @@ pieces-preserved c =
       onward = omega (arith, c.pieces.invariant.onward);
       before = omega (arith, c.pieces-test.true);
       at = step.at;
+      unread = c.pieces.invariant.unread;
       behind = step.behind;
       left = step.left;
     }

@@ -10,6 +10,7 @@ invariant-pieces l = record {
   onward : l.fn.start.piece ≤ l.place.piece;
   before : l.place.piece ≤ l.at;
   at : IsPlaceIn l.place l.list;
+  unread : l.place.readings ≡ l.fn.start.readings;
   behind : l.fn.start.passed ≤ l.place.passed;
   left : from l.target (drop l.place.passed (flat l.list)) ≡ from l.target (drop l.fn.start.passed (flat l.list));
 }

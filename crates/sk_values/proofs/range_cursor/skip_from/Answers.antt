@@ -64,5 +64,7 @@ pieces-preserved g c =
           skips_then c.args.edge.now.reverse last c.pieces.count c.skip_in-read.result.2 _ _ _ (c.pieces.invariant.skips last number)
           (skips_on c.args.edge.now.reverse last c.args.bounds.now.lo c.args.bounds.now.hi c.args.list.now c.pieces.place.piece c.pieces.place.read c.pieces.place.passed lt c.pieces.invariant.at c.index-pieces-place.result run c.skip_in-read.result.1 c.skip_in-read.result.0
           (omega (arith, few)) c.skip_in-read.ensures.head c.skip_in-read.result.2 (c.skip_in-read.ensures.skips last number) (sym c.is_some.ensures ∙ c.if-is_some.false));
+      once = omega (arith, c.pieces.invariant.once, few);
+      later = omega (arith, c.pieces.invariant.later);
       cost = omega (arith, c.pieces.invariant.cost, c.skip_in-read.ensures.cost, few);
     }

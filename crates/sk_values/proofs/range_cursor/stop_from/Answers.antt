@@ -42,5 +42,7 @@ pieces-preserved g c =
       behind = omega (arith, c.pieces.invariant.behind);
       left = goes_on_left c.args.bounds.now.lo c.args.bounds.now.hi c.args.list.now c.pieces.place.piece c.pieces.place.read c.pieces.place.passed lt c.pieces.invariant.at c.index-pieces-place.result run c.stop_in-read.result.1 c.stop_in-read.result.0
           c.stop_in-read.ensures.behind c.stop_in-read.ensures.head c.stop_in-read.ensures.left (sym c.is_some.ensures ∙ c.if-is_some.false) ∙ c.pieces.invariant.left;
+      once = omega (arith, c.pieces.invariant.once);
+      later = omega (arith, c.pieces.invariant.later);
       cost = omega (arith, c.pieces.invariant.cost, c.stop_in-read.ensures.cost, c.stop_in-read.ensures.behind);
     }

@@ -9,7 +9,9 @@ invariant-pieces g l = record {
   at : IsPlaceIn l.place l.list;
   behind : l.fn.start.passed ≤ l.place.passed;
   left : in_range l.bounds.lo l.bounds.hi (drop l.place.passed (flat l.list)) ≡ in_range l.bounds.lo l.bounds.hi (drop l.fn.start.passed (flat l.list));
-  cost : l.steps + l.fn.start.passed ≡ l.fn.steps + l.place.passed;
+  once : l.place.readings + l.fn.start.passed ≤ l.fn.start.readings + l.place.passed;
+  later : l.fn.start.readings ≤ l.place.readings;
+  cost : l.steps + l.fn.start.readings ≡ l.fn.steps + l.place.readings;
 }
 
 abbrev pub decreases-pieces : goal.decreases-pieces
