@@ -74,6 +74,15 @@ def asked(picks):
         yield f"range, {name}, and a word", [{"find": " ".join(both)} for both in within]
 
 
+def asked_by_year():
+    """Of each class: its name and its finds, over documents that came by year, as those of an archive do."""
+    picks = random.Random(10)
+    for name, width in (("a tenth", YEARS // 10), ("a thousandth", YEARS // 1_000)):
+        yield f"by year: {name}", [{"find": years(picks, width)} for _ in range(FINDS)]
+    within = [(words(picks, 1, 2_000)[0], years(picks, YEARS // 10)) for _ in range(FINDS)]
+    yield "by year: a tenth, a word", [{"find": " ".join(both)} for both in within]
+
+
 def asked_again():
     """Of each class: its name and its one find, which names the same words many times."""
     yield "a* 200 times, or", [{"find": " ".join(["a*"] * 200)}]
@@ -152,9 +161,17 @@ def main():
         commands = [program, "run"], [peer]
         print(f"ms of a processor, the median of the finds, and of {RUNS} runs; pages of 10")
         print(f"{documents:,} documents of 50 to 150 words of {WORDS:,}")
-        made = records(documents, random.Random(8), WORDS)
-        servers = served(commands, ({"body": record["body"], "year": record["year"]} for record in made))
+        made = [
+            {"body": record["body"], "year": record["year"]}
+            for record in records(documents, random.Random(8), WORDS)
+        ]
+        servers = served(commands, made)
         differing = print_rows(servers, asked(random.Random(9)))
+        for server in servers:
+            server.close()
+        print("the same documents, by year")
+        servers = served(commands, sorted(made, key=lambda record: record["year"]))
+        differing += print_rows(servers, asked_by_year())
         read = list(page_records(manual))
         if read:
             for server in servers:
