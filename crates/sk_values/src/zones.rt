@@ -103,11 +103,24 @@ fn lie_apart(zones: &[Zone], piece: &Piece<Value>, place: u32, least: u64, great
         return true;
     };
     let from = zone_of(first.0);
+    if !misses_at(zones, from, least, greatest) {
+        return false;
+    }
     let to = zone_of(piece.last());
     if to - from >= MOST_ZONES {
         return false;
     }
     all_miss(&zones[from..=to], least, greatest)
+}
+
+/// Whether the zone at a place has none of these numbers. Mostly it has some, and then no other zone is asked.
+fn misses_at(zones: &[Zone], at: usize, least: u64, greatest: u64) -> bool
+    ensures { result ≡ true → meets (zone_at zones.now at) least greatest ≡ false }
+{
+    match zones.get(at) {
+        Some(zone) => zone.misses(least, greatest),
+        None => false,
+    }
 }
 
 /// Whether none of these numbers is one of the zones'.
