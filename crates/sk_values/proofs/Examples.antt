@@ -8,7 +8,8 @@ use Rattle.sk_values.specs.Held.{held_bytes}
 use Rattle.sk_values.specs.SlotValues.{SlotValues, found_value, value_at_place}
 use Rattle.sk_values.specs.RangeCursor.{in_range, unread, left, IsEndOf}
 use Rattle.sk_values.specs.declared.zones.Zone.{Zone}
-use Rattle.sk_values.specs.Zones.{zone_of, meets}
+use Rattle.sk_values.specs.Behind.{is_behind}
+use Rattle.sk_values.specs.Zones.{zone_of, meets, lies_in}
 
 abbrev two : SlotValues
 two = (1, 0 ∷ []) ∷ (4294967295, 97 ∷ 98 ∷ []) ∷ []
@@ -102,6 +103,18 @@ at_its_ends = refl
 
 beside_it : meets few 10 12 ∷ meets few 0 4 ∷ [] ≡ false ∷ false ∷ []
 beside_it = refl
+
+-- the eight bytes of a number below 256
+abbrev number_bytes : ℕ → List ℕ
+number_bytes n = 0 ∷ 0 ∷ 0 ∷ 0 ∷ 0 ∷ 0 ∷ 0 ∷ n ∷ []
+
+-- it lies in a span that has both of its ends, and in none that lacks one
+in_spans : lies_in (record { least = 5; width = 4 }) few ∷ lies_in (record { least = 5; width = 3 }) few ∷ lies_in (record { least = 6; width = 9 }) few ∷ [] ≡ true ∷ false ∷ false ∷ []
+in_spans = refl
+
+-- what comes behind a number is above it, and in reverse below it
+behind_seven : is_behind false (number_bytes 7) (number_bytes 8) ∷ is_behind false (number_bytes 7) (number_bytes 7) ∷ is_behind true (number_bytes 7) (number_bytes 6) ∷ is_behind true (number_bytes 7) (number_bytes 7) ∷ [] ≡ true ∷ false ∷ true ∷ false ∷ []
+behind_seven = refl
 
 -- the last two of three entries are the end of them, and the first two are not
 end_of_three : IsEndOf (drop 1 three) three

@@ -1,21 +1,22 @@
 -- Entries that are passed over because their values come behind the last one wanted.
-use Rattle.std.proofs.Common.{◌≡◌, ℕ, ◌+◌, ◌-◌, ◌<◌, ◌≤◌, nat_lt, Bool, true, false, not, List, [], ◌∷◌, ◌++◌, length, drop, get_or, is_some, Option, None, Some, if◌then◌else◌, refl, sym, ap, subst, ◌∙◌, arith, true≢false, append_assoc}
+use Rattle.std.proofs.Common.{◌≡◌, ℕ, ◌+◌, ◌-◌, ◌<◌, ◌≤◌, ◌^◌, nat_lt, Bool, true, false, not, List, [], ◌∷◌, ◌++◌, length, drop, get_or, is_some, Option, None, Some, if◌then◌else◌, refl, sym, ap, subst, ◌∙◌, arith, true≢false, append_assoc}
 use Rattle.std.specs.List.{AllByRecursion}
 use Rattle.std.proofs.lemmas.Bool.{lt-leb, ltb-true}
 use Rattle.std.proofs.lemmas.Bool.Decides.{nat_tests}
-use Rattle.std.proofs.lemmas.List.{drop_all, length-append}
+use Rattle.std.proofs.lemmas.List.{drop_all, append-nil, length-append, length-drop}
 use Rattle.std.proofs.lemmas.List.Elements.{filter-append}
 use Rattle.sk_sorted.specs.Places.{id_at}
 use Rattle.sk_sorted.specs.Runs.{flat, IsPlace}
-use Rattle.sk_sorted.proofs.RunPlaceLaws.{place_drop}
+use Rattle.sk_sorted.proofs.RunPlaceLaws.{place_drop, place_on}
 use Rattle.sk_model.specs.Ranges.{is_within}
-use Rattle.sk_values.specs.Numbers.{IsNumber}
+use Rattle.sk_values.specs.Numbers.{IsNumber, IsBetween, IsLeast, IsGreatest}
 use Rattle.sk_values.specs.SlotValues.{SlotValues, SlotRuns, value_at_place}
 use Rattle.sk_values.specs.RangeCursor.{in_range, ahead, IsHeadAt}
 use Rattle.sk_values.specs.declared.span.Span.{Span}
 use Rattle.sk_values.specs.declared.edge.Spans.{Spans}
-use Rattle.sk_values.specs.Behind.{is_behind, Skips, greatest_in, in_span, AreSpans}
-use Rattle.sk_values.proofs.NumberLaws.{least-number, greatest-number}
+use Rattle.sk_values.specs.Behind.{is_behind, Skips, greatest_in, in_span, AreSpans, AreBehind}
+use Rattle.sk_values.specs.Zones.{AreAmong}
+use Rattle.sk_values.proofs.NumberLaws.{least-number, greatest-number, both_decide}
 use Rattle.sk_values.proofs.RangeLaws.{in_range-here, in_range-past}
 use Rattle.sk_values.proofs.CursorLemmas.{place_before, here, next_place, ended}
 use Rattle.sk_values.proofs.ValueLaws.{drop-entry}
@@ -137,6 +138,64 @@ module _ (reverse : Bool) (last : List ℕ) (lo hi : Option (List ℕ)) (runs : 
           → Skips reverse last n (in_range lo hi (drop read (get_or runs i []))) (in_range lo hi [])
       by None e s = s
       by (Some id) e s = absurd (true≢false e)
+
+-- ---- a piece that lies in the range and behind the edge
+
+module _ (lo hi : Option (List ℕ)) (least greatest : ℕ) (low : IsLeast lo least) (high : IsGreatest hi greatest) (number : ℕ) (s : Span) (from : least ≤ s.least) (to : greatest_in s ≤ greatest) (fits : greatest_in s < 2 ^ 64) where
+  in_both : (v : List ℕ) → IsBetween s.least (greatest_in s) v → is_within lo hi v ≡ true
+  in_both v is = sym (both_decide lo hi least greatest is.number v low high is.is) ∙ grind (arith, nat_tests, from, to, is.from, is.to)
+
+  -- the numbers above the edge, and in reverse those below it
+  pub above_edge : number < s.least → AreBehind number false lo hi s
+  above_edge above = record {
+    inside = in_both;
+    behind = λ last v edge is. above_behind number is.number last v edge is.is (omega (arith, above, is.from));
+    fits = fits;
+    few = omega (arith, above, fits);
+  }
+
+  pub below_edge : greatest_in s < number → number < 2 ^ 64 → AreBehind number true lo hi s
+  below_edge below small = record {
+    inside = in_both;
+    behind = λ last v edge is. below_behind number is.number last v edge is.is (omega (arith, below, is.to));
+    fits = fits;
+    few = omega (arith, below, small);
+  }
+
+module _ (number : ℕ) (reverse : Bool) (lo hi : Option (List ℕ)) (s : Span) (are : AreBehind number reverse lo hi s) where
+  -- all of its values lie in the range
+  among_all : (es : SlotValues) → AreAmong s es → in_range lo hi es ≡ es
+  among_all [] among = refl
+  among_all (e ∷ es) among = in_range-here lo hi e es (are.inside e.1 among.0) ∙ ap (λ (r : SlotValues). e ∷ r) (among_all es among.1)
+
+  among_comes : (last : List ℕ) (es : SlotValues) → IsNumber number last → AreAmong s es → AllByRecursion (λ e. is_behind reverse last e.1 ≡ true) es
+  among_comes last [] edge among = tt
+  among_comes last (e ∷ es) edge among = (are.behind last e.1 edge among.0, among_comes last es edge among.1)
+
+  among_skips : (last : List ℕ) (es : SlotValues) → IsNumber number last → AreAmong s es → Skips reverse last (length es) (in_range lo hi es) []
+  among_skips last es edge among =
+      subst (λ (r : SlotValues). Skips reverse last (length es) r []) (sym (among_all es among))
+      (record { passed = es; is = sym (append-nil es); counted = refl; behind = among_comes last es edge among })
+
+  -- the front of the next piece is behind so many of them
+  skips_piece : (last : List ℕ) (runs : SlotRuns) (i read passed : ℕ) → IsNumber number last → i < length runs → IsPlace runs i read passed → AreAmong s (drop read (get_or runs i []))
+      → Skips reverse last (length (get_or runs i []) - read) (in_range lo hi (drop passed (flat runs))) (in_range lo hi (drop (passed + (length (get_or runs i []) - read)) (flat runs)))
+  skips_piece last runs i read passed edge lt at among =
+      let run : SlotValues = get_or runs i [] in
+      let count : length (drop read run) ≡ length run - read = length-drop read run in
+      let end : IsPlace runs i (length run) (passed + (length run - read)) = place_on runs i read passed (length run) at at.within (omega arith) in
+      let none : [] ≡ in_range lo hi (drop (length run) run) = sym (ap (in_range lo hi) (drop_all (length run) run (omega arith))) in
+      skips_whole reverse last lo hi runs i read passed (length run) (passed + (length run - read)) (length run - read) lt at end
+      (subst (λ (es : SlotValues). Skips reverse last (length run - read) (in_range lo hi (drop read run)) es) none
+      (subst (λ n. Skips reverse last n (in_range lo hi (drop read run)) []) count (among_skips last (drop read run) edge among)))
+
+  pub skips_next : (last : List ℕ) (runs : SlotRuns) (i read passed next : ℕ) → IsNumber number last → i < length runs → IsPlace runs i read passed → AreAmong s (drop read (get_or runs i []))
+      → next ≡ passed + (length (get_or runs i []) - read) → Skips reverse last (next - passed) (in_range lo hi (drop passed (flat runs))) (in_range lo hi (drop next (flat runs)))
+  skips_next last runs i read passed next edge lt at among e =
+      let count : length (get_or runs i []) - read ≡ next - passed = omega (arith, e) in
+      subst (λ n. Skips reverse last n (in_range lo hi (drop passed (flat runs))) (in_range lo hi (drop next (flat runs)))) count
+      (subst (λ p. Skips reverse last (length (get_or runs i []) - read) (in_range lo hi (drop passed (flat runs))) (in_range lo hi (drop p (flat runs)))) (sym e)
+      (skips_piece last runs i read passed edge lt at among))
 
 -- one entry counts as one at the most
 pub at_most_one : (b : Bool) (n : ℕ) → n ≡ (if b then 1 else 0) → n ≤ 1

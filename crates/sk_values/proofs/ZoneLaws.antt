@@ -9,11 +9,13 @@ use Rattle.sk_sorted.proofs.EntryLaws.{RiseAbove-lower, RiseAbove-drop, LieBelow
 use Rattle.sk_sorted.specs.Runs.{flat}
 use Rattle.sk_sorted.proofs.RunLaws.{below-top}
 use Rattle.sk_model.specs.Ranges.{is_within}
-use Rattle.sk_values.specs.Numbers.{IsNumber, IsLeast, IsGreatest}
+use Rattle.sk_values.specs.Numbers.{IsNumber, IsBetween, IsLeast, IsGreatest}
 use Rattle.sk_values.specs.SlotValues.{SlotValues, SlotRuns, value_at_place}
 use Rattle.sk_values.specs.RangeCursor.{in_range}
 use Rattle.sk_values.specs.declared.zones.Zone.{Zone}
-use Rattle.sk_values.specs.Zones.{zone_of, zone_at, meets, TellsOf, IsWider, AreWider, IsToldAt, AreZoned}
+use Rattle.sk_values.specs.declared.span.Span.{Span}
+use Rattle.sk_values.specs.Behind.{greatest_in}
+use Rattle.sk_values.specs.Zones.{zone_of, zone_at, meets, lies_in, TellsOf, IsWider, AreWider, IsToldAt, AreZoned, IsPart, AreAmong}
 use Rattle.sk_values.proofs.NumberLaws.{both_decide}
 use Rattle.sk_values.proofs.RangeLaws.{in_range-not}
 use Rattle.sk_values.proofs.ValueLaws.{drop-entry, entry_read}
@@ -21,17 +23,32 @@ use Rattle.sk_values.proofs.ValueLaws.{drop-entry, entry_read}
 -- ---- one value
 
 pub tells_number : (n : ℕ) (v : List ℕ) (z : Zone) → IsNumber n v → z.least ≤ n → n ≤ z.greatest → TellsOf v z
-tells_number n v z is from to lo hi least greatest small low high inside =
-    let both : (nat_le least n && nat_le n greatest) ≡ true = both_decide lo hi least greatest n v low high is ∙ inside in
-    grind (arith, nat_tests, both, from, to)
-
-pub tells_any : (v : List ℕ) (z : Zone) → z.least ≤ 0 → 2 ^ 64 - 1 ≤ z.greatest → TellsOf v z
-tells_any v z from to lo hi least greatest small low high inside = grind (arith, nat_tests, small, from, to)
+tells_number n v z is from to = inl (record { number = n; is = is; from = from; to = to })
 
 tells_wider : (v : List ℕ) (old new : Zone) → IsWider old new → TellsOf v old → TellsOf v new
-tells_wider v old new wider tells lo hi least greatest small low high inside =
-    let was : meets old least greatest ≡ true = tells lo hi least greatest small low high inside in
-    grind (arith, nat_tests, was, wider.from, wider.to)
+tells_wider v old new wider tells = elim tells [
+  | inl is ↦ inl (record { number = is.number; is = is.is; from = omega (arith, is.from, wider.from); to = omega (arith, is.to, wider.to) })
+  | inr all ↦ inr (record { from = omega (arith, all.from, wider.from); to = omega (arith, all.to, wider.to) })
+]
+
+-- a range that has a value meets each zone that tells of it
+told_meets : (v : List ℕ) (z : Zone) (lo hi : Option (List ℕ)) (least greatest : ℕ) → least < 2 ^ 64 → IsLeast lo least → IsGreatest hi greatest → TellsOf v z → is_within lo hi v ≡ true → meets z least greatest ≡ true
+told_meets v z lo hi least greatest small low high tells inside = elim tells [
+  | inl is ↦
+      let both : (nat_le least is.number && nat_le is.number greatest) ≡ true = both_decide lo hi least greatest is.number v low high is.is ∙ inside in
+      grind (arith, nat_tests, both, is.from, is.to)
+  | inr all ↦ grind (arith, nat_tests, small, all.from, all.to)
+]
+
+-- a value of which a zone in a span tells is a number of the span, where that has not all numbers
+told_among : (v : List ℕ) (z : Zone) (s : Span) → s.width < 2 ^ 64 - 1 → TellsOf v z → lies_in s z ≡ true → IsBetween s.least (greatest_in s) v
+told_among v z s few tells inside =
+    let from : s.least ≤ z.least = grind (arith, nat_tests, inside) in
+    let to : z.greatest ≤ greatest_in s = grind (arith, nat_tests, inside) in
+    elim tells [
+      | inl is ↦ record { number = is.number; is = is.is; from = omega (arith, from, is.from); to = omega (arith, to, is.to) }
+      | inr all ↦ absurd (omega (arith, from, to, all.from, all.to, few))
+    ]
 
 told_wider : (old new : List Zone) (id : ℕ) (v : List ℕ) → AreWider old new → IsToldAt old id v → IsToldAt new id v
 told_wider old new id v are told = record {
@@ -112,7 +129,7 @@ module _ (lo hi : Option (List ℕ)) (least greatest : ℕ) (small : least < 2 ^
   outside id v told miss = by (is_within lo hi v) refl
     where
       by : (b : Bool) → is_within lo hi v ≡ b → is_within lo hi v ≡ false
-      by true e = absurd (true≢false (sym (told.tells lo hi least greatest small low high e) ∙ miss))
+      by true e = absurd (true≢false (sym (told_meets v (zone_at zones (zone_of id)) lo hi least greatest small low high told.tells e) ∙ miss))
       by false e = e
 
   none_in : (first last : ℕ) (es : SlotValues) → RiseAbove (first - 1) es → LieBelow (last + 1) es → AreZoned zones es → AllMiss zones first last least greatest → in_range lo hi es ≡ []
@@ -120,6 +137,18 @@ module _ (lo hi : Option (List ℕ)) (least greatest : ℕ) (small : least < 2 ^
   none_in first last (e ∷ es) up below are miss =
       in_range-not lo hi e es (outside e.0 e.1 are.0 (miss (zone_of e.0) (zones_rise first e.0 (omega (arith, up.0))) (zones_rise e.0 last (omega (arith, below.0)))))
       ∙ none_in first last es (RiseAbove-lower (first - 1) e.0 es (omega (arith, up.0)) up.1) below.1 are.1 miss
+
+-- these zones lie in a span
+abbrev AllLieIn : List Zone → ℕ → ℕ → Span → Type 0
+AllLieIn zones first last s = (k : ℕ) → zone_of first ≤ k → k ≤ zone_of last → lies_in s (zone_at zones k) ≡ true
+
+module _ (s : Span) (few : s.width < 2 ^ 64 - 1) (zones : List Zone) where
+  all_among : (first last : ℕ) (es : SlotValues) → RiseAbove (first - 1) es → LieBelow (last + 1) es → AreZoned zones es → AllLieIn zones first last s → AreAmong s es
+  all_among first last [] up below are inside = tt
+  all_among first last (e ∷ es) up below are inside = (
+    told_among e.1 (zone_at zones (zone_of e.0)) s few are.0.tells (inside (zone_of e.0) (zones_rise first e.0 (omega (arith, up.0))) (zones_rise e.0 last (omega (arith, below.0)))),
+    all_among first last es (RiseAbove-lower (first - 1) e.0 es (omega (arith, up.0)) up.1) below.1 are.1 inside,
+  )
 
 module _ (es : SlotValues) (place : ℕ) (sound : AreSorted es) (less : place < length es) where
   -- what is read at the place has its id
@@ -147,13 +176,22 @@ module _ (es : SlotValues) (place : ℕ) (sound : AreSorted es) (less : place < 
   none_behind lo hi least greatest small low high zones are miss =
       none_in lo hi least greatest small low high zones (id_at es place) (top_id 0 es) (drop place es) from_first to_last (zoned_drop zones place es are) miss
 
--- a part of the zones has those from its first one on
-pub part_misses : (zones : List Zone) (from to n least greatest : ℕ) → to < from + n → to < length zones
-    → ((k : ℕ) → k < length (take n (drop from zones)) → meets (zone_at (take n (drop from zones)) k) least greatest ≡ false)
-    → (k : ℕ) → from ≤ k → k ≤ to → meets (zone_at zones k) least greatest ≡ false
-part_misses zones from to n least greatest reach there miss k onward within =
-    let d : Zone = record { least = 0; greatest = 0 } in
-    let inside : k - from < length (take n (drop from zones)) = omega (arith, length-take n (drop from zones), length-drop from zones, reach, there, onward, within) in
-    let same : zone_at (take n (drop from zones)) (k - from) ≡ zone_at zones k
-    = get_or-take n (drop from zones) (k - from) d (omega (arith, reach, onward, within)) ∙ get_or-drop from zones (k - from) d ∙ ap (zone_at zones) (omega (arith, onward)) in
-    ap (λ (z : Zone). meets z least greatest) (sym same) ∙ miss (k - from) inside
+  -- where they lie in a span, all values do
+  pub among_behind : (s : Span) → s.width < 2 ^ 64 - 1 → (zones : List Zone) → AreZoned zones es → AllLieIn zones (id_at es place) (top_id 0 es) s → AreAmong s (drop place es)
+  among_behind s few zones are inside = all_among s few zones (id_at es place) (top_id 0 es) (drop place es) from_first to_last (zoned_drop zones place es are) inside
+
+-- a slice of the zones has those from its first one on
+pub slice_part : (zones : List Zone) (from to : ℕ) → from ≤ to → to < length zones → IsPart zones (take (to + 1 - from) (drop from zones)) from to
+slice_part zones from to order there k onward within =
+    let d : Zone = record { least = 0; greatest = 0 } in (
+      omega (arith, length-take (to + 1 - from) (drop from zones), length-drop from zones, order, there, onward, within),
+      get_or-take (to + 1 - from) (drop from zones) (k - from) d (omega (arith, onward, within)) ∙ get_or-drop from zones (k - from) d ∙ ap (zone_at zones) (omega (arith, onward)),
+    )
+
+-- what holds of all of a part holds of those from the one place to the other
+module _ (zones part : List Zone) (from to : ℕ) (has : IsPart zones part from to) where
+  pub part_misses : (least greatest : ℕ) → ((k : ℕ) → k < length part → meets (zone_at part k) least greatest ≡ false) → (k : ℕ) → from ≤ k → k ≤ to → meets (zone_at zones k) least greatest ≡ false
+  part_misses least greatest miss k onward within = let is = has k onward within in ap (λ (z : Zone). meets z least greatest) (sym is.1) ∙ miss (k - from) is.0
+
+  pub part_lies_in : (s : Span) → ((k : ℕ) → k < length part → lies_in s (zone_at part k) ≡ true) → (k : ℕ) → from ≤ k → k ≤ to → lies_in s (zone_at zones k) ≡ true
+  part_lies_in s inside k onward within = let is = has k onward within in ap (lies_in s) (sym is.1) ∙ inside (k - from) is.0

@@ -1,10 +1,11 @@
 -- What a cursor passes over that wants no value behind one.
-use Rattle.std.specs.Prelude.{◌≡◌, ◌<◌, ◌≤◌, ◌+◌, ◌^◌, ◌&&◌, ◌∷◌, ◌++◌, ℕ, nat_le, Bool, true, false, not, List, length, Option, if◌then◌else◌}
+use Rattle.std.specs.Prelude.{◌≡◌, ◌<◌, ◌≤◌, ◌+◌, ◌-◌, ◌^◌, ◌&&◌, ◌∷◌, ◌++◌, ℕ, nat_le, Bool, true, false, not, List, length, Option, if◌then◌else◌}
 use Rattle.std.specs.List.{AllByRecursion}
 use Rattle.std.specs.Ordering.{nat_cmp, is_le}
 use Rattle.std.specs.Cmp.Lexicographic.{slice_cmp}
 use Rattle.sk_values.specs.SlotValues.{SlotValues}
-use Rattle.sk_values.specs.Numbers.{IsLeast, IsGreatest}
+use Rattle.sk_model.specs.Ranges.{is_within}
+use Rattle.sk_values.specs.Numbers.{IsNumber, IsBetween, IsLeast, IsGreatest}
 use Rattle.sk_values.specs.declared.span.Span.{Span}
 use Rattle.sk_values.specs.declared.edge.Spans.{Spans}
 
@@ -43,3 +44,10 @@ pub record AreSpans (number : ℕ) (reverse : Bool) (lo hi : Option (List ℕ)) 
   pub to : greatest_in s.wanted ≤ greatest_in s.range
   pub below : (n : ℕ) → s.range.least ≤ n → n < s.wanted.least → (reverse ≡ true) × (n < number)
   pub above : (n : ℕ) → n ≤ greatest_in s.range → greatest_in s.wanted < n → (reverse ≡ false) × (number < n)
+
+-- The span has numbers that lie in the range and come behind the edge. So it has not all numbers.
+pub record AreBehind (number : ℕ) (reverse : Bool) (lo hi : Option (List ℕ)) (s : Span) : Type 0 where
+  pub inside : (v : List ℕ) → IsBetween s.least (greatest_in s) v → is_within lo hi v ≡ true
+  pub behind : (last v : List ℕ) → IsNumber number last → IsBetween s.least (greatest_in s) v → is_behind reverse last v ≡ true
+  pub fits : greatest_in s < 2 ^ 64
+  pub few : s.width < 2 ^ 64 - 1

@@ -1,5 +1,5 @@
 -- Numbers in place of strings of eight bytes, in a range between two ends.
-use Rattle.std.specs.Prelude.{◌≡◌, ◌<◌, ◌^◌, ℕ, nat_le, List, length, get_or, Option}
+use Rattle.std.specs.Prelude.{◌≡◌, ◌<◌, ◌≤◌, ◌^◌, ℕ, nat_le, List, length, get_or, Option}
 use Rattle.std.specs.Slice.Scan.{big_endian}
 use Rattle.sk_model.specs.Ranges.{is_from, is_to}
 
@@ -14,6 +14,13 @@ pub record IsNumber (n : ℕ) (v : List ℕ) : Type 0 where
   pub bytes : (k : ℕ) → get_or v k 0 < 256
   pub spells : n ≡ big_endian 0 v
   pub fits : n < 2 ^ 64
+
+-- The value is a number, and lies between two.
+pub record IsBetween (least greatest : ℕ) (v : List ℕ) : Type 0 where
+  pub number : ℕ
+  pub is : IsNumber number v
+  pub from : least ≤ number
+  pub to : number ≤ greatest
 
 -- Not below this end are the numbers from the least on.
 abbrev pub IsLeast : Option (List ℕ) → ℕ → Type 0

@@ -1,10 +1,11 @@
 -- Zones of ids, and what each tells of the values there.
-use Rattle.std.specs.Prelude.{◌≡◌, ◌≤◌, ◌<◌, ◌-◌, ◌/◌, ◌^◌, ◌&&◌, ℕ, nat_le, Bool, true, List, length, get_or, Option}
+use Rattle.std.specs.Prelude.{◌≡◌, ◌≤◌, ◌<◌, ◌-◌, ◌/◌, ◌^◌, ◌&&◌, ◌⊎◌, ℕ, nat_le, Bool, List, length, get_or}
 use Rattle.std.specs.List.{AllByRecursion}
-use Rattle.sk_model.specs.Ranges.{is_within}
-use Rattle.sk_values.specs.Numbers.{IsLeast, IsGreatest}
+use Rattle.sk_values.specs.Numbers.{IsBetween}
 use Rattle.sk_values.specs.SlotValues.{SlotValues}
+use Rattle.sk_values.specs.declared.span.Span.{Span}
 use Rattle.sk_values.specs.declared.zones.Zone.{Zone}
+use Rattle.sk_values.specs.Behind.{in_span, greatest_in}
 
 -- The place of the zone in which an id lies: 128 ids lie in each, the first from 1 on.
 abbrev pub zone_of : ℕ → ℕ
@@ -18,9 +19,18 @@ zone_at zones k = get_or zones k (record { least = 0; greatest = 0 })
 abbrev pub meets : Zone → ℕ → ℕ → Bool
 meets z least greatest = nat_le least z.greatest && nat_le z.least greatest
 
--- The zone tells of a value: a range that the value lies in, and whose ends are open or numbers, meets the zone.
+-- Whether both ends of the zone lie in a span of numbers, and so all of its numbers.
+abbrev pub lies_in : Span → Zone → Bool
+lies_in s z = in_span s z.least && in_span s z.greatest
+
+-- The zone has all numbers.
+pub record HasAll (z : Zone) : Type 0 where
+  pub from : z.least ≡ 0
+  pub to : 2 ^ 64 - 1 ≤ z.greatest
+
+-- The zone tells of a value: the value is one of its numbers, or it has all numbers.
 abbrev pub TellsOf : List ℕ → Zone → Type 0
-TellsOf v z = (lo hi : Option (List ℕ)) (least greatest : ℕ) → least < 2 ^ 64 → IsLeast lo least → IsGreatest hi greatest → is_within lo hi v ≡ true → meets z least greatest ≡ true
+TellsOf v z = IsBetween z.least z.greatest v ⊎ HasAll z
 
 -- The one zone has all numbers that the other has.
 pub record IsWider (old new : Zone) : Type 0 where
@@ -40,3 +50,11 @@ pub record IsToldAt (zones : List Zone) (id : ℕ) (v : List ℕ) : Type 0 where
 -- Each entry's value is told of by the zone of its id.
 abbrev pub AreZoned : List Zone → SlotValues → Type 0
 AreZoned zones es = AllByRecursion (λ e. IsToldAt zones e.0 e.1) es
+
+-- A part of the zones has those from one place to another, in its own places.
+abbrev pub IsPart : List Zone → List Zone → ℕ → ℕ → Type 0
+IsPart zones part from to = (k : ℕ) → from ≤ k → k ≤ to → (k - from < length part) × (zone_at part (k - from) ≡ zone_at zones k)
+
+-- Each value is a number of the span.
+abbrev pub AreAmong : Span → SlotValues → Type 0
+AreAmong s es = AllByRecursion (λ e. IsBetween s.least (greatest_in s) e.1) es

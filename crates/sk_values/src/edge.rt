@@ -1,7 +1,7 @@
 //! The last number that is wanted in an order of values.
 ghost use Rattle.std.specs.Prelude.{◌≡◌, ◌≢◌, ℕ, List, length, true, false, IfSome, IfNone};
 ghost use Rattle.sk_model.specs.Ranges.{is_within};
-ghost use Rattle.sk_values.specs.Behind.{is_behind, AreSpans};
+ghost use Rattle.sk_values.specs.Behind.{is_behind, AreSpans, AreBehind};
 ghost use Rattle.sk_values.specs.Numbers.{IsNumber};
 
 use crate::bounds::Bounds;
@@ -47,6 +47,7 @@ impl Edge {
             None => false,
         }
     }
+
     /// None where an end of the range is neither open nor a number, or all numbers in it come behind the edge.
     pub fn spans(&self, bounds: &Bounds) -> Option<Spans>
         ensures { IfSome result (λ s. AreSpans self.now.number self.now.reverse bounds.now.lo bounds.now.hi s) }
@@ -59,6 +60,19 @@ impl Edge {
             Span::new(least, greatest.min(self.number))?
         };
         Some(Spans { range, wanted })
+    }
+
+    /// The numbers in the range that come behind it. None where there is none, or an end of the range is neither open nor a
+    /// number.
+    pub fn behind(&self, bounds: &Bounds) -> Option<Span>
+        ensures { IfSome result (λ s. AreBehind self.now.number self.now.reverse bounds.now.lo bounds.now.hi s) }
+    {
+        let (least, greatest) = bounds.numbers()?;
+        if self.reverse {
+            Span::new(least, greatest.min(self.number.checked_sub(1)?))
+        } else {
+            Span::new(least.max(self.number.checked_add(1)?), greatest)
+        }
     }
 }
 

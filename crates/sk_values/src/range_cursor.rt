@@ -1,16 +1,19 @@
 //! A place in a slot's list, which only moves on, and stops only at values in a range.
-ghost use Rattle.std.specs.Prelude.{◌≡◌, ◌≢◌, ◌+◌, ◌≤◌, ◌<◌, ◌⊎◌, [], ℕ, List, true, length, drop, IfSome, IfNone};
+ghost use Rattle.std.specs.Prelude.{◌≡◌, ◌≢◌, ◌+◌, ◌-◌, ◌≤◌, ◌<◌, ◌^◌, ◌⊎◌, [], ℕ, List, true, length, drop, get_or, Some, IfSome, IfNone};
 ghost use Rattle.sk_sorted.specs.Entries.{from, first_id};
 ghost use Rattle.sk_sorted.specs.Places.{id_at};
 ghost use Rattle.sk_sorted.specs.Runs.{flat};
 ghost use Rattle.sk_values.specs.SlotValues.{SlotRuns, value_at_place};
 ghost use Rattle.sk_values.specs.Numbers.{IsNumber};
-ghost use Rattle.sk_values.specs.Behind.{Skips, SkipsOn};
+ghost use Rattle.sk_values.specs.Behind.{Skips, SkipsOn, greatest_in};
+ghost use Rattle.sk_values.specs.Zones.{AreAmong};
+ghost use Rattle.sk_values.specs.declared.span.Span.{Span};
 ghost use Rattle.sk_values.specs.RangeCursor.{in_range, unread, readings, ahead, left, IsEndOf, IsHeadAt, IsPlaceIn, IsOn, is_head_below};
 
 use crate::SlotList;
 use crate::bounds::Bounds;
 use crate::edge::{Edge, sift};
+use crate::span::Span;
 use crate::value::Value;
 use sk_base::{Bytes, DocId};
 use sk_pieces::Piece;
@@ -208,13 +211,44 @@ fn pass_outside(list: &SlotList, place: Place, met: Option<usize>, bounds: &Boun
     if met == Some(place.piece) || !list.lies_outside(place.piece, place.read, bounds) {
         return None;
     }
+    Some(next_front(list, place))
+}
+
+/// Where the zones tell that all values of the rest of a place's piece lie between the ends and come behind the edge, the front
+/// of the next piece. The span has such numbers.
+fn pass_behind(list: &SlotList, place: Place, span: &Option<Span>) -> Option<Place>
+    requires at { IsPlaceIn place list.now }
+    requires there { place.piece < length list.now }
+    requires span { IfSome span.now (λ s. (greatest_in s < 2 ^ 64) × (s.width < 2 ^ 64 - 1)) }
+    ensures at { IfSome result (λ next. IsPlaceIn next list.now) }
+    ensures next { IfSome result (λ next. next.piece ≡ place.piece + 1) }
+    ensures among { IfSome result (λ next. (s : Span) × (span.now ≡ Some s) × AreAmong s (drop place.read (get_or list.now place.piece []))) }
+    ensures behind { IfSome result (λ next. next.passed ≡ place.passed + (length (get_or list.now place.piece []) - place.read)) }
+    ensures unread { IfSome result (λ next. next.readings ≡ place.readings) }
+{
+    let span = span.as_ref()?;
+    if !list.lies_among(place.piece, place.read, span) {
+        return None;
+    }
+    Some(next_front(list, place))
+}
+
+/// The front of the next piece.
+fn next_front(list: &SlotList, place: Place) -> Place
+    requires at { IsPlaceIn place list.now }
+    requires there { place.piece < length list.now }
+    ensures at { IsPlaceIn result list.now }
+    ensures next { result.piece ≡ place.piece + 1 }
+    ensures behind { result.passed ≡ place.passed + (length (get_or list.now place.piece []) - place.read) }
+    ensures unread { result.readings ≡ place.readings }
+{
     let count = list.pieces()[place.piece].count();
-    Some(Place {
+    Place {
         piece: place.piece + 1,
         read: 0,
         passed: place.passed + (count - place.read),
         readings: place.readings,
-    })
+    }
 }
 
 /// Goes on from a place to the first value between the ends, and gives the place behind it with its id, or the end. Pieces in
@@ -284,8 +318,9 @@ fn stop_in<L: Ledger>(
     (end, None)
 }
 
-/// Reads on from a place to the first value between the ends that is not told to come behind the edge, and gives the place
-/// behind it with its id, or the end; and how many values between the ends were passed over.
+/// Goes on from a place to the first value between the ends that is not told to come behind the edge, and gives the place
+/// behind it with its id, or the end; and how many values between the ends were passed over. Pieces of which the zones tell
+/// that it cannot stand there are passed over unread.
 fn skip_from<L: Ledger>(
     list: &SlotList,
     start: Place,
@@ -310,8 +345,14 @@ fn skip_from<L: Ledger>(
     let pieces = list.pieces();
     let mut place = start;
     let mut count = 0u32;
+    let behind = edge.behind(bounds);
     'pieces: while place.piece < pieces.len() {
         if let Some(next) = pass_outside(list, place, met, bounds) {
+            place = next;
+            continue;
+        }
+        if let Some(next) = pass_behind(list, place, &behind) {
+            count += next.passed - place.passed;
             place = next;
             continue;
         }

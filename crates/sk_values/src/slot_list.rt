@@ -1,16 +1,19 @@
 //! The values of one slot, in order of the documents' ids, in pieces.
-ghost use Rattle.std.specs.Prelude.{◌≡◌, ◌+◌, ◌≤◌, ◌<◌, [], length, drop, get_or, true, IfOk, IsOk, OnOk, OnErr};
+ghost use Rattle.std.specs.Prelude.{◌≡◌, ◌+◌, ◌-◌, ◌≤◌, ◌<◌, ◌^◌, [], length, drop, get_or, true, IfOk, IsOk, OnOk, OnErr};
 ghost use Rattle.std.specs.Option.{option_map};
 ghost use Rattle.sk_sorted.specs.Entries.{put, without, found, has};
 ghost use Rattle.sk_sorted.specs.Places.{id_at};
 ghost use Rattle.sk_sorted.specs.Runs.{flat, AreRuns, IsPlace};
 ghost use Rattle.sk_values.specs.SlotValues.{AreSlotValues, found_value, value_at_place};
 ghost use Rattle.sk_values.specs.RangeCursor.{in_range};
+ghost use Rattle.sk_values.specs.Behind.{greatest_in};
+ghost use Rattle.sk_values.specs.Zones.{AreAmong};
 
 use crate::bounds::Bounds;
 use crate::range_cursor::entry;
+use crate::span::Span;
 use crate::value::Value;
-use crate::zones::{Zone, lie_outside, widen};
+use crate::zones::{Zone, lie_among, lie_outside, widen};
 use sk_base::DocId;
 use sk_pieces::{Copier, Piece, Pieces};
 use sk_steps::Steps;
@@ -129,6 +132,17 @@ impl SlotList {
         ensures { result ≡ true → in_range bounds.now.lo bounds.now.hi (drop place (get_or self.now at [])) ≡ [] }
     {
         lie_outside(&self.zones, &self.entries.pieces()[at], place, bounds)
+    }
+
+    /// Whether they tell that of the piece at the place each value from an entry on is a number of the span. It reads none.
+    pub(crate) fn lies_among(&self, at: usize, place: u32, span: &Span) -> bool
+        requires there { at < length self.now }
+        requires within { place ≤ length (get_or self.now at []) }
+        requires fits { greatest_in span.now < 2 ^ 64 }
+        requires few { span.now.width < 2 ^ 64 - 1 }
+        ensures { result ≡ true → AreAmong span.now (drop place (get_or self.now at [])) }
+    {
+        lie_among(&self.zones, &self.entries.pieces()[at], place, span)
     }
 }
 

@@ -1,11 +1,14 @@
 //! What the values of some ids in a row have in common: zones, by which a cursor passes over values unread.
-ghost use Rattle.std.specs.Prelude.{◌≡◌, ◌≤◌, ◌<◌, ℕ, List, Option, [], true, false, not, length, drop, IsOk, OnOk};
+ghost use Rattle.std.specs.Prelude.{◌≡◌, ◌≤◌, ◌<◌, ◌-◌, ◌^◌, ℕ, List, Option, [], true, false, not, length, drop, IfSome, IsOk, OnOk};
+ghost use Rattle.sk_sorted.specs.Entries.{top_id};
 ghost use Rattle.sk_values.specs.Numbers.{IsLeast, IsGreatest};
 ghost use Rattle.sk_values.specs.RangeCursor.{in_range};
 ghost use Rattle.sk_values.specs.declared.zones.Zone.{Zone};
-ghost use Rattle.sk_values.specs.Zones.{zone_of, zone_at, meets, TellsOf, IsWider, AreWider, IsToldAt, AreZoned};
+ghost use Rattle.sk_values.specs.Behind.{greatest_in};
+ghost use Rattle.sk_values.specs.Zones.{zone_of, zone_at, meets, lies_in, TellsOf, IsWider, AreWider, IsToldAt, AreZoned, IsPart, AreAmong};
 
 use crate::bounds::Bounds;
+use crate::span::Span;
 use crate::value::Value;
 use sk_base::DocId;
 use sk_pieces::Piece;
@@ -47,6 +50,14 @@ impl Zone {
         ensures { result ≡ not (meets self.now least greatest) }
     {
         self.greatest < least || greatest < self.least
+    }
+
+    /// Whether each of its numbers is one of the span.
+    fn lies_in(&self, span: &Span) -> bool
+        requires { greatest_in span.now < 2 ^ 64 }
+        ensures { result ≡ lies_in span.now self.now }
+    {
+        span.has(self.least) && span.has(self.greatest)
     }
 }
 
@@ -106,11 +117,43 @@ fn lie_apart(zones: &[Zone], piece: &Piece<Value>, place: u32, least: u64, great
     if !misses_at(zones, from, least, greatest) {
         return false;
     }
-    let to = zone_of(piece.last());
-    if to - from >= MOST_ZONES {
+    match zones_from(zones, from, piece) {
+        Some(zones) => all_miss(zones, least, greatest),
+        None => false,
+    }
+}
+
+/// Whether the zones tell that each value of a piece from a place on is a number of the span.
+pub(crate) fn lie_among(zones: &[Zone], piece: &Piece<Value>, place: u32, span: &Span) -> bool
+    requires within { place ≤ length piece.now }
+    requires zoned { AreZoned zones.now piece.now }
+    requires fits { greatest_in span.now < 2 ^ 64 }
+    requires few { span.now.width < 2 ^ 64 - 1 }
+    ensures { result ≡ true → AreAmong span.now (drop place piece.now) }
+{
+    let Some(first) = piece.as_slice().get(place as usize) else {
+        return true;
+    };
+    let from = zone_of(first.0);
+    if !lies_at(zones, from, span) {
         return false;
     }
-    all_miss(&zones[from..=to], least, greatest)
+    match zones_from(zones, from, piece) {
+        Some(zones) => all_lie_in(zones, span),
+        None => false,
+    }
+}
+
+/// The zones from a place on to that of a piece's last id; none where these are many.
+fn zones_from<'a>(zones: &'a [Zone], from: usize, piece: &Piece<Value>) -> Option<&'a [Zone]>
+    requires { from ≤ zone_of (top_id 0 piece.now) }
+    ensures { IfSome result (λ part. IsPart zones.now part.now from (zone_of (top_id 0 piece.now))) }
+{
+    let to = zone_of(piece.last());
+    if to - from >= MOST_ZONES {
+        return None;
+    }
+    zones.get(from..to + 1)
 }
 
 /// Whether the zone at a place has none of these numbers. Mostly it has some, and then no other zone is asked.
@@ -123,9 +166,27 @@ fn misses_at(zones: &[Zone], at: usize, least: u64, greatest: u64) -> bool
     }
 }
 
+/// Whether the zone at a place lies in the span. Mostly it does not, and then no other zone is asked.
+fn lies_at(zones: &[Zone], at: usize, span: &Span) -> bool
+    requires { greatest_in span.now < 2 ^ 64 }
+{
+    match zones.get(at) {
+        Some(zone) => zone.lies_in(span),
+        None => false,
+    }
+}
+
 /// Whether none of these numbers is one of the zones'.
 fn all_miss(zones: &[Zone], least: u64, greatest: u64) -> bool
     ensures { result ≡ true → (k : ℕ) → k < length zones.now → meets (zone_at zones.now k) least greatest ≡ false }
 {
     zones.iter().all(|zone| zone.misses(least, greatest))
+}
+
+/// Whether each of the zones lies in the span.
+fn all_lie_in(zones: &[Zone], span: &Span) -> bool
+    requires { greatest_in span.now < 2 ^ 64 }
+    ensures { result ≡ true → (k : ℕ) → k < length zones.now → lies_in span.now (zone_at zones.now k) ≡ true }
+{
+    zones.iter().all(|zone| zone.lies_in(span))
 }
