@@ -1,5 +1,6 @@
-// The lines that bench/xapian_finds.py makes, over Xapian's in-memory database: documents with a body and perhaps a year, finds
-// whose texts its own query parser reads, and synonyms. A term weighs its wdf. Usage: xapian_finds < LINES
+// The lines that bench/xapian_finds.py makes, over Xapian's in-memory database: documents with a body and perhaps a year,
+// finds whose texts its own query parser reads, also in the order of the year, and synonyms. A term weighs its wdf.
+// Usage: xapian_finds < LINES
 #include <xapian.h>
 #include <charconv>
 #include <cstdio>
@@ -113,10 +114,13 @@ struct Finds {
         out += '\n';
     }
 
-    void find(const Xapian::Query &query)
+    void find(const Xapian::Query &query, const string &line)
     {
         Xapian::Enquire enquire(db);
         enquire.set_weighting_scheme(Xapian::TfIdfWeight("nnn"));
+        const size_t reverse = value_of(line, "reverse");
+        if (reverse < line.size())
+            enquire.set_sort_by_value(YEAR, line[reverse + 1] == 't');
         enquire.set_query(query);
         put_page(enquire.get_mset(0, 10));
     }
@@ -127,12 +131,12 @@ struct Finds {
         if (begins(line, "{\"add\""))
             add(line);
         else if (begins(line, "{\"find\""))
-            find(parser.parse_query(next_string(line, here), FLAGS));
+            find(parser.parse_query(next_string(line, here), FLAGS), line);
         else if (begins(line, "{\"tree\": {\"synonym\"")) {
             vector<string> words;
             for (here = line.find('['); line.find('"', here) != string::npos;)
                 words.push_back(next_string(line, here));
-            find(Xapian::Query(Xapian::Query::OP_SYNONYM, words.begin(), words.end()));
+            find(Xapian::Query(Xapian::Query::OP_SYNONYM, words.begin(), words.end()), line);
         } else if (begins(line, "{\"schema\""))
             out += "ok schema\n";
         else

@@ -60,6 +60,12 @@ def years(picks, width):
     return f"year:{first}..{first + width - 1}"
 
 
+def in_order(picks, newest):
+    """Finds of half of all, in the order of the year."""
+    order = {"order": "value", "by": "year", "reverse": newest}
+    return [{"find": years(picks, YEARS // 2), **order} for _ in range(FINDS)]
+
+
 def asked(picks):
     """Of each class: its name and its finds."""
     for name, count, most, text in CLASSES:
@@ -72,6 +78,7 @@ def asked(picks):
         yield f"range, {name}", [{"find": years(picks, width)} for _ in range(FINDS)]
         within = [(words(picks, 1, 2_000)[0], years(picks, width)) for _ in range(FINDS)]
         yield f"range, {name}, and a word", [{"find": " ".join(both)} for both in within]
+    yield "range, half, newest first", in_order(picks, True)
 
 
 def asked_by_year():
@@ -81,6 +88,8 @@ def asked_by_year():
         yield f"by year: {name}", [{"find": years(picks, width)} for _ in range(FINDS)]
     within = [(words(picks, 1, 2_000)[0], years(picks, YEARS // 10)) for _ in range(FINDS)]
     yield "by year: a tenth, a word", [{"find": " ".join(both)} for both in within]
+    yield "by year: half, newest first", in_order(picks, True)
+    yield "by year: half, oldest first", in_order(picks, False)
 
 
 def asked_again():
