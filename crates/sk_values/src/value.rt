@@ -23,7 +23,9 @@ pub struct Value {
 /// box, so that they make no entry longer.
 #[derive(Drop)]
 enum Held {
-    /// The first `length` of `bytes`. The others say nothing.
+    /// Eight bytes, as each number has.
+    Number([u8; SHORT]),
+    /// Fewer: the first `length` of `bytes`. The others say nothing.
     Short { bytes: [u8; SHORT], length: u8 },
     Long(Box<Bytes>),
 }
@@ -51,6 +53,11 @@ impl Value {
                 held: Held::Long(Box::new(alloc, value)?),
             });
         }
+        if let Ok(bytes) = given.try_into() {
+            return Ok(Value {
+                held: Held::Number(bytes),
+            });
+        }
         let mut bytes = [0; SHORT];
         bytes[..given.len()].copy_from_slice(given);
         let length = given.len() as u8;
@@ -64,6 +71,9 @@ impl Value {
         ensures { IfOk result (λ copy. copy ≡ self.now) }
     {
         match &self.held {
+            Held::Number(bytes) => Ok(Value {
+                held: Held::Number(*bytes),
+            }),
             Held::Short { bytes, length } => Ok(Value {
                 held: Held::Short {
                     bytes: *bytes,
@@ -79,6 +89,7 @@ impl Value {
         ensures { result.now ≡ self.now }
     {
         match &self.held {
+            Held::Number(bytes) => bytes,
             Held::Short { bytes, length } => &bytes[..*length as usize],
             Held::Long(bytes) => bytes.as_slice(),
         }
@@ -90,7 +101,7 @@ impl Value {
         ensures { IfSome result (λ n. IsNumber n self.now) }
     {
         match &self.held {
-            Held::Short { bytes, length: 8 } => Some(number(bytes)),
+            Held::Number(bytes) => Some(number(bytes)),
             _ => None,
         }
     }
