@@ -1,5 +1,5 @@
 //! Where a term stands in a document.
-ghost use Rattle.std.specs.Prelude.{◌≡◌, ◌<◌, ◌≤◌, ◌+◌, [], length, bytes_eq, if◌then◌else◌};
+ghost use Rattle.std.specs.Prelude.{◌≡◌, ◌<◌, ◌≤◌, ◌+◌, ◌^◌, [], length, bytes_eq, if◌then◌else◌};
 ghost use Rattle.std.specs.Ordering.{is_lt};
 ghost use Rattle.sk_base.specs.Order.{ArePositions};
 ghost use Rattle.sk_base.specs.Documents.{AreTerms, positions_of};
@@ -18,12 +18,14 @@ use std::sync::ledger::Ledger;
 
 /// Among so many terms one is found sooner by its number than by halves.
 const FEW: usize = 128;
-/// A share of the terms of a document is told in so many parts of all.
+/// A share of the size of a document is told in so many parts of all.
 const WHOLE: usize = 65_536;
-/// So many parts a share moves for each place that the term stands off: among 64 terms an eighth of the way.
-const STEP: u32 = 128;
+/// So many parts a share moves for each place that the term stands off: in a size of 256 an eighth of the way.
+const STEP: u32 = 32;
 
-/// Where a term stands among those of a document, and about what share of them stands before it in most documents.
+/// Where a term stands among those of a document, and about how many stand before it in most documents, as a share of what
+/// numbers the document takes. The size is known before any of these is looked at, so that who guesses by it looks at the
+/// count of terms and at the guessed place at once.
 #[derive(Clone, Copy, Debug)]
 pub struct TermPlace {
     pub at: u32,
@@ -38,12 +40,12 @@ impl TermPlace {
         TermPlace { at: 0, share: 0 }
     }
 
-    /// About where the term stands among so many.
-    fn near(&self, count: usize) -> usize
-        ensures { result ≤ count }
+    /// About where the term stands in a document of few terms and of this size.
+    fn near(&self, size: usize) -> usize
+        ensures { result < 2 ^ 32 }
     {
-        let before = (self.share as usize).saturating_mul(count) / WHOLE;
-        before.min(count)
+        let before = (self.share as usize).saturating_mul(size) / WHOLE;
+        before.min(FEW)
     }
 
     /// The term stands there, and was looked for from that place on.
@@ -113,9 +115,8 @@ pub(crate) fn place_in(
     ensures { positions_at_place packed.now result.at ≡ positions_of (term_at lists.now.terms number) (named_all lists.now.terms packed.now) }
 {
     let term = lists.term(number);
-    let count = packed.len();
-    if count <= FEW {
-        let near = last.near(count);
+    if packed.len() <= FEW {
+        let near = last.near(packed.size());
         last.found(packed.place_of(number, near) as u32, near as u32)
     } else {
         let at = place_by_text(packed, lists, term) as u32;

@@ -119,6 +119,13 @@ impl PackedTerms {
         count(self.words.as_slice())
     }
 
+    /// How many numbers they take, with their positions.
+    pub fn size(&self) -> usize
+        ensures { length self.now ≤ result }
+    {
+        self.words.len()
+    }
+
     /// The number of the i-th term.
     pub fn number(&self, i: usize) -> usize
         requires there { i < length self.now }
@@ -158,6 +165,9 @@ impl PackedTerms {
         ensures found { result < length self.now → (numbered_at self.now result).number ≡ number }
     {
         let count = self.len();
+        if near < count && self.number(near) == number {
+            return near;
+        }
         let mut low = near.min(count);
         let mut high = low;
         'around: while low > 0 || high < count {
